@@ -1,7 +1,7 @@
 // A malloc that refuses requests, loaded before the C library's own (LD_PRELOAD). Where REFUSED is a number, the request with
 // that number is refused, from 1 on, and a byte on the descriptor MARK says so. Where it is `each`, the process splits at every
 // request: a copy of it is refused that one and runs to its end, and what it wrote and its status go to the file MARK; then the
-// process goes on, with the memory. Copies one after another that end alike are told together: a line 'LAST COUNT STATUS LENGTH',
+// process goes on, with the memory. Copies one after another that end alike share a line: a line 'LAST COUNT STATUS LENGTH',
 // the number of the last one's request and how many they are, and so many bytes. Where PART is 'K/N', only every N-th request is
 // refused so, from the K-th on: N such processes refuse each. SKIPPED has addresses in the program, `HEX,HEX,..`: copies return from
 // the functions there as soon as they are called.

@@ -1,6 +1,6 @@
 /* Each request for memory is refused in turn, alone or with all after it. From it on refused, the answer is -ENOMEM and the output is as it was;
  * refused alone, the answer may also be that of a call with memory, since what isn't got at once is asked for bit by bit. All memory is
- * given back. What is canonical asks for none, nor what is written into as much room, or where it lies, and isn't deep. Linked with --wrap=malloc, --wrap=realloc and --wrap=free. */
+ * given back. None is asked for to rewrite pods that aren't deep and are canonical, or are rewritten in place or into as much room. Linked with --wrap=malloc, --wrap=realloc and --wrap=free. */
 #include <errno.h>
 #include <stdio.h>
 #include <stdlib.h>
@@ -107,8 +107,7 @@ static void refuse_in_place(int32_t (*rewrite)(void *, size_t, size_t *, size_t 
 	SEE(may_ask == (refuse_at > 1));
 }
 
-/* Objects deep in one another: where each of these ends with the one around it, is_canonical asks for no memory; where an Int follows each, it
- * has to. */
+/* Objects deep in one another: where each is in tail position, is_canonical asks for no memory; where an Int follows each, it has to. */
 static void refuse_deep(bool may_ask) {
 	enum { LEVELS = 1200, MANY = 48 * LEVELS - 32 };
 	static const uint32_t number[] = { 2, 0, 4, 4, 7, 0 };
@@ -141,8 +140,8 @@ static void refuse_deep(bool may_ask) {
 	SEE(may_ask == (refuse_at > 1));
 }
 
-/* A choice that gets shorter, deep in structs: where each of these ends with the one around it, it is rewritten without memory; where an Int
- * follows each, by means of memory. */
+/* A choice that gets shorter, deep in structs: where each of these is in tail position, it is rewritten without memory; where an Int follows each,
+ * by means of memory. */
 static void refuse_deep_in_place(void) {
 	enum { LEVELS = 1200, FEW = 8 * LEVELS + 40, MANY = FEW + 16 * LEVELS };
 	static const uint32_t shrinking[] = { 28, 19, 0, 5, 4, 4, 1, 2, 3, 0 }, number[] = { 4, 4, 7, 0 };

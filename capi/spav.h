@@ -133,7 +133,8 @@ enum spav_fault_kind {
 /* Which fault stands first in `in`. No memory is asked for.
  *   0       none: `in` is pods one after another
  *   1       of the kind *kind, at the byte *at, in the pod that begins at the byte *top. There begins a pod inside it, itself, or a key that is cut short
- *   -ELOOP  a pod nests more than 1000 deep, not counting what ends where the pod around it does, and none was found before. *top and *at say nothing
+ *   -ELOOP  a pod nests more than 1000 deep, not counting containers that nothing follows in their own, and no fault was found before. *top and *at
+ *           have no meaning
  * After a lenient call was refused, the fault may be one that the lenient reading accepts. */
 int32_t spav_fault(const void *in, size_t n, uint32_t *kind, size_t *top, size_t *at) SPAV_MUST_USE SPAV_NONNULL(3, 4, 5);
 

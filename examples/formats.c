@@ -51,7 +51,7 @@ int main(void) {
 	static uint8_t in[1 << 20];
 	size_t n = fread(in, 1, sizeof in, stdin), len, count, at;
 	uint32_t kind;
-	/* Daemons send what isn't pods, as positions in a None choice. What conveys nothing stays as it is, and is told below. */
+	/* Daemons send what isn't pods, as positions in a None choice. Bytes that convey no value stay as they are; the read below names their fault. */
 	int32_t answer = spav_rewrite_in_place_leniently(in, n, &len, &at);
 	if (answer == -ENOMEM)
 		return 2;

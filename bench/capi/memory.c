@@ -47,7 +47,7 @@ struct words {
 	uint32_t words[12];
 };
 
-static const struct words odd = { "an odd Bool", 4, { 4, 2, 7, 0 } }, dirty = { "an Int with dirty padding", 4, { 4, 4, 7, 9 } },
+static const struct words changed = { "a Bool of 2", 4, { 4, 2, 7, 0 } }, dirty = { "an Int with dirty padding", 4, { 4, 4, 7, 9 } },
 	own = { "an Int", 4, { 4, 4, 7, 0 } }, surplus = { "a choice with a surplus value", 12, { 36, 19, 0, 0, 4, 4, 1, 2, 3, 4, 5, 0 } };
 
 static uint8_t *bytes;
@@ -93,12 +93,12 @@ int main(void) {
 	bytes = malloc(LONG + 24 * LEVELS);
 	if (!bytes)
 		return 1;
-	nested(STRUCTS, "structs in one another around", &odd);
+	nested(STRUCTS, "structs in one another around", &changed);
 	nested(STRUCTS, "structs in one another around", &surplus);
-	nested(OBJECTS, "objects in one another around", &odd);
+	nested(OBJECTS, "objects in one another around", &changed);
 	nested(OBJECTS, "objects in one another around", &surplus);
-	nested(STRUCTS_AND_INTS, "the same, each before an Int", &odd);
-	list("a list, each", &odd, &odd);
+	nested(STRUCTS_AND_INTS, "the same, each before an Int", &changed);
+	list("a list, each", &changed, &changed);
 	list("such a choice, and", &surplus, &own);
 	list("such a choice, and", &surplus, &dirty);
 	list("a list, each", &surplus, &surplus);

@@ -2,7 +2,7 @@
  * nothing; is_canonical exactly where rewriting the front changes nothing; check accepts exactly what rewriting accepts; a refusal
  * changes nothing and says where; an accepted object stays accepted under fixation; the events
  * are those of a walk that calls itself, and the first pod nests within the levels that they show and no fewer; two objects meet in either
- * order or in none, in their own rewriting; what is built is its own rewriting. Inputs and outputs end at pages that can't be touched.
+ * order or in none, and the answer is canonical; what is built is canonical. Inputs and outputs end at pages that can't be touched.
  * With afl-clang-fast in persistent mode, with clang's own fuzzer where LIBFUZZER is defined, else on the files that are named. */
 #include <errno.h>
 #include <stdio.h>
@@ -107,7 +107,7 @@ static void try_events(const uint8_t *in, size_t n) {
 	SEE(spav_nests_within(in, n, levels) == 1 && (levels == 0 || spav_nests_within(in, n, levels - 1) == 0));
 }
 
-typedef int32_t join(const void *a, size_t n, const void *b, size_t m, void *out, size_t cap, size_t *written, uint32_t *told);
+typedef int32_t join(const void *a, size_t n, const void *b, size_t m, void *out, size_t cap, size_t *written, uint32_t *key_or_side);
 
 /* Joins the front of the input with what follows it, or with itself where nothing does, in both orders. */
 static int32_t try_joining(join *call, const uint8_t *in, size_t n, uint8_t *out) {
@@ -132,7 +132,7 @@ static int32_t try_joining(join *call, const uint8_t *in, size_t n, uint8_t *out
 	return answer;
 }
 
-/* The words of the input as calls, over the input as texts: of those that are accepted the pods are their own rewriting. */
+/* The words of the input as calls, over the input as texts: those of accepted calls build canonical pods. */
 static void try_building(const uint8_t *in, size_t n, uint8_t *out) {
 	static struct spav_call calls[MOST / 8];
 	size_t count = n / 16, len = 0, at = 0, other = 0;

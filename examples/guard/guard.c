@@ -150,9 +150,9 @@ static bool forward(struct stream *s, uint8_t *message, size_t n, size_t fd_coun
 	uint32_t word;
 	memcpy(s->out, message, HEADER);
 	uint8_t *pods = message + HEADER;
-	size_t noisy_at = 0;
-	bool is_noisy = noise && spav_check(pods, n, &noisy_at) == 0;
-	if (is_noisy)
+	size_t refused_at = 0;
+	bool adds_noise = noise && spav_check(pods, n, &refused_at) == 0;
+	if (adds_noise)
 		add_noise(spav_walk_pods(pods, n), &s->seed);
 	if (recording >= 0 && write(recording, pods, n) != (ssize_t)n)
 		perror("guard: the recording");

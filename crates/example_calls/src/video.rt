@@ -4,9 +4,9 @@ ghost use Rattle.libspa.specs.Encoding.{encoding_of};
 ghost use Rattle.libspa.specs.Front.{Begins};
 ghost use Rattle.libspa.specs.Typed.{IsTyped};
 ghost use Rattle.libspa.specs.BuilderState.{start};
-ghost use Rattle.libspa.specs.BuilderHeld.{IsAt};
+ghost use Rattle.libspa.specs.BuilderFields.{IsAt};
 ghost use Rattle.libspa.specs.ParserSteps.{NextIs};
-ghost use Rattle.libspa.specs.BuilderMaking.{built};
+ghost use Rattle.libspa.specs.BuilderMaking.{state_of_value};
 ghost use Rattle.example_calls.specs.Video.{video_tree};
 ghost use Rattle.example_calls.specs.declared.video.VideoFormat.{VideoFormat};
 
@@ -34,7 +34,7 @@ pub struct VideoFormat {
 /// Adds the format's object.
 fn add_format(builder: &mut Builder, format: &VideoFormat) -> Result<(), Errno>
     requires { IsAt builder.old start }
-    ensures made { OnOk result (IsAt builder.new (built (video_tree format.now))) }
+    ensures made { OnOk result (IsAt builder.new (state_of_value (video_tree format.now))) }
     ensures memory { IfErr result (λ e. e ≡ Errno.NOMEM) }
 {
     values_are_made_call_by_call();

@@ -21,6 +21,7 @@ rate_members (Some rate) = member (fixed (fraction rate.num rate.denom)) no_tree
 abbrev pub capture_members : Capture → Trees
 capture_members c = member (fixed (rectangle c.size.width c.size.height)) (rate_members c.rate)
 
+-- the struct as which a capture is written
 abbrev pub capture_tree : Capture → Tree
 capture_tree c = struct (capture_members c)
 

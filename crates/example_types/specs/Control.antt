@@ -35,6 +35,7 @@ IsObject _ = ⊥
 abbrev pub IsNoControl : Tree → Type 0
 IsNoControl v = (c : Control) → ¬ (IsControl c v)
 
+-- the front of the bytes is a pod of no control, or of no value
 abbrev pub BeginsNoControl : List ℕ → Type 0
 BeginsNoControl b = (v : Tree) → Begins b v → IsNoControl v
 

@@ -16,6 +16,7 @@ use Rattle.example_types.specs.declared.gain.Gain.{Gain}
 abbrev pub gain_properties : Gain → Properties
 gain_properties g = property PROP_VOLUME g.flags.0 (fixed (float g.volume.0)) no_properties
 
+-- the object as which a gain is written
 abbrev pub gain_tree : Gain → Tree
 gain_tree g = object OBJECT_PROPS g.id (gain_properties g)
 

@@ -93,5 +93,6 @@ impl<'de> PodDeserialize<'de> for Capture {
 impl<'de> ExactDeserialize<'de> for Capture {
     ghost takes_memory = { λ _. ⊥ };
 
-    ghost exactly = { λ b e r. struct_exactly _ AreCapture ⊥ _ _ b e (λ v it is. record { members = _; is = is; are = refl }) (λ _ _ d. d.exactly) (λ _ _ l. l) r };
+    ghost exactly = { λ b e r. struct_exactly _ AreCapture ⊥ _ _ b e
+        (λ v it is. record { members = _; is = is; are = refl }) (λ _ _ d. d.exactly) (λ _ _ l. l) r };
 }

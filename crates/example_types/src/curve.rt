@@ -38,7 +38,11 @@ impl DeserializeAs for Curve {
 
 /// Written as this struct, wherever it can be.
 impl SerializeAs for Curve {
-    ghost says = { λ c. struct (member (string (string_bytes c.name)) (member (fixed (kind.int c.order)) (member (fixed (kind.id c.channel.0)) (member (array kind.float_kind (map (λ x. kind.float x.0) c.points.items)) no_trees)))) };
+    ghost says = { λ c. struct
+        (member (string (string_bytes c.name))
+        (member (fixed (kind.int c.order))
+        (member (fixed (kind.id c.channel.0))
+        (member (array kind.float_kind (map (λ x. kind.float x.0) c.points.items)) no_trees)))) };
 
     fn write_as<O: PodOutput>(&self, out: &mut O) -> Result<(), GenError> {
         let behind = (&self.order, (&self.channel, (&self.points, ())));
@@ -51,10 +55,12 @@ pub fn put_curve<const N: usize>(
     out: ArrayVec<u8, N>,
     curve: &Curve,
 ) -> Result<(ArrayVec<u8, N>, u64), GenError>
-    ensures encoding { IfOk result (λ done. done.0.items ≡ out.entry.items ++ encoding_of (⟦<Curve as SerializeAs>⟧.says curve.now)) }
+    ensures encoding { IfOk result
+        (λ done. done.0.items ≡ out.entry.items ++ encoding_of (⟦<Curve as SerializeAs>⟧.says curve.now)) }
     ensures count { IfOk result (λ done. done.1 ≡ length (encoding_of (⟦<Curve as SerializeAs>⟧.says curve.now))) }
     ensures writable { IsOk result → IsWritable (⟦<Curve as SerializeAs>⟧.says curve.now) }
-    ensures room { IsWritable (⟦<Curve as SerializeAs>⟧.says curve.now) → length out.entry.items + length (encoding_of (⟦<Curve as SerializeAs>⟧.says curve.now)) ≤ N → IsOk result }
+    ensures room { IsWritable (⟦<Curve as SerializeAs>⟧.says curve.now)
+        → length out.entry.items + length (encoding_of (⟦<Curve as SerializeAs>⟧.says curve.now)) ≤ N → IsOk result }
     ensures cause { IfErr result (RefusesAtLimit (length out.entry.items) N (⟦<Curve as SerializeAs>⟧.says curve.now)) }
 {
     laws::declared_pods_are_written_where_they_fit(out, curve)

@@ -47,7 +47,15 @@ type Properties = (Required<{ keys::FORMAT_AUDIO_FORMAT }, Id>, Behind);
 impl DeserializeAs for AudioFormat {
     type Content = ObjectOf<{ types::OBJECT_FORMAT }, { ids::PARAM_FORMAT }, Properties>;
 
-    ghost content = { λ f. record { 0 = (record { 0 = f.encoding }, (record { 0 = f.rate }, (record { 0 = f.channels }, (record { 0 = f.positions }, (record { 0 = f.curve }, tt))))) } };
+    ghost content = { λ f. record {
+      0 = (
+        record { 0 = f.encoding },
+        (
+          record { 0 = f.rate },
+          (record { 0 = f.channels }, (record { 0 = f.positions }, (record { 0 = f.curve }, tt))),
+        ),
+      );
+    } };
 
     fn of_content(ObjectOf(all): Self::Content) -> AudioFormat {
         let (encoding, (rate, (channels, (positions, (curve, ()))))) = all;
@@ -63,7 +71,12 @@ impl DeserializeAs for AudioFormat {
 
 /// Written as this object, its properties in this order, wherever it can be.
 impl SerializeAs for AudioFormat {
-    ghost says = { λ f. object types.OBJECT_FORMAT ids.PARAM_FORMAT (property keys.FORMAT_AUDIO_FORMAT 0 (fixed (kind.id f.encoding.0)) (property keys.FORMAT_AUDIO_RATE 0 (fixed (kind.int f.rate)) (optional_property keys.FORMAT_AUDIO_CHANNELS (λ n. fixed (kind.int n)) f.channels (property keys.FORMAT_AUDIO_POSITION 0 (array kind.id_kind (map (λ x. kind.id x.0) f.positions.items)) (property CURVE 0 (⟦<Curve as SerializeAs>⟧.says f.curve) no_properties))))) };
+    ghost says = { λ f. object types.OBJECT_FORMAT ids.PARAM_FORMAT
+        (property keys.FORMAT_AUDIO_FORMAT 0 (fixed (kind.id f.encoding.0))
+        (property keys.FORMAT_AUDIO_RATE 0 (fixed (kind.int f.rate))
+        (optional_property keys.FORMAT_AUDIO_CHANNELS (λ n. fixed (kind.int n)) f.channels
+        (property keys.FORMAT_AUDIO_POSITION 0 (array kind.id_kind (map (λ x. kind.id x.0) f.positions.items))
+        (property CURVE 0 (⟦<Curve as SerializeAs>⟧.says f.curve) no_properties))))) };
 
     fn write_as<O: PodOutput>(&self, out: &mut O) -> Result<(), GenError> {
         let last = ((CURVE, &self.curve), ());
@@ -80,11 +93,16 @@ pub fn put_format<const N: usize>(
     out: ArrayVec<u8, N>,
     format: &AudioFormat,
 ) -> Result<(ArrayVec<u8, N>, u64), GenError>
-    ensures encoding { IfOk result (λ done. done.0.items ≡ out.entry.items ++ encoding_of (⟦<AudioFormat as SerializeAs>⟧.says format.now)) }
-    ensures count { IfOk result (λ done. done.1 ≡ length (encoding_of (⟦<AudioFormat as SerializeAs>⟧.says format.now))) }
+    ensures encoding { IfOk result
+        (λ done. done.0.items ≡ out.entry.items ++ encoding_of (⟦<AudioFormat as SerializeAs>⟧.says format.now)) }
+    ensures count { IfOk result
+        (λ done. done.1 ≡ length (encoding_of (⟦<AudioFormat as SerializeAs>⟧.says format.now))) }
     ensures writable { IsOk result → IsWritable (⟦<AudioFormat as SerializeAs>⟧.says format.now) }
-    ensures room { IsWritable (⟦<AudioFormat as SerializeAs>⟧.says format.now) → length out.entry.items + length (encoding_of (⟦<AudioFormat as SerializeAs>⟧.says format.now)) ≤ N → IsOk result }
-    ensures cause { IfErr result (RefusesAtLimit (length out.entry.items) N (⟦<AudioFormat as SerializeAs>⟧.says format.now)) }
+    ensures room { IsWritable (⟦<AudioFormat as SerializeAs>⟧.says format.now)
+        → length out.entry.items + length (encoding_of (⟦<AudioFormat as SerializeAs>⟧.says format.now)) ≤ N
+        → IsOk result }
+    ensures cause { IfErr result (RefusesAtLimit (length out.entry.items) N
+        (⟦<AudioFormat as SerializeAs>⟧.says format.now)) }
 {
     laws::declared_pods_are_written_where_they_fit(out, format)
 }

@@ -101,7 +101,9 @@ impl<'de> PodDeserialize<'de> for Gain {
 impl<'de> ExactDeserialize<'de> for Gain {
     ghost takes_memory = { λ _. ⊥ };
 
-    ghost exactly = { λ b e r. object_exactly _ IsGain ⊥ _ _ b e (λ v it is. record { type = _; id = _; properties = _; is = is; are = record { its_type = refl; its_id = refl; its_properties = refl } }) (λ _ _ d. d.exactly) (λ _ _ l. l) r };
+    ghost exactly = { λ b e r. object_exactly _ IsGain ⊥ _ _ b e
+        (λ v it is. record { type = _; id = _; properties = _; is = is; are = record { its_type = refl; its_id = refl; its_properties = refl } })
+        (λ _ _ d. d.exactly) (λ _ _ l. l) r };
 }
 
 /// Written as this object, wherever it can be.

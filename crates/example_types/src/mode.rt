@@ -58,7 +58,9 @@ impl DeserializeAs for Mode {
 }
 
 impl SerializeAs for Mode {
-    ghost says = { λ m. struct (member (⟦<Size as SerializeAs>⟧.says m.size) (member (fixed (kind.long m.rate)) no_trees)) };
+    ghost says = { λ m. struct
+        (member (⟦<Size as SerializeAs>⟧.says m.size)
+        (member (fixed (kind.long m.rate)) no_trees)) };
 
     fn write_as<O: PodOutput>(&self, out: &mut O) -> Result<(), GenError> {
         write_struct(out, &(&self.size, (&self.rate, ())))
@@ -67,10 +69,12 @@ impl SerializeAs for Mode {
 
 /// The encoding of a mode, which is 64 bytes, behind what the output holds, and its length: exactly where it fits.
 pub fn put_mode(out: ArrayVec<u8, 128>, mode: &Mode) -> Result<(ArrayVec<u8, 128>, u64), GenError>
-    ensures encoding { IfOk result (λ done. done.0.items ≡ out.items ++ encoding_of (⟦<Mode as SerializeAs>⟧.says mode.now)) }
+    ensures encoding { IfOk result
+        (λ done. done.0.items ≡ out.items ++ encoding_of (⟦<Mode as SerializeAs>⟧.says mode.now)) }
     ensures count { IfOk result (λ done. done.1 ≡ length (encoding_of (⟦<Mode as SerializeAs>⟧.says mode.now))) }
     // It reads back, whatever follows it.
-    ensures back { OnOk result ((r : List ℕ) → Begins (encoding_of (⟦<Mode as SerializeAs>⟧.says mode.now) ++ r) (⟦<Mode as SerializeAs>⟧.says mode.now)) }
+    ensures back { OnOk result ((r : List ℕ)
+        → Begins (encoding_of (⟦<Mode as SerializeAs>⟧.says mode.now) ++ r) (⟦<Mode as SerializeAs>⟧.says mode.now)) }
     ensures room { length out.items + 64 ≤ 128 → IsOk result }
     ensures full { IfErr result (λ e. (e ≡ Full) × (128 < length out.items + 64)) }
 {

@@ -94,7 +94,9 @@ impl DeserializeAs for Profile {
 
 /// Written as this object, its properties in this order.
 impl SerializeAs for Profile {
-    ghost says = { λ it. object types.OBJECT_PARAM_PROFILE ids.PARAM_PROFILE (property keys.PARAM_PROFILE_INDEX 0 (fixed (kind.int it.index)) (optional_property keys.PARAM_PROFILE_AVAILABLE (λ a. ⟦<Availability as SerializeAs>⟧.says a) it.available no_properties)) };
+    ghost says = { λ it. object types.OBJECT_PARAM_PROFILE ids.PARAM_PROFILE
+        (property keys.PARAM_PROFILE_INDEX 0 (fixed (kind.int it.index))
+        (optional_property keys.PARAM_PROFILE_AVAILABLE (λ a. ⟦<Availability as SerializeAs>⟧.says a) it.available no_properties)) };
 
     fn write_as<O: PodOutput>(&self, out: &mut O) -> Result<(), GenError> {
         let last = ((keys::PARAM_PROFILE_AVAILABLE, Maybe(&self.available)), ());

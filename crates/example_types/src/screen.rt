@@ -45,7 +45,9 @@ impl<'a> DeserializeAs for Device<'a> {
 }
 
 impl SerializeAs for Device<'_> {
-    ghost says = { λ device. object 5 3 (property 1 0 (string device.name.now) (property 2 0 (fixed (kind.float device.volume.0)) no_properties)) };
+    ghost says = { λ device. object 5 3
+        (property 1 0 (string device.name.now)
+        (property 2 0 (fixed (kind.float device.volume.0)) no_properties)) };
 
     fn write_as<O: PodOutput>(&self, out: &mut O) -> Result<(), GenError> {
         let volume = ((SECOND_KEY, &self.volume), ());

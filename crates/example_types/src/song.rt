@@ -55,7 +55,10 @@ impl<'a> DeserializeAs for Song<'a> {
 }
 
 impl SerializeAs for Song<'_> {
-    ghost says = { λ song. struct (member (fixed (kind.int song.number)) (member (string song.title.now) (member (⟦<Cover as SerializeAs>⟧.says song.cover) no_trees))) };
+    ghost says = { λ song. struct
+        (member (fixed (kind.int song.number))
+        (member (string song.title.now)
+        (member (⟦<Cover as SerializeAs>⟧.says song.cover) no_trees))) };
 
     fn write_as<O: PodOutput>(&self, out: &mut O) -> Result<(), GenError> {
         write_struct(out, &(&self.number, (&self.title, (&self.cover, ()))))

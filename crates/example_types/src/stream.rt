@@ -43,7 +43,12 @@ type Properties = (
 impl DeserializeAs for StreamFormat {
     type Content = ObjectOf<{ types::OBJECT_FORMAT }, { ids::PARAM_FORMAT }, Properties>;
 
-    ghost content = { λ it. record { 0 = (record { 0 = record { 0 = it.encoding } }, (record { 0 = record { 0 = it.rate } }, (record { 0 = record { 0 = it.channels } }, tt))) } };
+    ghost content = { λ it. record {
+      0 = (
+        record { 0 = record { 0 = it.encoding } },
+        (record { 0 = record { 0 = it.rate } }, (record { 0 = record { 0 = it.channels } }, tt)),
+      );
+    } };
 
     fn of_content(ObjectOf((encoding, (rate, (channels, ())))): Self::Content) -> StreamFormat {
         StreamFormat {
@@ -62,7 +67,8 @@ pub fn read_stream_format(
     ensures read { IfOk result (λ read. IsRead input.now read.0.now (λ value. IsStreamFormat value read.1)) }
     // But for lack of memory it is refused only where no such format is there: where a property is missing, is of another type, or is a
     // choice that isn't fixated.
-    ensures exactly { IfErr result (RefusesExactly IsStreamFormat (⟦<StreamFormat as ExactDeserialize<'static>>⟧.takes_memory input.now) input.now) }
+    ensures exactly { IfErr result (RefusesExactly IsStreamFormat
+        (⟦<StreamFormat as ExactDeserialize<'static>>⟧.takes_memory input.now) input.now) }
 {
     laws::exact_types_come_back::<StreamFormat>();
     PodDeserializer::deserialize_from(alloc, input)
@@ -70,5 +76,7 @@ pub fn read_stream_format(
 
 /// A format that offers a range of rates is no stream's.
 pub fn ranges_of_rates_are_refused()
-    ensures { (it : StreamFormat) (ps : Properties) (f : ℕ) (k : Kind) (x : Fixed) (xs : List Fixed) → HasFirst keys.FORMAT_AUDIO_RATE (λ v. v ≡ choice range_choice f k x xs) ps → ¬ (IsStreamFormat (object types.OBJECT_FORMAT ids.PARAM_FORMAT ps) it) }
+    ensures { (it : StreamFormat) (ps : Properties) (f : ℕ) (k : Kind) (x : Fixed) (xs : List Fixed)
+        → HasFirst keys.FORMAT_AUDIO_RATE (λ v. v ≡ choice range_choice f k x xs) ps
+        → ¬ (IsStreamFormat (object types.OBJECT_FORMAT ids.PARAM_FORMAT ps) it) }
 {}

@@ -39,7 +39,7 @@ pub use Rattle.spa_view.specs.Settled
 pub use Rattle.spa_view.specs.Elements
 pub use Rattle.spa_builder.specs.State as BuilderState
 pub use Rattle.spa_builder.specs.Step as BuilderSteps
-pub use Rattle.spa_builder.specs.Held as BuilderHeld
+pub use Rattle.spa_builder.specs.Fields as BuilderFields
 pub use Rattle.spa_builder.specs.Answers as BuilderAnswers
 pub use Rattle.spa_builder.specs.Replay as BuilderRuns
 pub use Rattle.spa_builder.specs.Making as BuilderMaking

@@ -5,7 +5,7 @@ use crate::readme::fixate::settle;
 use crate::readme::look::sample_rate;
 use crate::readme::look_up::channels;
 use crate::readme::read::count;
-use crate::readme::result_codes::told;
+use crate::readme::result_codes::outcome_of;
 use crate::readme::rewrite::{all_rewritten, say_the_same};
 use crate::readme::write::{encoded_int, encoded_pair};
 use std::alloc::{AllocError, Global};
@@ -110,7 +110,7 @@ mod result_codes {
     use libspa::utils::result::{SpaResult, SpaSuccess};
 
     /// What a result code says.
-    pub fn told(code: i32) -> &'static str {
+    pub fn outcome_of(code: i32) -> &'static str {
         match SpaResult::from_c(code).into_result() {
             Ok(SpaSuccess::Sync(_)) => "done",
             Ok(SpaSuccess::Async(_)) => "done later",
@@ -296,6 +296,6 @@ fn codes() -> &'static [(i32, &'static str)] {
 #[test]
 fn tells(rt: HostRuntime) {
     for (code, wanted) in codes() {
-        assert_holds(&rt, told(*code) == *wanted, wanted);
+        assert_holds(&rt, outcome_of(*code) == *wanted, wanted);
     }
 }

@@ -4,11 +4,12 @@
 //! - `negotiate`: what they meet in, in two lines: by `negotiate_pods`, and by way of values;
 //! - `filter_pods` and `filter`: what they are filtered to, from bytes to bytes, and by way of values;
 //! - `agree`: that on which they agree, with what is left to choose fixated;
+//! - `rate`: the sample rate on which they agree by `negotiate_pods`;
 //! - `settle`: what the one pod settles to;
 //! - `format`: behind the rows, each such pod is filtered with each, and what comes is settled.
 #![tactic(auto)]
 
-use example_calls::{agreed, negotiate_by_values};
+use example_calls::{agreed, agreed_rate, negotiate_by_values};
 use spa_filter::{Side, filter, settle};
 use spa_filter_pods::{FilterError, filter_pods};
 use spa_fixed_sized::Refusal;
@@ -48,6 +49,7 @@ fn answer_row(alloc: Global, row: &str, answers: &mut String) -> io::Result<()> 
         "filter_pods" => push_both(answers, label, through_pods(alloc, a, b))?,
         "filter" => push_both(answers, label, through_values(alloc, a, b))?,
         "agree" => push_both(answers, label, agreement(alloc, a, b))?,
+        "rate" => push_rates(answers, label, rates(alloc, a, b))?,
         "settle" => push_settled(answers, label, settled(alloc, a))?,
         _ => (),
     }
@@ -127,6 +129,35 @@ fn push_met(
     }
 }
 
+/// A sample rate in the one order and in the other.
+type Rates = (
+    Result<Option<i32>, NegotiateError>,
+    Result<Option<i32>, NegotiateError>,
+);
+
+/// Appends the line of a sample rate.
+fn push_rates(answers: &mut String, label: &str, rates: Rates) -> Result<(), AllocError> {
+    let (there, back) = rates;
+    write!(answers, "{label}:")?;
+    push_rate(answers, there)?;
+    answers.push_str(" |")?;
+    push_rate(answers, back)?;
+    answers.push_str("\n")
+}
+
+/// Appends a sample rate, the word `none`, or the refusal.
+fn push_rate(
+    answers: &mut String,
+    answer: Result<Option<i32>, NegotiateError>,
+) -> Result<(), AllocError> {
+    match answer {
+        Ok(Some(rate)) => write!(answers, " {rate}"),
+        Ok(None) => answers.push_str(" none"),
+        Err(NegotiateError::OutOfMemory) => Err(AllocError),
+        Err(refusal) => write!(answers, " {refusal:?}"),
+    }
+}
+
 /// Appends the line of two pods that are filtered.
 fn push_both(answers: &mut String, label: &str, both: Both<FilterError>) -> Result<(), AllocError> {
     let (there, back) = both;
@@ -181,6 +212,11 @@ fn through_pods(alloc: Global, a: &[u8], b: &[u8]) -> Both<FilterError> {
 /// That on which two pods agree.
 fn agreement(alloc: Global, a: &[u8], b: &[u8]) -> Both<FilterError> {
     (agreed(alloc, a, b), agreed(alloc, b, a))
+}
+
+/// The sample rate on which two pods agree.
+fn rates(alloc: Global, a: &[u8], b: &[u8]) -> Rates {
+    (agreed_rate(alloc, a, b), agreed_rate(alloc, b, a))
 }
 
 /// What two pods are filtered to, by way of values.

@@ -9,8 +9,8 @@ use std::env;
 use std::io::{self, ErrorKind};
 use std::process::ExitCode;
 
-/// Hands the words behind the program's name, the standard streams and the system's files to `run`, tells what became of that, and
-/// answers its status. Where that can't be told, nothing changes.
+/// Hands the words behind the program's name, the standard streams and the system's files to `run`, writes the line of its answer, and
+/// ends with the answer's status, also where that line can't be written.
 fn main(rt: HostRuntime) -> ExitCode {
     ExitCode::from(status(&rt).unwrap_or_else(|| refused(&rt)))
 }
@@ -35,7 +35,7 @@ fn status(rt: &HostRuntime) -> Option<u8> {
     Some(answer.status())
 }
 
-/// The status of a run that memory is refused, of which it tells. Where the line can't be written, nothing changes.
+/// Writes the line of a run for which memory was refused, and gives its status, also where that line can't be written.
 fn refused(rt: &HostRuntime) -> u8 {
     let answer = Answer::Refused(Failure::OutOfMemory);
     let _ = tell(&mut rt.stdout(), &mut rt.stderr(), &answer);

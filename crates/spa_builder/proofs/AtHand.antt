@@ -24,8 +24,8 @@ use Rattle.spa_scan.specs.Canonical.{BeginsCanonical}
 use Rattle.spa_scan.specs.Depth.{depth_of, levels_looked_into}
 use Rattle.spa_read.specs.Nesting.{RefusesAt}
 use Rattle.spa_builder.specs.State.{Partial, State, open_array, open_choice, open_object, open_property, open_struct}
-use Rattle.spa_builder.specs.Step.{add, has_nul, placed, sized, step, takes_trees}
-use Rattle.spa_builder.specs.Held.{Held, all_so_far, what_of}
+use Rattle.spa_builder.specs.Step.{add, has_nul, state_with_value, outcome_if_fits, step, takes_trees}
+use Rattle.spa_builder.specs.Fields.{BuilderFields, all_so_far, what_of}
 use Rattle.spa_builder.specs.Innermost.{has_elements, innermost_of, takes_element, takes_elements}
 use Rattle.spa_builder.specs.Answers.{IsCopied, Makes, MakesPod, MakesValue}
 use Rattle.spa_builder.specs.declared.begun.BegunPod.{BegunPod}
@@ -38,7 +38,7 @@ use Rattle.spa_utils.specs.declared.errno.TheConstants.Errno.{INVAL, NOMEM}
 -- ---- where it may come next
 
 pub none_begun : (base : ℕ) (closed : Trees) (ps : List Partial) (v : Tree) →
-    None ≡ innermost_of base ps → true ≡ is_some (placed closed ps v)
+    None ≡ innermost_of base ps → true ≡ is_some (state_with_value closed ps v)
 none_begun base closed [] v e = refl
 none_begun base closed (p ∷ ps) v e = absurd (cc)
 
@@ -51,7 +51,7 @@ its_innermost base (p ∷ ps) o e =
     (p, ps, refl, ap (λ (x : BegunPod). x.what) is)
 
 pub without_elements : (closed : Trees) (ps : List Partial) (v : Tree) → takes_elements ps ≡ false →
-    is_some (placed closed ps v) ≡ takes_trees ps
+    is_some (state_with_value closed ps v) ≡ takes_trees ps
 without_elements closed [] v e = refl
 without_elements closed (open_struct vs ∷ ps) v e = refl
 without_elements closed (open_object t i qs ∷ ps) v e = refl
@@ -70,14 +70,14 @@ no_trees_among (open_choice h f xs ∷ ps) e = refl
 -- a type whose bodies are longer than those of any kind of fixed size
 pub no_element_so_long : (closed : Trees) (ps : List Partial) (v : Tree) (t n : ℕ) →
     takes_elements ps ≡ true → type_of v ≡ t → ((k : Kind) → t ≡ type_number k → n ≡ body_size k) →
-    8 < n → false ≡ is_some (placed closed ps v)
+    8 < n → false ≡ is_some (state_with_value closed ps v)
 no_element_so_long closed ps v t n e of found long =
     sym (ap is_some (no_element closed ps v
     (λ x is. (let s = found (kind_of x) (sym of ∙ ap type_of is) in let f = size_fits (kind_of x) in omega arith))
     (no_trees_among ps e)))
 
 element_decides : (closed : Trees) (p : Partial) (rest : List Partial) (x : Fixed) (b : Bool) →
-    has_elements p ≡ true → takes_element p x ≡ b → is_some (placed closed (p ∷ rest) (fixed x)) ≡ b
+    has_elements p ≡ true → takes_element p x ≡ b → is_some (state_with_value closed (p ∷ rest) (fixed x)) ≡ b
 element_decides closed p rest x true h e = ap is_some (element_placed closed p rest x h e)
 element_decides closed p rest x false h e = ap is_some (element_not closed p rest x h e)
 
@@ -85,7 +85,7 @@ element_decides closed p rest x false h e = ap is_some (element_not closed p res
 pub element_may : (base : ℕ) (closed : Trees) (ps : List Partial) (v : Tree) (o : BegunPod) (k : Kind)
     (t : ℕ) (b : Bool) → Some o ≡ innermost_of base ps → takes_elements ps ≡ true → type_of v ≡ t →
     t ≡ type_number k → ((p : Partial) (x : Fixed) → o.what ≡ what_of p →
-    t ≡ type_number (kind_of x) → b ≡ takes_element p x) → b ≡ is_some (placed closed ps v)
+    t ≡ type_number (kind_of x) → b ≡ takes_element p x) → b ≡ is_some (state_with_value closed ps v)
 element_may base closed ps v o k t b at e of is takes =
     let inner = its_innermost base ps o at in
     let p = inner.0 in
@@ -95,8 +95,8 @@ element_may base closed ps v o k t b at e of is takes =
     let h : has_elements p ≡ true = ap takes_elements (sym inner.2) ∙ e in
     let d = element_decides closed p rest x b h
     (sym (takes p x inner.3 (sym of ∙ ap type_of y.2))) in
-    sym (ap (λ l. is_some (placed closed l v)) inner.2
-    ∙ ap (λ w. is_some (placed closed (p ∷ rest) w)) y.2 ∙ d)
+    sym (ap (λ l. is_some (state_with_value closed l v)) inner.2
+    ∙ ap (λ w. is_some (state_with_value closed (p ∷ rest) w)) y.2 ∙ d)
 
 pub is_nowhere : (o : Option State) → false ≡ is_some o → o ≡ None
 is_nowhere None e = refl
@@ -169,10 +169,10 @@ refused_read b place n R.MissingChoiceValues l m f = no_value b place fault.Miss
 refused_read b place n R.WrongSize l m f = no_value b place fault.WrongSize l f.0
 refused_read b place n R.OutOfMemory l m f = absurd (m refl)
 
-pub copied_step : (s : State) (b rest : List ℕ) (old new : Held) (r : Result (Unit {0}) Errno) →
+pub copied_step : (s : State) (b rest : List ℕ) (old new : BuilderFields) (r : Result (Unit {0}) Errno) →
     IsBytes b → length b ≡ extent (word_at b 0) → (c : BeginsCanonical b rest) →
-    Makes (sized (nat_lt (length (encoded_body c.value)) size_limit)
-    (placed s.closed s.opened c.value)) old new r → Makes (step s (add c.value)) old new r
+    Makes (outcome_if_fits (nat_lt (length (encoded_body c.value)) size_limit)
+    (state_with_value s.closed s.opened c.value)) old new r → Makes (step s (add c.value)) old new r
 copied_step s b rest old new r h l c m =
     let w = writable b c.value h (own_pod b c.value l c.begins.begins) in
     without_nul (has_nul c.value) _ old new r (clean c.value w.no_nul) m
@@ -180,8 +180,8 @@ copied_step s b rest old new r h l c m =
 -- ---- what is made of it
 
 -- it may not come next
-pub out_of_place : (s : State) (b : List ℕ) (old : Held) →
-    ((v : Tree) → word_at b 4 ≡ type_of v → placed s.closed s.opened v ≡ None) →
+pub out_of_place : (s : State) (b : List ℕ) (old : BuilderFields) →
+    ((v : Tree) → word_at b 4 ≡ type_of v → state_with_value s.closed s.opened v ≡ None) →
     MakesPod s b old old (Err INVAL)
 out_of_place s b old h = record {
   value = λ v p. made_value s v old old (Err INVAL) (misplaced s v old (h v p.its_type));
@@ -189,7 +189,7 @@ out_of_place s b old h = record {
 }
 
 -- its value was added, or what is in it stopped that
-pub added_value : (s : State) (b : List ℕ) (w : Tree) (old new : Held)
+pub added_value : (s : State) (b : List ℕ) (w : Tree) (old new : BuilderFields)
     (r : Result (Unit {0}) Errno) → IsPod b w → MakesValue s w old new r → MakesPod s b old new r
 added_value s b w old new r q m = record {
   value = λ v p. subst (λ u. MakesValue s u old new r) (one_value b w v q p) m;
@@ -197,9 +197,9 @@ added_value s b w old new r q m = record {
 }
 
 -- it was not read: memory ran out, or it is a pod of no value
-pub not_read : (s : State) (b place : List ℕ) (n : ℕ) (old : Held) (why : Refusal) (e : Errno) →
+pub not_read : (s : State) (b place : List ℕ) (n : ℕ) (old : BuilderFields) (why : Refusal) (e : Errno) →
     length b ≡ extent (word_at b 0) → RefusesAt b place n why →
-    ((v : Tree) → word_at b 4 ≡ type_of v → placed s.closed s.opened v ≢ None) →
+    ((v : Tree) → word_at b 4 ≡ type_of v → state_with_value s.closed s.opened v ≢ None) →
     (why ≡ R.OutOfMemory → e ≡ NOMEM) → (why ≢ R.OutOfMemory → e ≡ INVAL) →
     MakesPod s b old old (Err e)
 not_read s b place n old R.OutOfMemory e l f h m i =

@@ -11,7 +11,7 @@ use Rattle.spa_format.specs.Words.{padding, word_bytes}
 use Rattle.spa_format.proofs.Elements.{array_length, elements_length, length_of_elements}
 use Rattle.spa_builder.specs.Answers.{Makes}
 use Rattle.spa_builder.specs.Framed.{IsGrown}
-use Rattle.spa_builder.specs.Held.{Held, IsAt, IsHeld}
+use Rattle.spa_builder.specs.Fields.{BuilderFields, IsAt, HasState}
 use Rattle.spa_builder.specs.State.{State}
 use Rattle.spa_builder.specs.Step.{Outcome}
 use Rattle.spa_builder.proofs.Steps.{kept}
@@ -173,8 +173,8 @@ whole_of_rest s b e = record { many = length b / s; count = whole_parts (length 
 pub whole_elements : (k : Kind) (s : ℕ) (xs : List Fixed) (b : List ℕ) → s ≡ body_size k → AreElements k xs b → AreWhole s b
 whole_elements k s xs b e a = record { many = length xs; count = length_of_elements k xs b a ∙ ap (λ n. length xs * n) (sym e) }
 
-pub kept_whole : {A : Type 0} (k : Kind) (s : ℕ) (b : List ℕ) (o : List Fixed → State → Outcome) (old new : Held) (r : Result A Errno) → s ≡ body_size k → AreWhole s b →
-    IsHeld old → ((t : State) (xs : List Fixed) → IsAt old t → AreElements k xs b → Makes (o xs t) old new r) → IsHeld new
+pub kept_whole : {A : Type 0} (k : Kind) (s : ℕ) (b : List ℕ) (o : List Fixed → State → Outcome) (old new : BuilderFields) (r : Result A Errno) → s ≡ body_size k → AreWhole s b →
+    HasState old → ((t : State) (xs : List Fixed) → IsAt old t → AreElements k xs b → Makes (o xs t) old new r) → HasState new
 kept_whole k s b o old new r e w h f =
     let xs = kept_elements k (map (content k) (first_chunks (body_size k) w.many b)) in
     let a = elements_of_bodies k w.many b (w.count ∙ ap (λ n. w.many * n) e) in

@@ -6,8 +6,8 @@ use Rattle.spa_builder.specs.State.{Partial, open_struct, open_object, open_prop
 use Rattle.spa_format.specs.Tree.{Tree}
 use Rattle.spa_builder.specs.declared.begun.Stage.TheVariants.{Object}
 use Rattle.spa_builder.specs.Framed.{at_stage}
-use Rattle.spa_builder.specs.Held.{all_so_far, frames_of, what_of}
-use Rattle.spa_builder.specs.Innermost.{filled, innermost_of, waits}
+use Rattle.spa_builder.specs.Fields.{all_so_far, frames_of, what_of}
+use Rattle.spa_builder.specs.Innermost.{trees_with_value, innermost_of, waits}
 use Rattle.spa_builder.specs.declared.begun.BegunPod.{BegunPod}
 use Rattle.spa_builder.specs.declared.begun.What.{What}
 
@@ -93,7 +93,7 @@ pub filled_frames : (old new : List BegunPod) (base : ℕ) (ps : List Partial) (
     waits ps ≡ true → old ≡ frames_of base ps →
     ((b : ℕ) (p q : Partial) (rs : List Partial) → old ≡ frames_of b (p ∷ rs) →
     at_stage (what_of p) Object ≡ what_of q → new ≡ frames_of b (q ∷ rs)) →
-    new ≡ frames_of base (filled ps v)
+    new ≡ frames_of base (trees_with_value ps v)
 filled_frames old new base [] v h e f = absurd (cc)
 filled_frames old new base (open_struct vs ∷ ps) v h e f = absurd (cc)
 filled_frames old new base (open_object t i qs ∷ ps) v h e f = absurd (cc)
@@ -103,7 +103,7 @@ filled_frames old new base (open_array xs ∷ ps) v h e f = absurd (cc)
 filled_frames old new base (open_choice k fl xs ∷ ps) v h e f = absurd (cc)
 
 pub unfilled_frames : (base : ℕ) (ps : List Partial) (v : Tree) → waits ps ≡ false →
-    frames_of base ps ≡ frames_of base (filled ps v)
+    frames_of base ps ≡ frames_of base (trees_with_value ps v)
 unfilled_frames base [] v h = refl
 unfilled_frames base (open_struct vs ∷ ps) v h = refl
 unfilled_frames base (open_object t i qs ∷ ps) v h = refl

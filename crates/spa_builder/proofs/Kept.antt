@@ -3,7 +3,7 @@ use Rattle.std.proofs.Common.{◌≡◌, ◌≢◌, ℕ, ◌+◌, ◌-◌, ◌<�
 use Rattle.std.specs.Prelude.{Some, nat_eq, nat_lt, cond}
 use Rattle.std.proofs.lemmas.Bool.Decides.{nat_tests}
 use Rattle.spa_builder.specs.State.{Partial, open_struct, open_object, open_property, open_array, open_choice}
-use Rattle.spa_builder.specs.Held.{all_so_far, frames_of, what_of}
+use Rattle.spa_builder.specs.Fields.{all_so_far, frames_of, what_of}
 use Rattle.spa_builder.specs.Framed.{IsKept, at_stage, frames_in, is_nothing, most_bytes}
 use Rattle.spa_builder.specs.Innermost.{has_room_for, innermost_of}
 use Rattle.spa_builder.specs.declared.begun.BegunPod.{BegunPod}

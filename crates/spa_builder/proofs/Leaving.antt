@@ -8,8 +8,8 @@ use Rattle.spa_format.specs.Words.{extent}
 use Rattle.spa_format.specs.Tree.{Trees}
 use Rattle.spa_format.specs.Encoding.{member_encodings}
 use Rattle.spa_builder.specs.State.{Partial, State}
-use Rattle.spa_builder.specs.Step.{abandoned, all_fit, own_size}
-use Rattle.spa_builder.specs.Held.{Held, IsAt, all_so_far, frames_of, so_far}
+use Rattle.spa_builder.specs.Step.{state_after_abandon, all_fit, own_size}
+use Rattle.spa_builder.specs.Fields.{BuilderFields, IsAt, all_so_far, frames_of, so_far}
 use Rattle.spa_builder.specs.declared.begun.BegunPod.{BegunPod}
 use Rattle.spa_builder.proofs.FrameLists.{length-frames_of}
 use Rattle.spa_builder.proofs.Steps.{Closing, lt_test}
@@ -37,14 +37,14 @@ fewer_fit (p ∷ ps) n m l h =
 
 pub abandoned_is : (closed : Trees) (ops : List Partial) (p : Partial) (rest : List Partial)
     (frame : ℕ) → ops ≡ p ∷ rest → frame ≡ length ops →
-    abandoned closed ops frame ≡ Some (without closed rest)
+    state_after_abandon closed ops frame ≡ Some (without closed rest)
 abandoned_is closed ops p rest frame e f =
-    ap (λ l. abandoned closed l frame) e
+    ap (λ l. state_after_abandon closed l frame) e
     ∙ ap (λ b. cond b (Some (without closed rest)) None)
     (eq-eqb frame (length (p ∷ rest)) (f ∙ ap length e))
 
 pub abandoned_other : (closed : Trees) (ops : List Partial) (frame : ℕ) →
-    nat_eq frame (length ops) ≡ false → abandoned closed ops frame ≡ None
+    nat_eq frame (length ops) ≡ false → state_after_abandon closed ops frame ≡ None
 abandoned_other closed [] frame e = refl
 abandoned_other closed (p ∷ rest) frame e =
     ap (λ b. cond b (Some (without closed rest)) None) e
@@ -53,7 +53,7 @@ pub other_number : (a b : ℕ) → (a ≡ b → ⊥) → nat_eq a b ≡ false
 other_number a b h = grind (arith, nat_tests)
 
 -- the bytes and the frames from before its push hold the state without it
-pub is_without : (old new : Held) (s : State) (o : BegunPod) (p : Partial) (rest : List Partial) →
+pub is_without : (old new : BuilderFields) (s : State) (o : BegunPod) (p : Partial) (rest : List Partial) →
     Closing old s o p rest → new.bytes ≡ take o.start old.bytes →
     new.frames ≡ frames_of (length (member_encodings s.closed)) rest →
     IsAt new (without s.closed rest)
@@ -70,6 +70,6 @@ pub none_opened : (ps : List Partial) → length ps ≤ 0 → ps ≡ []
 none_opened [] h = refl
 none_opened (p ∷ ps) h = absurd (omega arith)
 
-pub count_of : (h : Held) (s : State) → IsAt h s → length h.frames ≡ length s.opened
+pub count_of : (h : BuilderFields) (s : State) → IsAt h s → length h.frames ≡ length s.opened
 count_of h s at = ap length at.frames
     ∙ length-frames_of (length (member_encodings s.closed)) s.opened

@@ -9,12 +9,12 @@ use Rattle.spa_format.specs.Tree.{Shape, Tree, fixed, string, bytes, bitmap, arr
 use Rattle.spa_format.specs.Encoding.{encoded_body, encoding_of, member_encodings, property_encodings}
 use Rattle.spa_format.specs.Writable.{SomeValueHasNul, IsTooLarge, SomeValueTooLarge, IsWritable}
 use Rattle.spa_builder.specs.State.{Partial, open_struct, open_object, open_property, open_array, open_choice, State, start, with_tree, with_property}
-use Rattle.spa_builder.specs.Step.{Call, abandon, abandoned, added, finished, push_array, push_choice, shape_of, Outcome, Accepts, Inval, Nospc, add, add_prop, all_fit, begun, closes, has_nul, keyed, own_size, placed, pop, push_object, push_struct, sized, some_has_nul, some_value_has_nul, step, taken, takes_trees}
-use Rattle.spa_builder.specs.Held.{Held, IsAt}
-use Rattle.spa_builder.specs.Innermost.{filled}
+use Rattle.spa_builder.specs.Step.{Call, abandon, state_after_abandon, tree_with_value, closed_value, push_array, push_choice, shape_of, Outcome, Accepts, Inval, Nospc, add, add_prop, all_fit, state_with_tree, state_after_pop, has_nul, state_with_key, own_size, state_with_value, pop, push_object, push_struct, outcome_if_fits, some_has_nul, some_value_has_nul, step, outcome_of, takes_trees}
+use Rattle.spa_builder.specs.Fields.{BuilderFields, IsAt}
+use Rattle.spa_builder.specs.Innermost.{trees_with_value}
 use Rattle.spa_builder.specs.Answers.{Makes}
-use Rattle.spa_builder.specs.Replay.{spelled, spelled_from}
-use Rattle.spa_builder.specs.Making.{AreFixed, ComesTo, built, calls_for, member_calls, open_behind, property_calls}
+use Rattle.spa_builder.specs.Replay.{state_after_calls, state_from}
+use Rattle.spa_builder.specs.Making.{AreFixed, ComesTo, state_of_value, calls_for, member_calls, open_behind, property_calls}
 use Rattle.spa_utils.specs.declared.errno.Errno.{Errno}
 use Rattle.spa_utils.specs.declared.errno.TheConstants.Errno.{NOMEM}
 use Rattle.spa_builder.proofs.Lengths.{length-behind_two, length-fixed, length-framed, length-pointer, members_joined, properties_joined}
@@ -24,22 +24,22 @@ use Rattle.spa_builder.proofs.Valued.{clean}
 -- ---- runs
 
 abbrev then : List Call → Outcome → Option State
-then cs o = elim o as (λ _. Option State) [ Accepts t ↦ spelled_from t cs | Inval ↦ None | Nospc ↦ None ]
+then cs o = elim o as (λ _. Option State) [ Accepts t ↦ state_from t cs | Inval ↦ None | Nospc ↦ None ]
 
 first_accepted : (s t : State) (c : Call) (cs : List Call) → step s c ≡ Accepts t →
-    spelled_from s (c ∷ cs) ≡ spelled_from t cs
+    state_from s (c ∷ cs) ≡ state_from t cs
 first_accepted s t c cs e = ap (then cs) e
 
 joined_by : (o : Outcome) (t : State) (cs ys : List Call) →
-    ((u : State) → spelled_from u cs ≡ Some t → spelled_from u (cs ++ ys) ≡ spelled_from t ys) →
-    then cs o ≡ Some t → then (cs ++ ys) o ≡ spelled_from t ys
+    ((u : State) → state_from u cs ≡ Some t → state_from u (cs ++ ys) ≡ state_from t ys) →
+    then cs o ≡ Some t → then (cs ++ ys) o ≡ state_from t ys
 joined_by (Accepts u) t cs ys f e = f u e
 joined_by Inval t cs ys f e = absurd (cc)
 joined_by Nospc t cs ys f e = absurd (cc)
 
-joined : (s t : State) (xs ys : List Call) → spelled_from s xs ≡ Some t →
-    spelled_from s (xs ++ ys) ≡ spelled_from t ys
-joined s t [] ys e = ap (λ u. spelled_from u ys) (cc)
+joined : (s t : State) (xs ys : List Call) → state_from s xs ≡ Some t →
+    state_from s (xs ++ ys) ≡ state_from t ys
+joined s t [] ys e = ap (λ u. state_from u ys) (cc)
 joined s t (c ∷ cs) ys e = joined_by (step s c) t cs ys (λ u h. joined u t cs ys h) e
 
 -- ---- sizes
@@ -111,7 +111,7 @@ one_property_length k f v =
 
 -- what is open in the place of a value that fits, and is no larger, fits
 in_its_place : (p : Partial) (ps : List Partial) (v : Tree) → own_size p ≤ length (encoded_body v) →
-    length (encoded_body v) < size_limit → takes_trees ps ≡ true → all_fit 0 (filled ps v) ≡ true →
+    length (encoded_body v) < size_limit → takes_trees ps ≡ true → all_fit 0 (trees_with_value ps v) ≡ true →
     all_fit 0 (p ∷ ps) ≡ true
 in_its_place p [] v l m h f =
     and_true (nat_lt (own_size p + 0) size_limit) true (lt_test (own_size p + 0) size_limit (omega arith)) refl
@@ -138,7 +138,7 @@ in_its_place p (open_choice k g xs ∷ ps) v l m h f = absurd (cc)
 pub record Added (s t : State) (v : Tree) : Type 0 where
   pub nul : has_nul v ≡ false
   pub small : length (encoded_body v) < size_limit
-  pub place : placed s.closed s.opened v ≡ Some t
+  pub place : state_with_value s.closed s.opened v ≡ Some t
   pub fit : all_fit 0 t.opened ≡ true
 
 fits_by : (c d : Bool) (u t : State) → cond (c && d) (Accepts u) Nospc ≡ Accepts t →
@@ -147,7 +147,7 @@ fits_by true true u t e = (refl, refl, cc)
 fits_by true false u t e = absurd (cc)
 fits_by false d u t e = absurd (cc)
 
-accepted_by : (b c : Bool) (o : Option State) (t : State) → cond b Inval (sized c o) ≡ Accepts t →
+accepted_by : (b c : Bool) (o : Option State) (t : State) → cond b Inval (outcome_if_fits c o) ≡ Accepts t →
     (b ≡ false) × (c ≡ true) × (o ≡ Some t) × (all_fit 0 t.opened ≡ true)
 accepted_by true c o t e = absurd (cc)
 accepted_by false c None t e = absurd (cc)
@@ -157,17 +157,17 @@ accepted_by false c (Some u) t e =
 
 added_so : (s t : State) (v : Tree) → step s (add v) ≡ Accepts t → Added s t v
 added_so s t v e =
-    let a = accepted_by (has_nul v) (nat_lt (length (encoded_body v)) size_limit) (placed s.closed s.opened v) t e in
+    let a = accepted_by (has_nul v) (nat_lt (length (encoded_body v)) size_limit) (state_with_value s.closed s.opened v) t e in
     record { nul = a.0; small = ltb-true (length (encoded_body v)) size_limit a.1; place = a.2; fit = a.3 }
 
-sized_by : (o : Option State) (t : State) → o ≡ Some t → all_fit 0 t.opened ≡ true → sized true o ≡ Accepts t
-sized_by o t e f = ap (sized true) e ∙ ap (λ b. cond b (Accepts t) Nospc) f
+sized_by : (o : Option State) (t : State) → o ≡ Some t → all_fit 0 t.opened ≡ true → outcome_if_fits true o ≡ Accepts t
+sized_by o t e f = ap (outcome_if_fits true) e ∙ ap (λ b. cond b (Accepts t) Nospc) f
 
 adds : (s t : State) (v : Tree) → Added s t v → step s (add v) ≡ Accepts t
 adds s t v a =
-    ap (λ b. cond b Inval (sized (nat_lt (length (encoded_body v)) size_limit) (placed s.closed s.opened v))) a.nul
-    ∙ ap (λ b. sized b (placed s.closed s.opened v)) (lt_test (length (encoded_body v)) size_limit a.small)
-    ∙ sized_by (placed s.closed s.opened v) t a.place a.fit
+    ap (λ b. cond b Inval (outcome_if_fits (nat_lt (length (encoded_body v)) size_limit) (state_with_value s.closed s.opened v))) a.nul
+    ∙ ap (λ b. outcome_if_fits b (state_with_value s.closed s.opened v)) (lt_test (length (encoded_body v)) size_limit a.small)
+    ∙ sized_by (state_with_value s.closed s.opened v) t a.place a.fit
 
 some_same : (s t : State) → Some s ≡ Some t → s ≡ t
 some_same s t e = cc
@@ -180,15 +180,15 @@ takes_by true f = refl
 takes_by false f = absurd (f refl)
 
 -- a value of no fixed size comes where any tree may stand
-takes_it : (s t : State) (v : Tree) → ((x : Fixed) → v ≢ fixed x) → placed s.closed s.opened v ≡ Some t →
+takes_it : (s t : State) (v : Tree) → ((x : Fixed) → v ≢ fixed x) → state_with_value s.closed s.opened v ≡ Some t →
     takes_trees s.opened ≡ true
 takes_it s t v n e = takes_by (takes_trees s.opened) (λ h. absurd (none_some t (sym (no_element s.closed s.opened v n h) ∙ e)))
 
 -- ---- what is begun, keyed and closed
 
 starts : (s : State) (p : Partial) → takes_trees s.opened ≡ true → all_fit 0 (p ∷ s.opened) ≡ true →
-    sized true (begun p s) ≡ Accepts (record { closed = s.closed; opened = p ∷ s.opened })
-starts s p h f = sized_by (begun p s) (record { closed = s.closed; opened = p ∷ s.opened }) (begun_is s p h) f
+    outcome_if_fits true (state_with_tree p s) ≡ Accepts (record { closed = s.closed; opened = p ∷ s.opened })
+starts s p h f = sized_by (state_with_tree p s) (record { closed = s.closed; opened = p ∷ s.opened }) (begun_is s p h) f
 
 abbrev inside : Trees → Partial → List Partial → State
 inside closed p ps = record { closed = closed; opened = p ∷ ps }
@@ -204,24 +204,24 @@ properties_behind no_properties k f v ps = refl
 properties_behind (property j g w qs) k f v ps = ap (property j g w) (properties_behind qs k f v ps)
 
 closes_so : (closed : Trees) (p : Partial) (ps : List Partial) (n : ℕ) (t : State) → n ≡ length (p ∷ ps) →
-    (v : Tree) → closes closed (p ∷ ps) (length (p ∷ ps)) ≡ placed closed ps v →
-    placed closed ps v ≡ Some t → taken (closes closed (p ∷ ps) n) ≡ Accepts t
+    (v : Tree) → state_after_pop closed (p ∷ ps) (length (p ∷ ps)) ≡ state_with_value closed ps v →
+    state_with_value closed ps v ≡ Some t → outcome_of (state_after_pop closed (p ∷ ps) n) ≡ Accepts t
 closes_so closed p ps n t l v e f =
-    ap (λ m. taken (closes closed (p ∷ ps) m)) l ∙ ap taken (e ∙ f)
+    ap (λ m. outcome_of (state_after_pop closed (p ∷ ps) m)) l ∙ ap outcome_of (e ∙ f)
 
 same_count : (n : ℕ) → nat_eq n n ≡ true
 same_count n = eq-eqb n n refl
 
 struct_closes : (closed : Trees) (vs : Trees) (ps : List Partial) →
-    closes closed (open_struct vs ∷ ps) (length (open_struct vs ∷ ps)) ≡ placed closed ps (struct vs)
-struct_closes closed vs ps = ap (λ b. cond b (placed closed ps (struct vs)) None) (same_count (length (open_struct vs ∷ ps)))
+    state_after_pop closed (open_struct vs ∷ ps) (length (open_struct vs ∷ ps)) ≡ state_with_value closed ps (struct vs)
+struct_closes closed vs ps = ap (λ b. cond b (state_with_value closed ps (struct vs)) None) (same_count (length (open_struct vs ∷ ps)))
 
 object_closes : (closed : Trees) (t i : ℕ) (qs : Properties) (ps : List Partial) →
-    closes closed (open_object t i qs ∷ ps) (length (open_object t i qs ∷ ps)) ≡ placed closed ps (object t i qs)
+    state_after_pop closed (open_object t i qs ∷ ps) (length (open_object t i qs ∷ ps)) ≡ state_with_value closed ps (object t i qs)
 object_closes closed t i qs ps =
-    ap (λ b. cond b (placed closed ps (object t i qs)) None) (same_count (length (open_object t i qs ∷ ps)))
+    ap (λ b. cond b (state_with_value closed ps (object t i qs)) None) (same_count (length (open_object t i qs ∷ ps)))
 
-alone : (s t : State) (v : Tree) → step s (add v) ≡ Accepts t → spelled_from s (add v ∷ []) ≡ Some t
+alone : (s t : State) (v : Tree) → step s (add v) ≡ Accepts t → state_from s (add v ∷ []) ≡ Some t
 alone s t v e = first_accepted s t (add v) [] e
 
 members_end : (ws : Trees) → join_members ws no_trees ≡ ws
@@ -242,7 +242,7 @@ object_not_fixed t i ps x e = cc
 
 mutual
   pub made : (v : Tree) (s t : State) → step s (add v) ≡ Accepts t →
-      spelled_from s (calls_for (length s.opened) v) ≡ Some t
+      state_from s (calls_for (length s.opened) v) ≡ Some t
   made (fixed x) s t e = alone s t (fixed x) e
   made (string x) s t e = alone s t (string x) e
   made (bytes x) s t e = alone s t (bytes x) e
@@ -288,7 +288,7 @@ mutual
 
   members_made : (vs ws : Trees) (closed : Trees) (ps : List Partial) (n : ℕ) → n ≡ length ps + 1 →
       some_has_nul vs ≡ false → all_fit 0 (open_struct (join_members ws vs) ∷ ps) ≡ true →
-      spelled_from (inside closed (open_struct ws) ps) (member_calls n vs) ≡
+      state_from (inside closed (open_struct ws) ps) (member_calls n vs) ≡
       Some (inside closed (open_struct (join_members ws vs)) ps)
   members_made no_trees ws closed ps n l c f = ap (λ us. Some (inside closed (open_struct us) ps)) (sym (members_end ws))
   members_made (member v vs) ws closed ps n l c f =
@@ -303,7 +303,7 @@ mutual
       let k = ltb-true (own_size (open_struct (join_members ws (member v vs))) + 0) size_limit (both _ _ f).0 in
       let fit = fits_under (open_struct (with_tree ws v)) (open_struct (join_members ws (member v vs))) ps 0 0 (omega arith) f in
       let one = adds u to v (record { nul = d.0; small = omega arith; place = refl; fit = fit }) in
-      let first = subst (λ m. spelled_from u (calls_for m v) ≡ Some to) (omega arith) (made v u to one) in
+      let first = subst (λ m. state_from u (calls_for m v) ≡ Some to) (omega arith) (made v u to one) in
       joined u to (calls_for n v) (member_calls n vs) first
       ∙ members_made vs (with_tree ws v) closed ps n l d.1
       (ap (λ us. all_fit 0 (open_struct us ∷ ps)) same ∙ f)
@@ -311,7 +311,7 @@ mutual
 
   properties_made : (qs ws : Properties) (t i : ℕ) (closed : Trees) (ps : List Partial) (n : ℕ) → n ≡ length ps + 1 →
       some_value_has_nul qs ≡ false → all_fit 0 (open_object t i (join_properties ws qs) ∷ ps) ≡ true →
-      spelled_from (inside closed (open_object t i ws) ps) (property_calls n qs) ≡
+      state_from (inside closed (open_object t i ws) ps) (property_calls n qs) ≡
       Some (inside closed (open_object t i (join_properties ws qs)) ps)
   properties_made no_properties ws t i closed ps n l c f =
       ap (λ us. Some (inside closed (open_object t i us) ps)) (sym (properties_end ws))
@@ -334,9 +334,9 @@ mutual
       let fit = fits_under (open_object t i (with_property ws k g v))
       (open_object t i (join_properties ws (property k g v qs))) ps 0 0 (omega arith) f in
       let one = adds waiting to v (record { nul = d.0; small = omega arith; place = refl; fit = fit }) in
-      let first = subst (λ m. spelled_from waiting (calls_for m v) ≡ Some to) (omega arith) (made v waiting to one) in
+      let first = subst (λ m. state_from waiting (calls_for m v) ≡ Some to) (omega arith) (made v waiting to one) in
       first_accepted u waiting (add_prop k g) (calls_for n v ++ property_calls n qs)
-      (sized_by (keyed closed (open_object t i ws ∷ ps) k g) waiting refl keyed_fit)
+      (sized_by (state_with_key closed (open_object t i ws ∷ ps) k g) waiting refl keyed_fit)
       ∙ joined waiting to (calls_for n v) (property_calls n qs) first
       ∙ properties_made qs (with_property ws k g v) t i closed ps n l d.1
       (ap (λ us. all_fit 0 (open_object t i us ∷ ps)) same ∙ f)
@@ -373,24 +373,24 @@ small_value (pointer t a) h = let l = length-pointer t a in omega arith
 small_value (struct vs) h = not_least _ _ (λ l. h (inl l))
 small_value (object t i ps) h = not_least _ _ (λ l. h (inl l))
 
-pub from_start : (v : Tree) → IsWritable v → step start (add v) ≡ Accepts (built v)
-from_start v w = adds start (built v) v (record {
+pub from_start : (v : Tree) → IsWritable v → step start (add v) ≡ Accepts (state_of_value v)
+from_start v w = adds start (state_of_value v) v (record {
   nul = clean v w.no_nul;
   small = small_value v w.fits;
   place = refl;
   fit = refl;
 })
 
-pub made_from_start : (v : Tree) → IsWritable v → spelled (calls_for 0 v) ≡ Some (built v)
-made_from_start v w = made v start (built v) (from_start v w)
+pub made_from_start : (v : Tree) → IsWritable v → state_after_calls (calls_for 0 v) ≡ Some (state_of_value v)
+made_from_start v w = made v start (state_of_value v) (from_start v w)
 
 -- ---- how many trees are open behind a call
 
-taken_some : (o : Option State) (u : State) → taken o ≡ Accepts u → o ≡ Some u
+taken_some : (o : Option State) (u : State) → outcome_of o ≡ Accepts u → o ≡ Some u
 taken_some None u e = absurd (cc)
 taken_some (Some s) u e = cc
 
-sized_some : (o : Option State) (u : State) → sized true o ≡ Accepts u → o ≡ Some u
+sized_some : (o : Option State) (u : State) → outcome_if_fits true o ≡ Accepts u → o ≡ Some u
 sized_some o u e = (accepted_by false true o u e).2
 
 open_in : (s u : State) → Some s ≡ Some u → length u.opened ≡ length s.opened
@@ -402,12 +402,12 @@ open_added : (o : Option Partial) (closed : Trees) (p : Partial) (ps : List Part
 open_added (Some q) closed p ps u e = open_in (inside closed q ps) u e
 open_added None closed p ps u e = absurd (cc)
 
-open_placed : (closed : Trees) (ps : List Partial) (v : Tree) (u : State) → placed closed ps v ≡ Some u →
+open_placed : (closed : Trees) (ps : List Partial) (v : Tree) (u : State) → state_with_value closed ps v ≡ Some u →
     length u.opened ≡ length ps
 open_placed closed [] v u e = open_in (record { closed = with_tree closed v; opened = [] }) u e
-open_placed closed (p ∷ ps) v u e = open_added (added p v) closed p ps u e
+open_placed closed (p ∷ ps) v u e = open_added (tree_with_value p v) closed p ps u e
 
-open_keyed : (closed : Trees) (ps : List Partial) (k f : ℕ) (u : State) → keyed closed ps k f ≡ Some u →
+open_keyed : (closed : Trees) (ps : List Partial) (k f : ℕ) (u : State) → state_with_key closed ps k f ≡ Some u →
     length u.opened ≡ length ps
 open_keyed closed [] k f u e = absurd (cc)
 open_keyed closed (open_struct vs ∷ ps) k f u e = absurd (cc)
@@ -422,14 +422,14 @@ open_begun true s p u e = let l = open_in (inside s.closed p s.opened) u e in om
 open_begun false s p u e = absurd (cc)
 
 open_choice_begun : (o : Option Shape) (f : ℕ) (s u : State) →
-    (elim o as (λ _. Outcome) [ Some h ↦ sized true (begun (open_choice h f []) s) | None ↦ Inval ]) ≡ Accepts u →
+    (elim o as (λ _. Outcome) [ Some h ↦ outcome_if_fits true (state_with_tree (open_choice h f []) s) | None ↦ Inval ]) ≡ Accepts u →
     length u.opened ≡ length s.opened + 1
 open_choice_begun (Some h) f s u e =
-    open_begun (takes_trees s.opened) s (open_choice h f []) u (sized_some (begun (open_choice h f []) s) u e)
+    open_begun (takes_trees s.opened) s (open_choice h f []) u (sized_some (state_with_tree (open_choice h f []) s) u e)
 open_choice_begun None f s u e = absurd (cc)
 
 open_finished : (o : Option Tree) (closed : Trees) (ps : List Partial) (u : State) →
-    (elim o as (λ _. Option State) [ Some v ↦ placed closed ps v | None ↦ None ]) ≡ Some u → length u.opened ≡ length ps
+    (elim o as (λ _. Option State) [ Some v ↦ state_with_value closed ps v | None ↦ None ]) ≡ Some u → length u.opened ≡ length ps
 open_finished (Some v) closed ps u e = open_placed closed ps v u e
 open_finished None closed ps u e = absurd (cc)
 
@@ -437,14 +437,14 @@ only_true : (b : Bool) (o : Option State) (u : State) → cond b o None ≡ Some
 only_true true o u e = e
 only_true false o u e = absurd (cc)
 
-open_closed : (closed : Trees) (ps : List Partial) (frame : ℕ) (u : State) → closes closed ps frame ≡ Some u →
+open_closed : (closed : Trees) (ps : List Partial) (frame : ℕ) (u : State) → state_after_pop closed ps frame ≡ Some u →
     length u.opened ≡ length ps - 1
 open_closed closed [] frame u e = absurd (cc)
 open_closed closed (p ∷ ps) frame u e =
-    let l = open_finished (finished p) closed ps u (only_true (nat_eq frame (length (p ∷ ps))) _ u e) in
+    let l = open_finished (closed_value p) closed ps u (only_true (nat_eq frame (length (p ∷ ps))) _ u e) in
     omega arith
 
-open_left : (closed : Trees) (ps : List Partial) (frame : ℕ) (u : State) → abandoned closed ps frame ≡ Some u →
+open_left : (closed : Trees) (ps : List Partial) (frame : ℕ) (u : State) → state_after_abandon closed ps frame ≡ Some u →
     length u.opened ≡ length ps - 1
 open_left closed [] frame u e = absurd (cc)
 open_left closed (p ∷ ps) frame u e =
@@ -453,25 +453,25 @@ open_left closed (p ∷ ps) frame u e =
 
 open_after : (c : Call) (s u : State) → step s c ≡ Accepts u → length u.opened ≡ open_behind (length s.opened) c
 open_after (add v) s u e = open_placed s.closed s.opened v u (added_so s u v e).place
-open_after (add_prop k f) s u e = open_keyed s.closed s.opened k f u (sized_some (keyed s.closed s.opened k f) u e)
+open_after (add_prop k f) s u e = open_keyed s.closed s.opened k f u (sized_some (state_with_key s.closed s.opened k f) u e)
 open_after push_struct s u e =
-    open_begun (takes_trees s.opened) s (open_struct no_trees) u (sized_some (begun (open_struct no_trees) s) u e)
+    open_begun (takes_trees s.opened) s (open_struct no_trees) u (sized_some (state_with_tree (open_struct no_trees) s) u e)
 open_after (push_object t i) s u e =
     open_begun (takes_trees s.opened) s (open_object t i no_properties) u
-    (sized_some (begun (open_object t i no_properties) s) u e)
+    (sized_some (state_with_tree (open_object t i no_properties) s) u e)
 open_after push_array s u e =
-    open_begun (takes_trees s.opened) s (open_array []) u (sized_some (begun (open_array []) s) u e)
+    open_begun (takes_trees s.opened) s (open_array []) u (sized_some (state_with_tree (open_array []) s) u e)
 open_after (push_choice h f) s u e = open_choice_begun (shape_of h) f s u e
-open_after (pop frame) s u e = open_closed s.closed s.opened frame u (taken_some (closes s.closed s.opened frame) u e)
+open_after (pop frame) s u e = open_closed s.closed s.opened frame u (taken_some (state_after_pop s.closed s.opened frame) u e)
 open_after (abandon frame) s u e =
-    open_left s.closed s.opened frame u (taken_some (abandoned s.closed s.opened frame) u e)
+    open_left s.closed s.opened frame u (taken_some (state_after_abandon s.closed s.opened frame) u e)
 
 -- ---- a builder on its way
 
-pub begins : (v : Tree) (b : Held) → IsWritable v → IsAt b start → ComesTo 0 (built v) (calls_for 0 v) b
-begins v b w at = record { state = start; at = at; depth = refl; run = made v start (built v) (from_start v w) }
+pub begins : (v : Tree) (b : BuilderFields) → IsWritable v → IsAt b start → ComesTo 0 (state_of_value v) (calls_for 0 v) b
+begins v b w at = record { state = start; at = at; depth = refl; run = made v start (state_of_value v) (from_start v w) }
 
-goes_by : {A : Type 0} (o : Outcome) (n : ℕ) (t : State) (cs : List Call) (old new : Held) (r : Result A Errno) →
+goes_by : {A : Type 0} (o : Outcome) (n : ℕ) (t : State) (cs : List Call) (old new : BuilderFields) (r : Result A Errno) →
     ((u : State) → o ≡ Accepts u → length u.opened ≡ n) → then cs o ≡ Some t → Makes o old new r →
     MatchResult r (λ _. ComesTo n t cs new) (λ e. (e ≡ NOMEM) × (new ≡ old))
 goes_by (Accepts u) n t cs old new (Ok x) f e m = record { state = u; at = m; depth = f u refl; run = e }
@@ -479,23 +479,23 @@ goes_by (Accepts u) n t cs old new (Err x) f e m = m
 goes_by Inval n t cs old new r f e m = absurd (cc)
 goes_by Nospc n t cs old new r f e m = absurd (cc)
 
-pub goes_on : {A : Type 0} (n : ℕ) (t : State) (c : Call) (cs : List Call) (old new : Held) (r : Result A Errno) →
+pub goes_on : {A : Type 0} (n : ℕ) (t : State) (c : Call) (cs : List Call) (old new : BuilderFields) (r : Result A Errno) →
     ComesTo n t (c ∷ cs) old → ((s : State) → IsAt old s → Makes (step s c) old new r) →
     MatchResult r (λ _. ComesTo (open_behind n c) t cs new) (λ e. (e ≡ NOMEM) × (new ≡ old))
 goes_on n t c cs old new r h f =
     goes_by (step h.state c) (open_behind n c) t cs old new r
     (λ u e. open_after c h.state u e ∙ ap (λ m. open_behind m c) h.depth) h.run (f h.state h.at)
 
-arrives : (n : ℕ) (t : State) (b : Held) → ComesTo n t [] b → IsAt b t
+arrives : (n : ℕ) (t : State) (b : BuilderFields) → ComesTo n t [] b → IsAt b t
 arrives n t b h = subst (IsAt b) (some_same h.state t h.run) h.at
 
-pub at_end : (n : ℕ) (t : State) (c : Call) (old new : Held) (r : Result (Unit {0}) Errno) → ComesTo n t (c ∷ []) old →
+pub at_end : (n : ℕ) (t : State) (c : Call) (old new : BuilderFields) (r : Result (Unit {0}) Errno) → ComesTo n t (c ∷ []) old →
     ((s : State) → IsAt old s → Makes (step s c) old new r) → OnOk r (IsAt new t) × IfErr r (λ e. e ≡ NOMEM)
 at_end n t c old new (Ok x) h f = (arrives (open_behind n c) t new (goes_on n t c [] old new (Ok x) h f), tt)
 at_end n t c old new (Err e) h f = (tt, (goes_on {A = Unit {0}} n t c [] old new (Err e) h f).0)
 
 -- the frame of what is closed is the number of open trees, as it was answered
-pub closed_by : (n m frame : ℕ) (t : State) (cs : List Call) (b : Held) → frame ≡ m → ComesTo n t (pop m ∷ cs) b →
+pub closed_by : (n m frame : ℕ) (t : State) (cs : List Call) (b : BuilderFields) → frame ≡ m → ComesTo n t (pop m ∷ cs) b →
     ComesTo n t (pop frame ∷ cs) b
 closed_by n m frame t cs b e h = subst (λ k. ComesTo n t (pop k ∷ cs) b) (sym e) h
 

@@ -9,8 +9,8 @@ use Rattle.spa_format.specs.Tree.{shape_number, fixed, Trees, array_type, choice
 use Rattle.spa_format.specs.Encoding.{array_body, fixed_bodies, member_encodings}
 use Rattle.spa_format.proofs.Elements.{bodies_push}
 use Rattle.spa_builder.specs.State.{Partial, open_struct, open_object, open_property, open_array, open_choice, State}
-use Rattle.spa_builder.specs.Step.{all_fit, takes_trees, placed, child_kind, array_takes}
-use Rattle.spa_builder.specs.Held.{Held, IsAt, IsNested, IsFair, so_far, all_so_far, body_so_far, type_of_partial, frames_of}
+use Rattle.spa_builder.specs.Step.{all_fit, takes_trees, state_with_value, child_kind, array_takes}
+use Rattle.spa_builder.specs.Fields.{BuilderFields, IsAt, IsNested, IsFair, so_far, all_so_far, body_so_far, type_of_partial, frames_of}
 use Rattle.spa_builder.specs.Innermost.{has_room_for, has_elements, takes_elements, is_first, takes_element, with_element}
 use Rattle.spa_builder.proofs.Lengths.{length-word_bytes, length-behind_two, length-two}
 use Rattle.spa_builder.proofs.Sizes.{one_size_decides, room_later, length-array_body}
@@ -97,7 +97,7 @@ element_fit p ps x n l h t k =
 
 pub element_placed : (closed : Trees) (p : Partial) (ps : List Partial) (x : Fixed) →
     has_elements p ≡ true → takes_element p x ≡ true →
-    placed closed (p ∷ ps) (fixed x) ≡ Some
+    state_with_value closed (p ∷ ps) (fixed x) ≡ Some
     (record { closed = closed; opened = with_element p x ∷ ps })
 element_placed closed (open_struct vs) ps x h t = absurd (cc)
 element_placed closed (open_object a b c) ps x h t = absurd (cc)
@@ -110,7 +110,7 @@ element_placed closed (open_choice k f xs) ps x h t =
     [ Some q ↦ Some (record { closed = closed; opened = q ∷ ps }) | None ↦ None ]) t
 
 pub element_not : (closed : Trees) (p : Partial) (ps : List Partial) (x : Fixed) →
-    has_elements p ≡ true → takes_element p x ≡ false → placed closed (p ∷ ps) (fixed x) ≡ None
+    has_elements p ≡ true → takes_element p x ≡ false → state_with_value closed (p ∷ ps) (fixed x) ≡ None
 element_not closed (open_struct vs) ps x h t = absurd (cc)
 element_not closed (open_object a b c) ps x h t = absurd (cc)
 element_not closed (open_property a b c d e) ps x h t = absurd (cc)
@@ -178,7 +178,7 @@ first_after (open_choice k f []) x h t =
     (word_bytes (type_number (kind_of x)) ++ l)))))) (append-nil (fixed_body x)) ∙ simp append_assoc
 first_after (open_choice k f (y ∷ ys)) x h t = absurd (cc)
 
-pub is_element : (new : Held) (closed : Trees) (p : Partial) (ps : List Partial) (x : Fixed) →
+pub is_element : (new : BuilderFields) (closed : Trees) (p : Partial) (ps : List Partial) (x : Fixed) →
     IsNested (p ∷ ps) → takes_element p x ≡ true →
     new.bytes ≡ (member_encodings closed ++ all_so_far ps) ++ so_far (with_element p x) →
     new.frames ≡ frames_of (length (member_encodings closed)) (with_element p x ∷ ps) →
@@ -193,7 +193,7 @@ is_element new closed p ps x k t b f g = record {
 
 -- a value of a fixed size taken nowhere else
 pub no_place : (closed : Trees) (ps : List Partial) (x : Fixed) → takes_elements ps ≡ false →
-    takes_trees ps ≡ false → placed closed ps (fixed x) ≡ None
+    takes_trees ps ≡ false → state_with_value closed ps (fixed x) ≡ None
 no_place closed [] x h t = absurd (cc)
 no_place closed (open_struct vs ∷ ps) x h t = absurd (cc)
 no_place closed (open_object a b c ∷ ps) x h t = refl

@@ -6,9 +6,9 @@ use Rattle.spa_format.specs.Words.{extent, size_limit}
 use Rattle.spa_format.specs.Tree.{Tree}
 use Rattle.spa_format.specs.Encoding.{encoded_body, encoding_of, member_encodings}
 use Rattle.spa_builder.specs.State.{State}
-use Rattle.spa_builder.specs.Step.{all_fit, placed, sized, takes_trees}
-use Rattle.spa_builder.specs.Held.{Held, IsAt, frames_of}
-use Rattle.spa_builder.specs.Innermost.{filled}
+use Rattle.spa_builder.specs.Step.{all_fit, state_with_value, outcome_if_fits, takes_trees}
+use Rattle.spa_builder.specs.Fields.{BuilderFields, IsAt, frames_of}
+use Rattle.spa_builder.specs.Innermost.{trees_with_value}
 use Rattle.spa_builder.specs.Answers.{IsAdmitted, Makes}
 use Rattle.spa_utils.specs.declared.errno.Errno.{Errno}
 use Rattle.spa_utils.specs.declared.errno.TheConstants.Errno.{NOMEM}
@@ -24,24 +24,24 @@ left_false : (b c : Bool) → b ≡ false → (b && c) ≡ false
 left_false true c e = absurd (cc)
 left_false false c e = refl
 
-refused_so : (s : State) (v : Tree) (old : Held) (n : ℕ) (e : Errno) → IsAt old s → IsSizeOf n v →
-    (takes_trees s.opened ≡ false → placed s.closed s.opened v ≡ None) →
+refused_so : (s : State) (v : Tree) (old : BuilderFields) (n : ℕ) (e : Errno) → IsAt old s → IsSizeOf n v →
+    (takes_trees s.opened ≡ false → state_with_value s.closed s.opened v ≡ None) →
     IsAdmitted n s.opened (Err e) →
-    Makes {A = Unit {0}} (sized (nat_lt (length (encoded_body v)) size_limit)
-    (placed s.closed s.opened v)) old old (Err e)
+    Makes {A = Unit {0}} (outcome_if_fits (nat_lt (length (encoded_body v)) size_limit)
+    (state_with_value s.closed s.opened v)) old old (Err e)
 refused_so s v old n e at size none (inl h) =
     subst (λ x. Makes {A = Unit {0}}
-    (sized (nat_lt (length (encoded_body v)) size_limit) (placed s.closed s.opened v)) old old
+    (outcome_if_fits (nat_lt (length (encoded_body v)) size_limit) (state_with_value s.closed s.opened v)) old old
     (Err x)) (sym h.0) (sized_inval _ _ _ old (none h.1))
 refused_so s v old n e at size none (inr (h, t, inl l)) =
     subst (λ x. Makes {A = Unit {0}}
-    (sized (nat_lt (length (encoded_body v)) size_limit) (placed s.closed s.opened v)) old old
+    (outcome_if_fits (nat_lt (length (encoded_body v)) size_limit) (state_with_value s.closed s.opened v)) old old
     (Err x)) (sym h)
     (sized_nospc _ _ _ (after s.closed s.opened v) old (placed_is s.closed s.opened v t)
     (left_false _ _ (not_above _ _ (size.large l))))
 refused_so s v old n e at size none (inr (h, t, inr (l, r))) =
     subst (λ x. Makes {A = Unit {0}}
-    (sized (nat_lt (length (encoded_body v)) size_limit) (placed s.closed s.opened v)) old old
+    (outcome_if_fits (nat_lt (length (encoded_body v)) size_limit) (state_with_value s.closed s.opened v)) old old
     (Err x)) (sym h)
     (sized_nospc _ _ _ (after s.closed s.opened v) old (placed_is s.closed s.opened v t)
     (and_false _ _ (added_fit s.opened v (extent n) (ap extent (size.exact l)) t at.nested
@@ -51,22 +51,22 @@ pub passed : {A : Type 0} (r : Result A Errno) (e : Errno) → IsErrAnd r (λ y.
 passed r e h = let p = err_from_is_err_and r h in rw (p.1, p.2) refl
 
 -- refused by the test
-pub not_admitted : (s : State) (v : Tree) (old : Held) (n : ℕ) (e : Errno)
+pub not_admitted : (s : State) (v : Tree) (old : BuilderFields) (n : ℕ) (e : Errno)
     (r : Result (Unit {0}) Errno) → IsErrAnd r (λ y. y ≡ e) → IsAt old s → IsSizeOf n v →
-    (takes_trees s.opened ≡ false → placed s.closed s.opened v ≡ None) →
+    (takes_trees s.opened ≡ false → state_with_value s.closed s.opened v ≡ None) →
     IsAdmitted n s.opened (Err e) →
-    Makes {A = Unit {0}} (sized (nat_lt (length (encoded_body v)) size_limit)
-    (placed s.closed s.opened v)) old old r
+    Makes {A = Unit {0}} (outcome_if_fits (nat_lt (length (encoded_body v)) size_limit)
+    (state_with_value s.closed s.opened v)) old old r
 not_admitted s v old n e r h at size none k =
     subst (Makes {A = Unit {0}}
-    (sized (nat_lt (length (encoded_body v)) size_limit) (placed s.closed s.opened v)) old old)
+    (outcome_if_fits (nat_lt (length (encoded_body v)) size_limit) (state_with_value s.closed s.opened v)) old old)
     (sym (passed r e h)) (refused_so s v old n e at size none k)
 
 -- admitted, and refused for lack of memory
-pub admitted_nomem : (s : State) (v : Tree) (old new : Held) (n : ℕ) (x : Unit {0})
+pub admitted_nomem : (s : State) (v : Tree) (old new : BuilderFields) (n : ℕ) (x : Unit {0})
     (r : Result (Unit {0}) Errno) → IsAt old s → IsSizeOf n v → IsAdmitted n s.opened (Ok x) →
     r ≡ Err NOMEM → new ≡ old →
-    Makes (sized (nat_lt (length (encoded_body v)) size_limit) (placed s.closed s.opened v)) old new
+    Makes (outcome_if_fits (nat_lt (length (encoded_body v)) size_limit) (state_with_value s.closed s.opened v)) old new
     r
 admitted_nomem s v old new n x r at size k e f =
     sized_nomem _ _ (after s.closed s.opened v) old new r
@@ -75,14 +75,14 @@ admitted_nomem s v old new n x r at size k e f =
     (added_fit s.opened v (extent n) (ap extent (size.exact k.1)) k.0 at.nested ∙ k.2) e f
 
 -- admitted, and added
-pub admitted : (s : State) (v : Tree) (old new : Held) (n : ℕ) (x y : Unit {0}) → IsAt old s →
+pub admitted : (s : State) (v : Tree) (old new : BuilderFields) (n : ℕ) (x y : Unit {0}) → IsAt old s →
     IsSizeOf n v → IsAdmitted n s.opened (Ok x) → new.bytes ≡ old.bytes ++ encoding_of v →
     (takes_trees s.opened ≡ true → new.frames ≡ frames_of (length (member_encodings s.closed))
-    (filled s.opened v)) → Makes
-    (sized (nat_lt (length (encoded_body v)) size_limit) (placed s.closed s.opened v)) old new
+    (trees_with_value s.opened v)) → Makes
+    (outcome_if_fits (nat_lt (length (encoded_body v)) size_limit) (state_with_value s.closed s.opened v)) old new
     (Ok y)
 admitted s v old new n x y at size k b f =
-    let fit : all_fit 0 (filled s.opened v) ≡ true =
+    let fit : all_fit 0 (trees_with_value s.opened v) ≡ true =
     added_fit s.opened v (extent n) (ap extent (size.exact k.1)) k.0 at.nested ∙ k.2 in
     sized_goes _ _ (after s.closed s.opened v) old new y
     (lt_test _ _ (subst (λ m. m < size_limit) (size.exact k.1) k.1))

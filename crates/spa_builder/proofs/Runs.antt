@@ -4,9 +4,9 @@ use Rattle.std.specs.Prelude.{Option, Some, None}
 use Rattle.std.proofs.lemmas.List.{take_more, map-append, take_all, length-map}
 use Rattle.spa_builder.specs.State.{State, start}
 use Rattle.spa_builder.specs.Step.{Call, Outcome, Accepts, Inval, Nospc, step}
-use Rattle.spa_builder.specs.Held.{Held, IsAt}
+use Rattle.spa_builder.specs.Fields.{BuilderFields, IsAt}
 use Rattle.spa_builder.specs.Answers.{Makes}
-use Rattle.spa_builder.specs.Replay.{Answer, IsAnswered, AreAnswered, behind, accepted, spelled_from, call_of, calls_of, IsRunning}
+use Rattle.spa_builder.specs.Replay.{Answer, IsAnswered, AreAnswered, behind, accepted_calls, state_from, call_of, calls_of, IsRunning}
 use Rattle.spa_builder.specs.declared.build_call.BuildCall.{BuildCall}
 use Rattle.spa_utils.specs.declared.errno.Errno.{Errno}
 
@@ -16,7 +16,7 @@ behind_all s [] rs = s
 behind_all s (c ∷ cs) [] = s
 behind_all s (c ∷ cs) (r ∷ rs) = behind_all (behind s (step s c) r) cs rs
 
-pub made : (o : Outcome) (s : State) (old new : Held) (r : Answer) → IsAt old s →
+pub made : (o : Outcome) (s : State) (old new : BuilderFields) (r : Answer) → IsAt old s →
     Makes o old new r → IsAnswered o r × IsAt new (behind s o r)
 made (Accepts t) s old new (Ok x) at m = (tt, m)
 made (Accepts t) s old new (Err e) at m = (m.0, subst (λ h. IsAt h s) (sym m.1) at)
@@ -49,8 +49,8 @@ as_many s (c ∷ cs) [] h = absurd h
 as_many s (c ∷ cs) (r ∷ rs) h = let e = as_many (behind s (step s c) r) cs rs h.1 in omega arith
 
 goes_on : (o : Outcome) (s : State) (cs : List Call) (x : Unit {0}) → IsAnswered o (Ok x) →
-    (elim o as (λ _. Option State) [ Accepts t ↦ spelled_from t cs | Inval ↦ None | Nospc ↦ None ])
-    ≡ spelled_from (behind s o (Ok x)) cs
+    (elim o as (λ _. Option State) [ Accepts t ↦ state_from t cs | Inval ↦ None | Nospc ↦ None ])
+    ≡ state_from (behind s o (Ok x)) cs
 goes_on (Accepts t) s cs x h = refl
 goes_on Inval s cs x h = absurd h
 goes_on Nospc s cs x h = absurd h
@@ -62,23 +62,23 @@ stays Nospc s e = refl
 
 -- the calls that were taken word_bytes the state behind all
 pub spelled_is : (s : State) (cs : List Call) (rs : List Answer) → AreAnswered s cs rs →
-    spelled_from s (accepted cs rs) ≡ Some (behind_all s cs rs)
+    state_from s (accepted_calls cs rs) ≡ Some (behind_all s cs rs)
 spelled_is s [] [] h = refl
 spelled_is s [] (r ∷ rs) h = absurd h
 spelled_is s (c ∷ cs) [] h = absurd h
-spelled_is s (c ∷ cs) (Ok x ∷ rs) h = goes_on (step s c) s (accepted cs rs) x h.0
+spelled_is s (c ∷ cs) (Ok x ∷ rs) h = goes_on (step s c) s (accepted_calls cs rs) x h.0
     ∙ spelled_is (behind s (step s c) (Ok x)) cs rs h.1
 spelled_is s (c ∷ cs) (Err e ∷ rs) h =
-    ap (λ t. spelled_from t (accepted cs rs)) (sym (stays (step s c) s e))
+    ap (λ t. state_from t (accepted_calls cs rs)) (sym (stays (step s c) s e))
     ∙ spelled_is (behind s (step s c) (Err e)) cs rs h.1
 
 -- what holds of a run so far
-pub record SoFar (calls : List BuildCall) (rs : List Answer) (builder : Held) : Type 0 where
+pub record SoFar (calls : List BuildCall) (rs : List Answer) (builder : BuilderFields) : Type 0 where
   pub answered : AreAnswered start (calls_of calls) rs
   pub at : IsAt builder (behind_all start (calls_of calls) rs)
 
 pub so_far_more : (calls : List BuildCall) (i : ℕ) (d : BuildCall) (rs rs' : List Answer)
-    (r : Answer) (old new : Held) → i < length calls → rs' ≡ rs ++ r ∷ [] →
+    (r : Answer) (old new : BuilderFields) → i < length calls → rs' ≡ rs ++ r ∷ [] →
     SoFar (take i calls) rs old →
     ((s : State) → IsAt old s → Makes (step s (call_of (get_or calls i d))) old new r) →
     SoFar (take (i + 1) calls) rs' new
@@ -96,12 +96,12 @@ so_far_more calls i d rs rs' r old new l g h m =
           (subst (IsAt new) (sym (behind_more start cs rs (call_of c) r h.answered)) k.1);
     })
 
-pub so_far_length : (calls : List BuildCall) (rs : List Answer) (builder : Held) →
+pub so_far_length : (calls : List BuildCall) (rs : List Answer) (builder : BuilderFields) →
     SoFar calls rs builder → length rs ≡ length calls
 so_far_length calls rs builder h = as_many start (calls_of calls) rs h.answered
     ∙ length-map calls call_of
 
-pub so_far_all : (calls : List BuildCall) (i : ℕ) (rs : List Answer) (builder : Held) →
+pub so_far_all : (calls : List BuildCall) (i : ℕ) (rs : List Answer) (builder : BuilderFields) →
     length calls ≤ i → SoFar (take i calls) rs builder → IsRunning (calls_of calls) rs builder
 so_far_all calls i rs builder l h =
     let e = take_all i calls l in

@@ -10,7 +10,7 @@ use Rattle.spa_format.specs.Normal.{kept_elements}
 use Rattle.spa_format.specs.Encoding.{array_body, fixed_bodies, property_encodings}
 use Rattle.spa_builder.specs.State.{Partial, open_struct, open_object, open_property, open_array, open_choice}
 use Rattle.spa_builder.specs.Step.{own_size, all_fit, takes_trees, child_kind}
-use Rattle.spa_builder.specs.Held.{body_so_far, so_far, all_so_far, type_of_partial, IsFair, IsNested}
+use Rattle.spa_builder.specs.Fields.{body_so_far, so_far, all_so_far, type_of_partial, IsFair, IsNested}
 use Rattle.spa_builder.specs.Innermost.{has_room_for}
 use Rattle.spa_builder.proofs.Lengths.{length-word_bytes, length-behind_two, members_whole, properties_whole}
 

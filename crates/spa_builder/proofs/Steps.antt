@@ -12,9 +12,9 @@ use Rattle.spa_format.specs.Tree.{Shape, Tree, fixed, string, bytes, bitmap, arr
 use Rattle.spa_format.specs.Encoding.{framed, encoding_of, member_encodings, property_encodings, encoded_body}
 use Rattle.spa_builder.proofs.Lengths.{length-word_bytes, members_joined, properties_joined, length-framed}
 use Rattle.spa_builder.specs.State.{Partial, open_struct, open_object, open_property, open_array, open_choice, State, start, with_tree, with_property}
-use Rattle.spa_builder.specs.Step.{all_fit, own_size, array_of, child_kind, takes_trees, placed, keyed, begun, closes, finished, sized, taken, Outcome, Accepts, Inval, Nospc}
-use Rattle.spa_builder.specs.Held.{Held, held, IsHeld, IsAt, IsNested, IsFair, so_far, all_so_far, body_so_far, type_of_partial, frames_of, what_of}
-use Rattle.spa_builder.specs.Innermost.{filled, closed_with, has_room_for, innermost_of, takes_key}
+use Rattle.spa_builder.specs.Step.{all_fit, own_size, array_of, child_kind, takes_trees, state_with_value, state_with_key, state_with_tree, state_after_pop, closed_value, outcome_if_fits, outcome_of, Outcome, Accepts, Inval, Nospc}
+use Rattle.spa_builder.specs.Fields.{BuilderFields, fields_of, HasState, IsAt, IsNested, IsFair, so_far, all_so_far, body_so_far, type_of_partial, frames_of, what_of}
+use Rattle.spa_builder.specs.Innermost.{trees_with_value, closed_with, has_room_for, innermost_of, takes_key}
 use Rattle.spa_builder.specs.Answers.{Makes, Spells}
 use Rattle.spa_utils.specs.declared.errno.Errno.{Errno}
 use Rattle.spa_utils.specs.declared.errno.TheConstants.Errno.{NOMEM, INVAL, NOSPC}
@@ -24,28 +24,28 @@ use borrow.Author.Tests.{ltb-true}
 
 -- ---- what the model says of a call that is settled
 
-pub sized_goes : {A : Type 0} (b : Bool) (o : Option State) (t : State) (old new : Held) (x : A) →
+pub sized_goes : {A : Type 0} (b : Bool) (o : Option State) (t : State) (old new : BuilderFields) (x : A) →
     b ≡ true → o ≡ Some t → all_fit 0 t.opened ≡ true → IsAt new t →
-    Makes (sized b o) old new (Ok x)
+    Makes (outcome_if_fits b o) old new (Ok x)
 sized_goes b o t old new x e f g h =
-    subst (λ c. Makes (sized c o) old new (Ok x)) (sym e)
-    (subst (λ p. Makes (sized true p) old new (Ok x)) (sym f)
+    subst (λ c. Makes (outcome_if_fits c o) old new (Ok x)) (sym e)
+    (subst (λ p. Makes (outcome_if_fits true p) old new (Ok x)) (sym f)
     (subst (λ c. Makes (cond c (Accepts t) Nospc) old new (Ok x)) (sym g) h))
 
-pub sized_nomem : {A : Type 0} (b : Bool) (o : Option State) (t : State) (old new : Held)
+pub sized_nomem : {A : Type 0} (b : Bool) (o : Option State) (t : State) (old new : BuilderFields)
     (r : Result A Errno) → b ≡ true → o ≡ Some t → all_fit 0 t.opened ≡ true → r ≡ Err NOMEM →
-    new ≡ old → Makes (sized b o) old new r
+    new ≡ old → Makes (outcome_if_fits b o) old new r
 sized_nomem {A = A} b o t old new r e f g i k =
-    subst (Makes {A = A} (sized b o) old new) (sym i)
-    (subst (λ c. Makes {A = A} (sized c o) old new (Err NOMEM)) (sym e)
-    (subst (λ p. Makes {A = A} (sized true p) old new (Err NOMEM)) (sym f)
+    subst (Makes {A = A} (outcome_if_fits b o) old new) (sym i)
+    (subst (λ c. Makes {A = A} (outcome_if_fits c o) old new (Err NOMEM)) (sym e)
+    (subst (λ p. Makes {A = A} (outcome_if_fits true p) old new (Err NOMEM)) (sym f)
     (subst (λ c. Makes {A = A} (cond c (Accepts t) Nospc) old new (Err NOMEM)) (sym g)
     (refl, k))))
 
-pub sized_nospc : (A : Type 0) (b : Bool) (o : Option State) (t : State) (old : Held) → o ≡ Some t →
-    (b && all_fit 0 t.opened) ≡ false → Makes {A = A} (sized b o) old old (Err NOSPC)
+pub sized_nospc : (A : Type 0) (b : Bool) (o : Option State) (t : State) (old : BuilderFields) → o ≡ Some t →
+    (b && all_fit 0 t.opened) ≡ false → Makes {A = A} (outcome_if_fits b o) old old (Err NOSPC)
 sized_nospc A b o t old f g =
-    subst (λ p. Makes {A = A} (sized b p) old old (Err NOSPC)) (sym f)
+    subst (λ p. Makes {A = A} (outcome_if_fits b p) old old (Err NOSPC)) (sym f)
     (subst (λ c. Makes {A = A} (cond c (Accepts t) Nospc) old old (Err NOSPC)) (sym g)
     (refl, refl))
 
@@ -64,10 +64,10 @@ and_false false c e = refl
 -- ---- a value that is placed
 
 abbrev pub after : Trees → List Partial → Tree → State
-after closed ps v = record { closed = closed_with closed ps v; opened = filled ps v }
+after closed ps v = record { closed = closed_with closed ps v; opened = trees_with_value ps v }
 
 pub placed_is : (closed : Trees) (ps : List Partial) (v : Tree) → takes_trees ps ≡ true →
-    placed closed ps v ≡ Some (after closed ps v)
+    state_with_value closed ps v ≡ Some (after closed ps v)
 placed_is closed [] v h = refl
 placed_is closed (open_struct vs ∷ ps) v h = refl
 placed_is closed (open_object t i qs ∷ ps) v h = absurd (cc)
@@ -97,7 +97,7 @@ property_more t i ps k f v =
 
 -- in an open tree
 grows : (p : Partial) (ps : List Partial) (v : Tree) → takes_trees (p ∷ ps) ≡ true →
-    all_so_far (filled (p ∷ ps) v) ≡ all_so_far (p ∷ ps) ++ encoding_of v
+    all_so_far (trees_with_value (p ∷ ps) v) ≡ all_so_far (p ∷ ps) ++ encoding_of v
 grows (open_struct vs) ps v h = grown struct_type (all_so_far ps) (member_encodings vs)
     (member_encodings (with_tree vs v)) (encoding_of v) (one_more vs v)
 grows (open_object t i qs) ps v h = absurd (cc)
@@ -107,7 +107,7 @@ grows (open_array xs) ps v h = absurd (cc)
 grows (open_choice k f xs) ps v h = absurd (cc)
 
 pub added_bytes : (closed : Trees) (ps : List Partial) (v : Tree) → takes_trees ps ≡ true →
-    member_encodings (closed_with closed ps v) ++ all_so_far (filled ps v) ≡
+    member_encodings (closed_with closed ps v) ++ all_so_far (trees_with_value ps v) ≡
     (member_encodings closed ++ all_so_far ps) ++ encoding_of v
 added_bytes closed [] v h = append-nil (member_encodings (with_tree closed v)) ∙ one_more closed v
     ∙ ap (λ l. l ++ encoding_of v) (sym (append-nil (member_encodings closed)))
@@ -115,12 +115,12 @@ added_bytes closed (p ∷ ps) v h = ap (λ l. member_encodings closed ++ l) (gro
     ∙ sym (append_assoc (member_encodings closed) (all_so_far (p ∷ ps)) (encoding_of v))
 
 added_frames : (closed : Trees) (ps : List Partial) (v : Tree) →
-    frames_of (length (member_encodings closed)) (filled ps v) ≡ frames_of
-    (length (member_encodings (closed_with closed ps v))) (filled ps v)
+    frames_of (length (member_encodings closed)) (trees_with_value ps v) ≡ frames_of
+    (length (member_encodings (closed_with closed ps v))) (trees_with_value ps v)
 added_frames closed [] v = refl
 added_frames closed (p ∷ ps) v = refl
 
-added_nested : (ps : List Partial) (v : Tree) → IsNested ps → IsNested (filled ps v)
+added_nested : (ps : List Partial) (v : Tree) → IsNested ps → IsNested (trees_with_value ps v)
 added_nested [] v k = tt
 added_nested (open_struct vs ∷ ps) v k = k
 added_nested (open_object t i qs ∷ ps) v k = k
@@ -128,7 +128,7 @@ added_nested (open_property t i qs l f ∷ ps) v k = k
 added_nested (open_array xs ∷ ps) v k = k
 added_nested (open_choice l f xs ∷ ps) v k = k
 
-length-filled : (ps : List Partial) (v : Tree) → length (filled ps v) ≡ length ps
+length-filled : (ps : List Partial) (v : Tree) → length (trees_with_value ps v) ≡ length ps
 length-filled [] v = refl
 length-filled (open_struct vs ∷ ps) v = refl
 length-filled (open_object t i qs ∷ ps) v = refl
@@ -137,20 +137,20 @@ length-filled (open_array xs ∷ ps) v = refl
 length-filled (open_choice l f xs ∷ ps) v = refl
 
 pub added_fit : (ps : List Partial) (v : Tree) (n : ℕ) → n ≡ extent (length (encoded_body v)) →
-    takes_trees ps ≡ true → IsNested ps → all_fit 0 (filled ps v) ≡ has_room_for n ps
+    takes_trees ps ≡ true → IsNested ps → all_fit 0 (trees_with_value ps v) ≡ has_room_for n ps
 added_fit [] v n l h k = refl
 added_fit (p ∷ ps) v n l h k =
-    one_size_decides (filled (p ∷ ps) v) (added_nested (p ∷ ps) v k)
-    ∙ room_later (p ∷ ps) (filled (p ∷ ps) v) n (length-filled (p ∷ ps) v)
+    one_size_decides (trees_with_value (p ∷ ps) v) (added_nested (p ∷ ps) v k)
+    ∙ room_later (p ∷ ps) (trees_with_value (p ∷ ps) v) n (length-filled (p ∷ ps) v)
     (ap length (grows p ps v h) ∙ length-append (all_so_far (p ∷ ps)) (encoding_of v)
     ∙ ap (λ m. length (all_so_far (p ∷ ps)) + m) (length-framed (type_of v) (encoded_body v)
     ∙ sym l))
 
 -- the bytes got the value's encoding_of, and the frames know it
-pub is_after : (closed : Trees) (ps : List Partial) (v : Tree) (front : List ℕ) (new : Held) →
+pub is_after : (closed : Trees) (ps : List Partial) (v : Tree) (front : List ℕ) (new : BuilderFields) →
     front ≡ member_encodings closed ++ all_so_far ps → IsNested ps → takes_trees ps ≡ true →
     new.bytes ≡ front ++ encoding_of v → new.frames ≡ frames_of (length (member_encodings closed))
-    (filled ps v) → all_fit 0 (filled ps v) ≡ true → IsAt new (after closed ps v)
+    (trees_with_value ps v) → all_fit 0 (trees_with_value ps v) ≡ true → IsAt new (after closed ps v)
 is_after closed ps v front new at nested h b f g = record {
   bytes = b ∙ ap (λ l. l ++ encoding_of v) at ∙ sym (added_bytes closed ps v h);
   frames = f ∙ added_frames closed ps v;
@@ -158,13 +158,13 @@ is_after closed ps v front new at nested h b f g = record {
   fit = g;
 }
 
-pub base_and_more : (old : Held) (s : State) → IsAt old s →
+pub base_and_more : (old : BuilderFields) (s : State) → IsAt old s →
     length old.bytes ≡ length (member_encodings s.closed) + length (all_so_far s.opened)
 base_and_more old s at = ap length at.bytes
     ∙ length-append (member_encodings s.closed) (all_so_far s.opened)
 
 -- what the test of room asks
-pub has_its_room : (old : Held) (s : State) → IsAt old s →
+pub has_its_room : (old : BuilderFields) (s : State) → IsAt old s →
     (base : ℕ) × (ps : List Partial) × (old.frames ≡ frames_of base ps) ×
     (length old.bytes ≡ base + length (all_so_far ps)) × IsTrue (has_room_for 0 ps)
 has_its_room old s at = (
@@ -179,22 +179,22 @@ has_its_room old s at = (
 -- ---- a tree that is begun
 
 pub begun_is : (s : State) (p : Partial) → takes_trees s.opened ≡ true →
-    begun p s ≡ Some (record { closed = s.closed; opened = p ∷ s.opened })
+    state_with_tree p s ≡ Some (record { closed = s.closed; opened = p ∷ s.opened })
 begun_is s p h = ap (λ b. cond b (Some (record { closed = s.closed; opened = p ∷ s.opened })) None)
     h
 
-pub begun_not : (s : State) (p : Partial) → takes_trees s.opened ≡ false → begun p s ≡ None
+pub begun_not : (s : State) (p : Partial) → takes_trees s.opened ≡ false → state_with_tree p s ≡ None
 begun_not s p h = ap (λ b. cond b (Some (record { closed = s.closed; opened = p ∷ s.opened })) None)
     h
 
-pub begun_fit : (p : Partial) (s : State) (old : Held) (n m : ℕ) → n ≤ 2 →
+pub begun_fit : (p : Partial) (s : State) (old : BuilderFields) (n m : ℕ) → n ≤ 2 →
     length (so_far p) ≡ 8 + 8 * n → m ≡ length (so_far p) → IsFair p → takes_trees s.opened ≡ true →
     IsAt old s → all_fit 0 (p ∷ s.opened) ≡ has_room_for m s.opened
 begun_fit p s old n m u l e f h at =
     one_size_decides (p ∷ s.opened) (f, h, at.nested) ∙ room_begun p s.opened n u l h at.nested
     ∙ ap (λ x. has_room_for x s.opened) (omega arith)
 
-pub is_begun : (old new : Held) (s : State) (p : Partial) (start : ℕ) → IsAt old s → IsFair p →
+pub is_begun : (old new : BuilderFields) (s : State) (p : Partial) (start : ℕ) → IsAt old s → IsFair p →
     takes_trees s.opened ≡ true → start ≡ length old.bytes → new.bytes ≡ old.bytes ++ so_far p →
     new.frames ≡ old.frames ++ (record { start = start; what = what_of p }) ∷ [] →
     all_fit 0 (p ∷ s.opened) ≡ true → IsAt new (record { closed = s.closed; opened = p ∷ s.opened })
@@ -210,21 +210,21 @@ is_begun old new s p start at f h e b g fit = record {
 
 -- ---- a tree that is closed
 
-pub goes_ok : {A : Type 0} (o : Option State) (t : State) (old new : Held) (x : A) → o ≡ Some t →
-    IsAt new t → Makes (taken o) old new (Ok x)
-goes_ok o t old new x e h = subst (λ p. Makes (taken p) old new (Ok x)) (sym e) h
+pub goes_ok : {A : Type 0} (o : Option State) (t : State) (old new : BuilderFields) (x : A) → o ≡ Some t →
+    IsAt new t → Makes (outcome_of o) old new (Ok x)
+goes_ok o t old new x e h = subst (λ p. Makes (outcome_of p) old new (Ok x)) (sym e) h
 
-pub goes_nomem : {A : Type 0} (o : Option State) (t : State) (old new : Held) (r : Result A Errno) →
-    o ≡ Some t → r ≡ Err NOMEM → new ≡ old → Makes (taken o) old new r
-goes_nomem {A = A} o t old new r e i k = subst (Makes {A = A} (taken o) old new) (sym i)
-    (subst (λ p. Makes {A = A} (taken p) old new (Err NOMEM)) (sym e) (refl, k))
+pub goes_nomem : {A : Type 0} (o : Option State) (t : State) (old new : BuilderFields) (r : Result A Errno) →
+    o ≡ Some t → r ≡ Err NOMEM → new ≡ old → Makes (outcome_of o) old new r
+goes_nomem {A = A} o t old new r e i k = subst (Makes {A = A} (outcome_of o) old new) (sym i)
+    (subst (λ p. Makes {A = A} (outcome_of p) old new (Err NOMEM)) (sym e) (refl, k))
 
-pub goes_inval : (A : Type 0) (o : Option State) (old : Held) → o ≡ None →
-    Makes {A = A} (taken o) old old (Err INVAL)
-goes_inval A o old e = subst (λ p. Makes {A = A} (taken p) old old (Err INVAL)) (sym e) (refl, refl)
+pub goes_inval : (A : Type 0) (o : Option State) (old : BuilderFields) → o ≡ None →
+    Makes {A = A} (outcome_of o) old old (Err INVAL)
+goes_inval A o old e = subst (λ p. Makes {A = A} (outcome_of p) old old (Err INVAL)) (sym e) (refl, refl)
 
 -- what is known where a frame is innermost
-pub record Closing (old : Held) (s : State) (o : BegunPod) (p : Partial) (rest : List Partial) :
+pub record Closing (old : BuilderFields) (s : State) (o : BegunPod) (p : Partial) (rest : List Partial) :
     Type 0 where
   pub opened : s.opened ≡ p ∷ rest
   pub start : o.start ≡ length (member_encodings s.closed ++ all_so_far rest)
@@ -243,7 +243,7 @@ both_true : (a b : Bool) → (a && b) ≡ true → (a ≡ true) × (b ≡ true)
 both_true true b e = (refl, e)
 both_true false b e = absurd (cc)
 
-pub closing : (old : Held) (closed : Trees) (ops : List Partial) (o : BegunPod) →
+pub closing : (old : BuilderFields) (closed : Trees) (ops : List Partial) (o : BegunPod) →
     IsAt old (record { closed = closed; opened = ops }) →
     Some o ≡ innermost_of (length (member_encodings closed)) ops →
     (p : Partial) × (rest : List Partial) × Closing old (record { closed = closed; opened = ops }) o
@@ -324,7 +324,7 @@ same_none : (b : Bool) → let o : Option State = None in cond b o o ≡ o
 same_none true = refl
 same_none false = refl
 
-pub finished_encoding : (p : Partial) (v : Tree) → finished p ≡ Some v → IsFair p →
+pub finished_encoding : (p : Partial) (v : Tree) → closed_value p ≡ Some v → IsFair p →
     framed (type_of_partial p) (body_so_far p) ≡ encoding_of v
 finished_encoding (open_struct vs) v e f = let i : v ≡ struct vs = cc in ap encoding_of (sym i)
 finished_encoding (open_object t i ps) v e f = let x : v ≡ object t i ps = cc in
@@ -339,7 +339,7 @@ finished_encoding (open_choice h g []) v e f = absurd (cc)
 finished_encoding (open_choice h g (x ∷ xs)) v e f =
     choice_encoding h g x xs v (nat_lt (length (x ∷ xs)) (least_count h)) e
 
-pub finished_size : (p : Partial) (v : Tree) → finished p ≡ Some v → IsFair p →
+pub finished_size : (p : Partial) (v : Tree) → closed_value p ≡ Some v → IsFair p →
     length (encoded_body v) ≡ own_size p
 finished_size (open_struct vs) v e f = let i : v ≡ struct vs = cc in
     ap (λ x. length (encoded_body x)) i
@@ -353,31 +353,31 @@ finished_size (open_choice h g (x ∷ xs)) v e f =
     choice_size h g x xs v (nat_lt (length (x ∷ xs)) (least_count h)) e
 
 pub closes_is : (closed : Trees) (ops : List Partial) (p : Partial) (rest : List Partial)
-    (frame : ℕ) (v : Tree) → ops ≡ p ∷ rest → frame ≡ length ops → finished p ≡ Some v →
-    takes_trees rest ≡ true → closes closed ops frame ≡ Some (after closed rest v)
+    (frame : ℕ) (v : Tree) → ops ≡ p ∷ rest → frame ≡ length ops → closed_value p ≡ Some v →
+    takes_trees rest ≡ true → state_after_pop closed ops frame ≡ Some (after closed rest v)
 closes_is closed ops p rest frame v e f g h =
-    ap (λ l. closes closed l frame) e
-    ∙ ap (λ b. cond b (elim (finished p) as (λ _. Option State)
-    [ Some w ↦ placed closed rest w | None ↦ None ]) None)
+    ap (λ l. state_after_pop closed l frame) e
+    ∙ ap (λ b. cond b (elim (closed_value p) as (λ _. Option State)
+    [ Some w ↦ state_with_value closed rest w | None ↦ None ]) None)
     (eq-eqb frame (length (p ∷ rest)) (f ∙ ap length e))
     ∙ ap (λ (x : Option Tree). elim x as (λ _. Option State)
-    [ Some w ↦ placed closed rest w | None ↦ None ]) g
+    [ Some w ↦ state_with_value closed rest w | None ↦ None ]) g
     ∙ placed_is closed rest v h
 
 pub closes_not : (closed : Trees) (ops : List Partial) (p : Partial) (rest : List Partial)
-    (frame : ℕ) → ops ≡ p ∷ rest → finished p ≡ None → closes closed ops frame ≡ None
+    (frame : ℕ) → ops ≡ p ∷ rest → closed_value p ≡ None → state_after_pop closed ops frame ≡ None
 closes_not closed ops p rest frame e g =
-    ap (λ l. closes closed l frame) e
+    ap (λ l. state_after_pop closed l frame) e
     ∙ ap (λ (x : Option Tree). cond (nat_eq frame (length (p ∷ rest)))
-    (elim x as (λ _. Option State) [ Some w ↦ placed closed rest w | None ↦ None ]) None) g
+    (elim x as (λ _. Option State) [ Some w ↦ state_with_value closed rest w | None ↦ None ]) None) g
     ∙ same_none (nat_eq frame (length (p ∷ rest)))
 
 pub closes_other : (closed : Trees) (ops : List Partial) (frame : ℕ) →
-    nat_eq frame (length ops) ≡ false → closes closed ops frame ≡ None
+    nat_eq frame (length ops) ≡ false → state_after_pop closed ops frame ≡ None
 closes_other closed [] frame e = refl
 closes_other closed (p ∷ rest) frame e =
-    ap (λ b. cond b (elim (finished p) as (λ _. Option State)
-    [ Some w ↦ placed closed rest w | None ↦ None ]) None) e
+    ap (λ b. cond b (elim (closed_value p) as (λ _. Option State)
+    [ Some w ↦ state_with_value closed rest w | None ↦ None ]) None) e
 
 pub none_open : (base : ℕ) (ops : List Partial) → None ≡ innermost_of base ops → ops ≡ []
 none_open base [] e = refl
@@ -392,18 +392,18 @@ is_no_value (Some v) e = absurd (cc)
 is_no_value None e = refl
 
 -- so a value that an open tree becomes leaves every size as it is
-pub closed_fit : (rest : List Partial) (p : Partial) (v : Tree) → finished p ≡ Some v → IsFair p →
+pub closed_fit : (rest : List Partial) (p : Partial) (v : Tree) → closed_value p ≡ Some v → IsFair p →
     takes_trees rest ≡ true → IsNested rest → all_fit (extent (own_size p)) rest ≡ true →
-    all_fit 0 (filled rest v) ≡ true
+    all_fit 0 (trees_with_value rest v) ≡ true
 closed_fit rest p v e f h k fit =
     added_fit rest v (extent (own_size p)) (ap extent (sym (finished_size p v e f))) h k
     ∙ sym (inside_fit rest (extent (own_size p)) (1 + (own_size p + 7) / 8) (omega arith) h k)
     ∙ fit
 
-pub is_closed : (old new : Held) (s : State) (o : BegunPod) (p : Partial) (rest : List Partial)
-    (v : Tree) → Closing old s o p rest → finished p ≡ Some v →
+pub is_closed : (old new : BuilderFields) (s : State) (o : BegunPod) (p : Partial) (rest : List Partial)
+    (v : Tree) → Closing old s o p rest → closed_value p ≡ Some v →
     new.bytes ≡ (member_encodings s.closed ++ all_so_far rest) ++ framed (type_of_partial p)
-    (body_so_far p) → new.frames ≡ frames_of (length (member_encodings s.closed)) (filled rest v) →
+    (body_so_far p) → new.frames ≡ frames_of (length (member_encodings s.closed)) (trees_with_value rest v) →
     IsAt new (after s.closed rest v)
 is_closed old new s o p rest v k e b f =
     is_after s.closed rest v (member_encodings s.closed ++ all_so_far rest) new refl k.nested
@@ -423,7 +423,7 @@ takes_key_is (open_array xs ∷ ps) h = absurd (cc)
 takes_key_is (open_choice k f xs ∷ ps) h = absurd (cc)
 
 pub keyed_not : (closed : Trees) (ops : List Partial) (k f : ℕ) → takes_key ops ≡ false →
-    keyed closed ops k f ≡ None
+    state_with_key closed ops k f ≡ None
 keyed_not closed [] k f h = refl
 keyed_not closed (open_struct vs ∷ ps) k f h = refl
 keyed_not closed (open_object t i qs ∷ ps) k f h = absurd (cc)
@@ -448,7 +448,7 @@ keyed_fit t i qs k f ps n =
     ∙ room_later (open_object t i qs ∷ ps) (open_property t i qs k f ∷ ps) 8 refl
     (ap length (key_more t i qs k f ps) ∙ omega arith)
 
-pub is_keyed : (new : Held) (closed : Trees) (t i : ℕ) (qs : Properties) (k f : ℕ)
+pub is_keyed : (new : BuilderFields) (closed : Trees) (t i : ℕ) (qs : Properties) (k f : ℕ)
     (ps : List Partial) (old : List ℕ) →
     old ≡ member_encodings closed ++ all_so_far (open_object t i qs ∷ ps) →
     IsNested (open_object t i qs ∷ ps) → new.bytes ≡ old ++ (word_bytes k ++ word_bytes f) →
@@ -465,33 +465,33 @@ is_keyed new closed t i qs k f ps old e n b g fit = record {
   fit = fit;
 }
 
-pub sized_inval : (A : Type 0) (b : Bool) (o : Option State) (old : Held) → o ≡ None →
-    Makes {A = A} (sized b o) old old (Err INVAL)
-sized_inval A b o old e = subst (λ p. Makes {A = A} (sized b p) old old (Err INVAL)) (sym e)
+pub sized_inval : (A : Type 0) (b : Bool) (o : Option State) (old : BuilderFields) → o ≡ None →
+    Makes {A = A} (outcome_if_fits b o) old old (Err INVAL)
+sized_inval A b o old e = subst (λ p. Makes {A = A} (outcome_if_fits b p) old old (Err INVAL)) (sym e)
     (refl, refl)
 
 -- ---- the builder
 
-pub at_start : (xs : List ℕ) (fs : List BegunPod) → xs ≡ [] → fs ≡ [] → IsAt (held xs fs) start
+pub at_start : (xs : List ℕ) (fs : List BegunPod) → xs ≡ [] → fs ≡ [] → IsAt (fields_of xs fs) start
 at_start xs fs b f = record { bytes = b; frames = f; nested = tt; fit = refl }
 
-kept_one : {A : Type 0} (o : Outcome) (old new : Held) (r : Result A Errno) → IsHeld old →
-    Makes o old new r → IsHeld new
+kept_one : {A : Type 0} (o : Outcome) (old new : BuilderFields) (r : Result A Errno) → HasState old →
+    Makes o old new r → HasState new
 kept_one (Accepts s) old new (Ok x) h m = (s, m)
-kept_one (Accepts s) old new (Err e) h m = subst IsHeld (sym m.1) h
+kept_one (Accepts s) old new (Err e) h m = subst HasState (sym m.1) h
 kept_one Inval old new (Ok x) h m = absurd m
-kept_one Inval old new (Err e) h m = subst IsHeld (sym m.1) h
+kept_one Inval old new (Err e) h m = subst HasState (sym m.1) h
 kept_one Nospc old new (Ok x) h m = absurd m
-kept_one Nospc old new (Err e) h m = subst IsHeld (sym m.1) h
+kept_one Nospc old new (Err e) h m = subst HasState (sym m.1) h
 
 -- whatever a call makes, the builder holds a state
-pub kept : {A : Type 0} (o : State → Outcome) (old new : Held) (r : Result A Errno) → IsHeld old →
-    ((s : State) → IsAt old s → Makes (o s) old new r) → IsHeld new
+pub kept : {A : Type 0} (o : State → Outcome) (old new : BuilderFields) (r : Result A Errno) → HasState old →
+    ((s : State) → IsAt old s → Makes (o s) old new r) → HasState new
 kept o old new r h f = kept_one (o h.0) old new r h (f h.0 h.1)
 
 -- a tree of no fixed size isn't an element
 pub no_element : (closed : Trees) (ps : List Partial) (v : Tree) → ((x : Fixed) → v ≢ fixed x) →
-    takes_trees ps ≡ false → placed closed ps v ≡ None
+    takes_trees ps ≡ false → state_with_value closed ps v ≡ None
 no_element closed [] v n h = absurd (cc)
 no_element closed (open_struct vs ∷ ps) v n h = absurd (cc)
 no_element closed (open_object t i qs ∷ ps) v n h = refl
@@ -515,7 +515,7 @@ no_element closed (open_choice k f xs ∷ ps) (pointer x y) n h = refl
 no_element closed (open_choice k f xs ∷ ps) (struct x) n h = refl
 no_element closed (open_choice k f xs ∷ ps) (object x y z) n h = refl
 
-pub spells : (h : Held) (s : State) → IsAt h s → Spells h.bytes s
+pub spells : (h : BuilderFields) (s : State) → IsAt h s → Spells h.bytes s
 spells h s at = record {
   begin = (all_so_far s.opened, at.bytes);
   all = λ e. at.bytes ∙ ap (λ l. member_encodings s.closed ++ all_so_far l) e
@@ -523,17 +523,17 @@ spells h s at = record {
 }
 
 -- what the fields of the builder make, its value makes
-pub through : {A : Type 0} (o : State → Outcome) (old old' new : Held) (r : Result A Errno) →
+pub through : {A : Type 0} (o : State → Outcome) (old old' new : BuilderFields) (r : Result A Errno) →
     old ≡ old' → ((s : State) → IsAt old s → Makes (o s) old new r) → (s : State) → IsAt old' s →
     Makes (o s) old' new r
 through o old old' new r e f = subst (λ h. (s : State) → IsAt h s → Makes (o s) h new r) e f
 
-pub nul_refused : (b : Bool) (o : Outcome) (old : Held) → b ≡ true →
+pub nul_refused : (b : Bool) (o : Outcome) (old : BuilderFields) → b ≡ true →
     Makes {A = Unit {0}} (cond b Inval o) old old (Err INVAL)
 nul_refused b o old e = subst (λ c. Makes {A = Unit {0}} (cond c Inval o) old old (Err INVAL))
     (sym e) (refl, refl)
 
-pub without_nul : {A : Type 0} (b : Bool) (o : Outcome) (old new : Held) (r : Result A Errno) →
+pub without_nul : {A : Type 0} (b : Bool) (o : Outcome) (old new : BuilderFields) (r : Result A Errno) →
     b ≡ false → Makes o old new r → Makes (cond b Inval o) old new r
 without_nul {A = A} b o old new r e m = subst (λ c. Makes {A = A} (cond c Inval o) old new r)
     (sym e) m

@@ -21,9 +21,9 @@ use Rattle.spa_value.specs.declared.object.Object.{Object}
 use Rattle.spa_value.specs.declared.value.Value.{Value}
 use Rattle.spa_value.specs.declared.value.Value.TheVariants as V
 use Rattle.spa_builder.specs.State.{State}
-use Rattle.spa_builder.specs.Step.{Inval, Outcome, add, all_fit, has_nul, is_nul, placed, sized, some_has_nul, some_value_has_nul, step, takes_trees}
-use Rattle.spa_builder.specs.Held.{Held, IsAt, IsHeld, frames_of}
-use Rattle.spa_builder.specs.Innermost.{filled, has_room_for}
+use Rattle.spa_builder.specs.Step.{Inval, Outcome, add, all_fit, has_nul, is_nul, state_with_value, outcome_if_fits, some_has_nul, some_value_has_nul, step, takes_trees}
+use Rattle.spa_builder.specs.Fields.{BuilderFields, IsAt, HasState, frames_of}
+use Rattle.spa_builder.specs.Innermost.{trees_with_value, has_room_for}
 use Rattle.spa_builder.specs.Answers.{Makes, MakesValue, RefusesValue, errno_of}
 use Rattle.spa_utils.specs.declared.errno.Errno.{Errno}
 use Rattle.spa_utils.specs.declared.errno.TheConstants.Errno.{INVAL, NOMEM, NOSPC}
@@ -131,23 +131,23 @@ inval_both : (b : Bool) (o : Outcome) → o ≡ Inval → cond b Inval o ≡ Inv
 inval_both true o e = refl
 inval_both false o e = e
 
-pub misplaced : (s : State) (v : Tree) (old : Held) → placed s.closed s.opened v ≡ None →
+pub misplaced : (s : State) (v : Tree) (old : BuilderFields) → state_with_value s.closed s.opened v ≡ None →
     Makes {A = Unit {0}} (step s (add v)) old old (Err INVAL)
 misplaced s v old e =
     subst (λ o. Makes {A = Unit {0}} o old old (Err INVAL))
     (sym (inval_both (has_nul v) _
-    (ap (sized (nat_lt (length (encoded_body v)) size_limit)) e))) (refl, refl)
+    (ap (outcome_if_fits (nat_lt (length (encoded_body v)) size_limit)) e))) (refl, refl)
 
-pub value_room : (s : State) (v : Tree) (old : Held) → IsAt old s → takes_trees s.opened ≡ true →
-    all_fit 0 (filled s.opened v) ≡ has_room_for (length (encoding_of v)) s.opened
+pub value_room : (s : State) (v : Tree) (old : BuilderFields) → IsAt old s → takes_trees s.opened ≡ true →
+    all_fit 0 (trees_with_value s.opened v) ≡ has_room_for (length (encoding_of v)) s.opened
 value_room s v old at t = added_fit s.opened v (length (encoding_of v))
     (length-framed (type_of v) (encoded_body v)) t at.nested
 
-pub value_added : (s : State) (v : Tree) (old new : Held) (x : Unit {0}) → IsAt old s →
+pub value_added : (s : State) (v : Tree) (old new : BuilderFields) (x : Unit {0}) → IsAt old s →
     takes_trees s.opened ≡ true → IsWritable v →
     has_room_for (length (encoding_of v)) s.opened ≡ true →
     new.bytes ≡ old.bytes ++ encoding_of v →
-    new.frames ≡ frames_of (length (member_encodings s.closed)) (filled s.opened v) →
+    new.frames ≡ frames_of (length (member_encodings s.closed)) (trees_with_value s.opened v) →
     Makes (step s (add v)) old new (Ok x)
 value_added s v old new x at t w room b f =
     let fit = value_room s v old at t ∙ room in
@@ -156,7 +156,7 @@ value_added s v old new x at t w room b f =
     (placed_is s.closed s.opened v t) fit
     (is_after s.closed s.opened v old.bytes new at.bytes at.nested t b f fit))
 
-pub value_beyond : (s : State) (v : Tree) (old new : Held) → IsAt old s →
+pub value_beyond : (s : State) (v : Tree) (old new : BuilderFields) → IsAt old s →
     takes_trees s.opened ≡ true → IsWritable v →
     has_room_for (length (encoding_of v)) s.opened ≡ false → new ≡ old →
     Makes {A = Unit {0}} (step s (add v)) old new (Err NOSPC)
@@ -166,7 +166,7 @@ value_beyond s v old new at t w room e =
     (sized_nospc _ _ _ (after s.closed s.opened v) old (placed_is s.closed s.opened v t)
     (and_false _ _ (value_room s v old at t ∙ room))))
 
-pub value_with_nul : (s : State) (v : Tree) (old new : Held) → HasNul v → new ≡ old →
+pub value_with_nul : (s : State) (v : Tree) (old new : BuilderFields) → HasNul v → new ≡ old →
     Makes {A = Unit {0}} (step s (add v)) old new (Err INVAL)
 value_with_nul s v old new h e =
     subst (λ k. Makes {A = Unit {0}} (step s (add v)) old k (Err INVAL)) (sym e)
@@ -176,10 +176,10 @@ some_not_none : (o : Option State) (t : State) → o ≡ Some t → o ≢ None
 some_not_none o t e f = cc
 
 pub may_come : (s : State) (v : Tree) → takes_trees s.opened ≡ true →
-    placed s.closed s.opened v ≢ None
+    state_with_value s.closed s.opened v ≢ None
 may_come s v t = some_not_none _ (after s.closed s.opened v) (placed_is s.closed s.opened v t)
 
-pub made_value : (s : State) (v : Tree) (old new : Held) (r : Result (Unit {0}) Errno) →
+pub made_value : (s : State) (v : Tree) (old new : BuilderFields) (r : Result (Unit {0}) Errno) →
     Makes (step s (add v)) old new r → MakesValue s v old new r
 made_value s v old new r m = inl m
 
@@ -194,7 +194,7 @@ refused_value v old new Failed r = inr (inl refl)
 refused_value v old new Io r = inr (inl refl)
 refused_value v old new OutOfMemory r = inr (inl refl)
 
-pub value_refused : (s : State) (v : Tree) (old new : Held) (r : Result (Unit {0}) Errno)
+pub value_refused : (s : State) (v : Tree) (old new : BuilderFields) (r : Result (Unit {0}) Errno)
     (e : Errno) → takes_trees s.opened ≡ true → r ≡ Err e → new ≡ old → RefusesValue v e →
     MakesValue s v old new r
 value_refused s v old new r e t is same (inl h) =
@@ -207,18 +207,18 @@ value_refused s v old new r e t is same (inr h) =
       same = same;
     })
 
-pub kept_made : (o : Outcome) (old new : Held) (r : Result (Unit {0}) Errno) → IsHeld old →
-    Makes o old new r → IsHeld new
+pub kept_made : (o : Outcome) (old new : BuilderFields) (r : Result (Unit {0}) Errno) → HasState old →
+    Makes o old new r → HasState new
 kept_made o old new r h m = kept (λ s. o) old new r h (λ s at. m)
 
 -- whatever it makes, the builder holds a state
-kept_one : (s : State) (v : Tree) (old new : Held) (r : Result (Unit {0}) Errno) → IsHeld old →
-    MakesValue s v old new r → IsAt old s → IsHeld new
+kept_one : (s : State) (v : Tree) (old new : BuilderFields) (r : Result (Unit {0}) Errno) → HasState old →
+    MakesValue s v old new r → IsAt old s → HasState new
 kept_one s v old new r h (inl m) at = kept_made (step s (add v)) old new r h m
-kept_one s v old new r h (inr x) at = subst IsHeld (sym x.same) h
+kept_one s v old new r h (inr x) at = subst HasState (sym x.same) h
 
-pub kept_value : (v : Tree) (old new : Held) (r : Result (Unit {0}) Errno) → IsHeld old →
-    ((s : State) → IsAt old s → MakesValue s v old new r) → IsHeld new
+pub kept_value : (v : Tree) (old new : BuilderFields) (r : Result (Unit {0}) Errno) → HasState old →
+    ((s : State) → IsAt old s → MakesValue s v old new r) → HasState new
 kept_value v old new r h f = kept_one h.0 v old new r h (f h.0 h.1) h.1
 
 -- ---- which values are of fixed size

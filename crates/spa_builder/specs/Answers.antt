@@ -9,14 +9,14 @@ use Rattle.spa_scan.specs.Depth.{depth_of, levels_looked_into}
 use Rattle.spa_sink.specs.declared.gen_error.GenError.{GenError}
 use Rattle.spa_sink.specs.declared.gen_error.GenError.TheVariants.{Full, TooLarge, NulInText, WrongCount, Failed, Io, OutOfMemory}
 use Rattle.spa_builder.specs.State.{Partial, State}
-use Rattle.spa_builder.specs.Step.{Outcome, Accepts, Inval, Nospc, add, placed, step, takes_trees}
-use Rattle.spa_builder.specs.Held.{Held, IsAt}
+use Rattle.spa_builder.specs.Step.{Outcome, Accepts, Inval, Nospc, add, state_with_value, step, takes_trees}
+use Rattle.spa_builder.specs.Fields.{BuilderFields, IsAt}
 use Rattle.spa_builder.specs.Innermost.{has_room_for}
 use Rattle.spa_utils.specs.declared.errno.Errno.{Errno}
 use Rattle.spa_utils.specs.declared.errno.TheConstants.Errno.{NOMEM, INVAL, NOSPC}
 
 -- A call's answer and effect are those of the model's step. A call that the step accepts may want memory. A refused call changes nothing.
-abbrev pub Makes : {A : Type 0} → Outcome → Held → Held → Result A Errno → Type 0
+abbrev pub Makes : {A : Type 0} → Outcome → BuilderFields → BuilderFields → Result A Errno → Type 0
 Makes (Accepts s) old new (Ok x) = IsAt new s
 Makes (Accepts s) old new (Err e) = (e ≡ NOMEM) × (new ≡ old)
 Makes Inval old new (Ok x) = ⊥
@@ -26,17 +26,17 @@ Makes Nospc old new (Err e) = (e ≡ NOSPC) × (new ≡ old)
 
 -- A value that is allowed next is walked, and the first obstacle is answered: want of memory, or a size in it that doesn't fit a word
 -- of 32 bits. Nothing is changed.
-pub record StopsInside (s : State) (v : Tree) (old new : Held) (r : Result (Unit {0}) Errno) : Type 0 where
-  pub place : placed s.closed s.opened v ≢ None
+pub record StopsInside (s : State) (v : Tree) (old new : BuilderFields) (r : Result (Unit {0}) Errno) : Type 0 where
+  pub place : state_with_value s.closed s.opened v ≢ None
   pub cause : IsErrAnd r (λ e. (e ≡ NOMEM) ⊎ ((e ≡ NOSPC) × IsTooLarge v))
   pub same : new ≡ old
 
 -- a value is added as the model adds it, or the walk of the value stopped that
-abbrev pub MakesValue : State → Tree → Held → Held → Result (Unit {0}) Errno → Type 0
+abbrev pub MakesValue : State → Tree → BuilderFields → BuilderFields → Result (Unit {0}) Errno → Type 0
 MakesValue s v old new r = Makes (step s (add v)) old new r ⊎ StopsInside s v old new r
 
 -- A pod's value is added as the model adds it, but that memory may also run out for reading it. A pod of no value is refused, and nothing changed.
-pub record MakesPod (s : State) (b : List ℕ) (old new : Held) (r : Result (Unit {0}) Errno) : Type 0 where
+pub record MakesPod (s : State) (b : List ℕ) (old new : BuilderFields) (r : Result (Unit {0}) Errno) : Type 0 where
   pub value : (v : Tree) → IsPod b v → MakesValue s v old new r
   pub none : ((v : Tree) → ¬ (IsPod b v)) → IsErrAnd r (λ e. (e ≡ INVAL) ⊎ (e ≡ NOMEM)) × (new ≡ old)
 

@@ -5,7 +5,7 @@ use Rattle.spa_format.specs.Kind.{Fixed}
 use Rattle.spa_format.specs.Tree.{Tree, Trees}
 use Rattle.spa_builder.specs.State.{Partial, open_struct, open_object, open_property, open_array, open_choice, with_tree, with_property}
 use Rattle.spa_builder.specs.Step.{array_takes, choice_takes}
-use Rattle.spa_builder.specs.Held.{all_so_far, what_of}
+use Rattle.spa_builder.specs.Fields.{all_so_far, what_of}
 use Rattle.spa_builder.specs.declared.begun.BegunPod.{BegunPod}
 
 -- the innermost open tree's frame
@@ -14,13 +14,13 @@ innermost_of base [] = None
 innermost_of base (p ∷ ps) = Some (record { start = base + length (all_so_far ps); what = what_of p })
 
 -- the open trees after the innermost, which takes trees of any type, took this one
-abbrev pub filled : List Partial → Tree → List Partial
-filled [] v = []
-filled (open_struct vs ∷ ps) v = open_struct (with_tree vs v) ∷ ps
-filled (open_object t i qs ∷ ps) v = open_object t i qs ∷ ps
-filled (open_property t i qs k f ∷ ps) v = open_object t i (with_property qs k f v) ∷ ps
-filled (open_array xs ∷ ps) v = open_array xs ∷ ps
-filled (open_choice h f xs ∷ ps) v = open_choice h f xs ∷ ps
+abbrev pub trees_with_value : List Partial → Tree → List Partial
+trees_with_value [] v = []
+trees_with_value (open_struct vs ∷ ps) v = open_struct (with_tree vs v) ∷ ps
+trees_with_value (open_object t i qs ∷ ps) v = open_object t i qs ∷ ps
+trees_with_value (open_property t i qs k f ∷ ps) v = open_object t i (with_property qs k f v) ∷ ps
+trees_with_value (open_array xs ∷ ps) v = open_array xs ∷ ps
+trees_with_value (open_choice h f xs ∷ ps) v = open_choice h f xs ∷ ps
 
 -- the closed values after this value was added, which is closed where no tree is open
 abbrev pub closed_with : Trees → List Partial → Tree → Trees
@@ -53,6 +53,7 @@ has_elements (open_property t i qs k f) = false
 has_elements (open_array xs) = true
 has_elements (open_choice h f xs) = true
 
+-- the innermost open tree is an array or a choice
 abbrev pub takes_elements : List Partial → Bool
 takes_elements [] = false
 takes_elements (p ∷ ps) = has_elements p
@@ -67,6 +68,7 @@ is_first (open_array (x ∷ xs)) = false
 is_first (open_choice h f []) = true
 is_first (open_choice h f (x ∷ xs)) = false
 
+-- the open tree is an array or a choice, and takes this element
 abbrev pub takes_element : Partial → Fixed → Bool
 takes_element (open_struct vs) x = false
 takes_element (open_object t i qs) x = false
@@ -74,6 +76,7 @@ takes_element (open_property t i qs k f) x = false
 takes_element (open_array xs) x = array_takes xs x
 takes_element (open_choice h f xs) x = choice_takes h xs x
 
+-- an open array or choice with one more element; any other open tree as it is
 abbrev pub with_element : Partial → Fixed → Partial
 with_element (open_struct vs) x = open_struct vs
 with_element (open_object t i qs) x = open_object t i qs

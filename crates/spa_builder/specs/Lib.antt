@@ -1,6 +1,6 @@
 pub mod State
 pub mod Step
-pub mod Held
+pub mod Fields
 pub mod Innermost
 pub mod Answers
 pub mod Replay

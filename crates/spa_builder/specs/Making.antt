@@ -3,12 +3,12 @@ use Rattle.std.specs.Prelude.{◌≡◌, ℕ, ◌+◌, ◌-◌, List, [], ◌∷
 use Rattle.spa_format.specs.Tree.{Tree, fixed, struct, object, Trees, no_trees, member, Properties, no_properties, property}
 use Rattle.spa_builder.specs.State.{State}
 use Rattle.spa_builder.specs.Step.{Call, abandon, add, add_prop, pop, push_array, push_choice, push_object, push_struct}
-use Rattle.spa_builder.specs.Held.{Held, IsAt}
-use Rattle.spa_builder.specs.Replay.{spelled_from}
+use Rattle.spa_builder.specs.Fields.{BuilderFields, IsAt}
+use Rattle.spa_builder.specs.Replay.{state_from}
 
 -- the state with this value closed, no other value, and no open tree
-abbrev pub built : Tree → State
-built v = record { closed = member v no_trees; opened = [] }
+abbrev pub state_of_value : Tree → State
+state_of_value v = record { closed = member v no_trees; opened = [] }
 
 -- the calls that build a value where `n` trees are open: a struct or an object is opened, gets its members or properties, and is closed
 abbrev mutual
@@ -37,11 +37,11 @@ open_behind n (pop frame) = n - 1
 open_behind n (abandon frame) = n - 1
 
 -- with `n` trees open, these calls, each of which the model accepts, bring the builder to this state
-pub record ComesTo (n : ℕ) (t : State) (calls : List Call) (builder : Held) : Type 0 where
+pub record ComesTo (n : ℕ) (t : State) (calls : List Call) (builder : BuilderFields) : Type 0 where
   pub state : State
   pub at : IsAt builder state
   pub depth : length state.opened ≡ n
-  pub run : spelled_from state calls ≡ Some t
+  pub run : state_from state calls ≡ Some t
 
 -- each value is of fixed size
 abbrev pub AreFixed : Properties → Type 0

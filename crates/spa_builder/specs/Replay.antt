@@ -5,7 +5,7 @@ use Rattle.spa_format.specs.Tree.{fixed, string, bytes, pointer}
 use Rattle.spa_value.specs.View.{array_view}
 use Rattle.spa_builder.specs.State.{State, start}
 use Rattle.spa_builder.specs.Step.{Call, add, add_prop, push_struct, push_object, push_array, push_choice, pop, abandon, Outcome, Accepts, Inval, Nospc, step}
-use Rattle.spa_builder.specs.Held.{Held, IsAt}
+use Rattle.spa_builder.specs.Fields.{BuilderFields, IsAt}
 use Rattle.spa_builder.specs.Answers.{Spells}
 use Rattle.spa_builder.specs.declared.build_call.BuildCall.{BuildCall}
 use Rattle.spa_builder.specs.declared.build_call.BuildCall.TheVariants.{AddNone, AddBool, AddId, AddInt, AddLong, AddFloat, AddDouble, AddString, AddBytes, AddPointer, AddFd, AddRectangle, AddFraction, AddArray, AddProp, PushArray, PushChoice, PushStruct, PushObject, Pop, Abandon}
@@ -36,9 +36,11 @@ call_of (PushObject t i) = push_object t i
 call_of (Pop f) = pop f.0
 call_of (Abandon f) = abandon f.0
 
+-- the model's calls for these calls
 abbrev pub calls_of : List BuildCall → List Call
 calls_of calls = map call_of calls
 
+-- the answer of a call
 abbrev pub Answer : Type 0
 Answer = Result (Unit {0}) Errno
 
@@ -64,26 +66,27 @@ AreAnswered s [] (a ∷ rs) = ⊥
 AreAnswered s (c ∷ cs) [] = ⊥
 
 -- the calls that were accepted
-abbrev pub accepted : List Call → List Answer → List Call
-accepted [] rs = []
-accepted (c ∷ cs) [] = []
-accepted (c ∷ cs) (Ok x ∷ rs) = c ∷ accepted cs rs
-accepted (c ∷ cs) (Err e ∷ rs) = accepted cs rs
+abbrev pub accepted_calls : List Call → List Answer → List Call
+accepted_calls [] rs = []
+accepted_calls (c ∷ cs) [] = []
+accepted_calls (c ∷ cs) (Ok x ∷ rs) = c ∷ accepted_calls cs rs
+accepted_calls (c ∷ cs) (Err e ∷ rs) = accepted_calls cs rs
 
 -- the state after these calls; None where the model's step accepts not all of them
-abbrev pub spelled_from : State → List Call → Option State
-spelled_from s [] = Some s
-spelled_from s (c ∷ cs) = elim (step s c) as (λ _. Option State) [ Accepts t ↦ spelled_from t cs | Inval ↦ None | Nospc ↦ None ]
+abbrev pub state_from : State → List Call → Option State
+state_from s [] = Some s
+state_from s (c ∷ cs) = elim (step s c) as (λ _. Option State) [ Accepts t ↦ state_from t cs | Inval ↦ None | Nospc ↦ None ]
 
-abbrev pub spelled : List Call → Option State
-spelled cs = spelled_from start cs
+-- the state after these calls on a new builder; None where the model's step accepts not all of them
+abbrev pub state_after_calls : List Call → Option State
+state_after_calls cs = state_from start cs
 
 -- The calls are answered as the model answers, and the bytes are those that the accepted calls build.
 pub record IsReplayed (calls : List Call) (answers : List Answer) (bytes : List ℕ) : Type 0 where
   pub answered : AreAnswered start calls answers
-  pub spells : (s : State) × (spelled (accepted calls answers) ≡ Some s) × Spells bytes s
+  pub spells : (s : State) × (state_after_calls (accepted_calls calls answers) ≡ Some s) × Spells bytes s
 
 -- The calls are answered as the model answers, and the builder is at the state to which the accepted calls bring it.
-pub record IsRunning (calls : List Call) (answers : List Answer) (builder : Held) : Type 0 where
+pub record IsRunning (calls : List Call) (answers : List Answer) (builder : BuilderFields) : Type 0 where
   pub answered : AreAnswered start calls answers
-  pub at : (s : State) × (spelled (accepted calls answers) ≡ Some s) × IsAt builder s
+  pub at : (s : State) × (state_after_calls (accepted_calls calls answers) ≡ Some s) × IsAt builder s

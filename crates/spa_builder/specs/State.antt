@@ -12,11 +12,13 @@ pub data Partial : Type 0 where
   open_array : List Fixed → Partial
   open_choice : Shape → (flags : ℕ) → List Fixed → Partial
 
+-- a state: the closed values, and the open trees
 pub record State : Type 0 where
   pub closed : Trees
   -- the open trees, the innermost first
   pub opened : List Partial
 
+-- the state of a new builder
 abbrev pub start : State
 start = record { closed = no_trees; opened = [] }
 
@@ -24,5 +26,6 @@ start = record { closed = no_trees; opened = [] }
 abbrev pub with_tree : Trees → Tree → Trees
 with_tree vs v = join_members vs (member v no_trees)
 
+-- the properties with one more at the end
 abbrev pub with_property : Properties → ℕ → ℕ → Tree → Properties
 with_property ps k f v = join_properties ps (property k f v no_properties)

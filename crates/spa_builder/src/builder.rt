@@ -8,8 +8,8 @@ ghost use Rattle.spa_format.specs.Tree.{Tree, array, bytes, fixed, pointer, stri
 ghost use Rattle.spa_value.specs.View.{array_view, view};
 ghost use Rattle.spa_builder.specs.State.{State, start};
 ghost use Rattle.spa_builder.specs.Step.{abandon, add, add_prop, pop, push_array, push_choice, push_object, push_struct, step};
-ghost use Rattle.spa_builder.specs.Held.{IsAt};
-ghost use Rattle.spa_builder.specs.Making.{built};
+ghost use Rattle.spa_builder.specs.Fields.{IsAt};
+ghost use Rattle.spa_builder.specs.Making.{state_of_value};
 ghost use Rattle.spa_builder.specs.Answers.{IsCopied, Makes, MakesPod, MakesValue, Spells};
 ghost use Rattle.spa_view.specs.View.{pod_bytes};
 ghost use Rattle.spa_utils.specs.declared.errno.TheConstants.Errno.{INVAL};
@@ -44,13 +44,13 @@ pub struct Builder {
 }
 
 impl Model for Builder {
-    ghost use Rattle.spa_builder.specs.Held.{Held, IsHeld, held};
+    ghost use Rattle.spa_builder.specs.Fields.{BuilderFields, HasState, fields_of};
 
-    ghost Value = { Held };
+    ghost Value = { BuilderFields };
 
-    ghost view = { λ b. held b.bytes b.frames };
+    ghost view = { λ b. fields_of b.bytes b.frames };
 
-    ghost invariant = { λ b. IsHeld (held b.bytes b.frames) };
+    ghost invariant = { λ b. HasState (fields_of b.bytes b.frames) };
 }
 
 impl Builder {
@@ -79,10 +79,12 @@ impl Builder {
 
     /// The vector with the pods that were built. Refused as INVAL where a pod is open: the vector is given up then.
     pub fn finish(self) -> Result<Vec<u8>, Errno>
-        ensures made { (s : State) → IsAt self s → IfOk result (λ made. (s.opened ≡ []) × (made.items ≡ member_encodings s.closed)) }
+        ensures made { (s : State) → IsAt self s
+            → IfOk result (λ made. (s.opened ≡ []) × (made.items ≡ member_encodings s.closed)) }
         ensures refused { (s : State) → IsAt self s → IfErr result (λ e. (e ≡ INVAL) × (s.opened ≢ [])) }
         // A single value gives its encoding.
-        ensures built { (v : Tree) → IsAt self (built v) → IsOkAnd result (λ made. made.items ≡ encoding_of v) }
+        ensures built { (v : Tree) → IsAt self (state_of_value v)
+            → IsOkAnd result (λ made. made.items ≡ encoding_of v) }
     {
         if self.frames.len() > 0 {
             return Err(Errno::INVAL);
@@ -140,7 +142,8 @@ impl Builder {
     /// Adds a float of 32 bits.
     #[inline(always)]
     pub fn add_float(&mut self, value: Float32) -> Result<(), Errno>
-        ensures { (s : State) → IsAt self.old s → Makes (step s (add (fixed (float value.0)))) self.old self.new result }
+        ensures { (s : State) → IsAt self.old s
+            → Makes (step s (add (fixed (float value.0)))) self.old self.new result }
     {
         add_fixed(&mut self.bytes, &mut self.frames, &value)
     }
@@ -148,7 +151,8 @@ impl Builder {
     /// Adds a float of 64 bits.
     #[inline(always)]
     pub fn add_double(&mut self, value: Float64) -> Result<(), Errno>
-        ensures { (s : State) → IsAt self.old s → Makes (step s (add (fixed (double value.0)))) self.old self.new result }
+        ensures { (s : State) → IsAt self.old s
+            → Makes (step s (add (fixed (double value.0)))) self.old self.new result }
     {
         add_fixed(&mut self.bytes, &mut self.frames, &value)
     }
@@ -187,7 +191,8 @@ impl Builder {
     /// Adds a pointer: a type number and an address.
     #[inline(always)]
     pub fn add_pointer(&mut self, type_: Id, address: u64) -> Result<(), Errno>
-        ensures { (s : State) → IsAt self.old s → Makes (step s (add (pointer type_.0 address))) self.old self.new result }
+        ensures { (s : State) → IsAt self.old s
+            → Makes (step s (add (pointer type_.0 address))) self.old self.new result }
     {
         let pod = pointer_pod(type_.0, address);
         add_encoding(&mut self.bytes, &mut self.frames, POINTER_LEN, &pod)
@@ -204,7 +209,8 @@ impl Builder {
     /// Adds a rectangle.
     #[inline(always)]
     pub fn add_rectangle(&mut self, value: Rectangle) -> Result<(), Errno>
-        ensures { (s : State) → IsAt self.old s → Makes (step s (add (fixed (rectangle value.width value.height)))) self.old self.new result }
+        ensures { (s : State) → IsAt self.old s
+            → Makes (step s (add (fixed (rectangle value.width value.height)))) self.old self.new result }
     {
         add_fixed(&mut self.bytes, &mut self.frames, &value)
     }
@@ -212,21 +218,24 @@ impl Builder {
     /// Adds a fraction.
     #[inline(always)]
     pub fn add_fraction(&mut self, value: Fraction) -> Result<(), Errno>
-        ensures { (s : State) → IsAt self.old s → Makes (step s (add (fixed (fraction value.num value.denom)))) self.old self.new result }
+        ensures { (s : State) → IsAt self.old s
+            → Makes (step s (add (fixed (fraction value.num value.denom)))) self.old self.new result }
     {
         add_fixed(&mut self.bytes, &mut self.frames, &value)
     }
 
     /// Adds a whole array.
     pub fn add_array(&mut self, values: &ValueArray) -> Result<(), Errno>
-        ensures { (s : State) → IsAt self.old s → Makes (step s (add (array_view values.now))) self.old self.new result }
+        ensures { (s : State) → IsAt self.old s
+            → Makes (step s (add (array_view values.now))) self.old self.new result }
     {
         add_elements(&mut self.bytes, &mut self.frames, values)
     }
 
     /// Adds a whole array of these elements.
     pub fn add_array_of<T: CanonicalFixedSizedPod>(&mut self, values: &[T]) -> Result<(), Errno>
-        ensures { (s : State) → IsAt self.old s → Makes (step s (add (array T.kind (map T.fixed values.now)))) self.old self.new result }
+        ensures { (s : State) → IsAt self.old s
+            → Makes (step s (add (array T.kind (map T.fixed values.now)))) self.old self.new result }
     {
         add_values(&mut self.bytes, &mut self.frames, values)
     }
@@ -234,7 +243,8 @@ impl Builder {
     /// Adds a whole array of this type from the bodies of its elements, one after another in these bytes; there may be none. Refused as INVAL also
     /// where the bytes aren't a whole number of bodies. It asks for no memory but the builder's own.
     pub fn add_array_in<T: CanonicalFixedSizedPod>(&mut self, bodies: &[u8]) -> Result<(), Errno>
-        ensures made { (s : State) (xs : List Fixed) → IsAt self.old s → AreElements T.kind xs bodies.now → Makes (step s (add (array T.kind xs))) self.old self.new result }
+        ensures made { (s : State) (xs : List Fixed) → IsAt self.old s → AreElements T.kind xs bodies.now
+            → Makes (step s (add (array T.kind xs))) self.old self.new result }
         ensures refused { ¬ (AreWhole T.SIZE bodies.now) → IsErrAnd result (λ e. e ≡ INVAL) × (self.new ≡ self.old) }
     {
         if !are_bodies::<T>(bodies) {
@@ -256,7 +266,8 @@ impl Builder {
     /// of at most 1000 is copied; any other is read first. Refused as INVAL also where the pod is of no value.
     pub fn add_pod(&mut self, pod: Pod<'_>) -> Result<(), Errno>
         ensures makes { (s : State) → IsAt self.old s → MakesPod s (pod_bytes pod.entry) self.old self.new result }
-        ensures copied { (s : State) (v : Tree) → IsAt self.old s → IsCopied s (pod_bytes pod.entry) v → Makes (step s (add v)) self.old self.new result }
+        ensures copied { (s : State) (v : Tree) → IsAt self.old s → IsCopied s (pod_bytes pod.entry) v
+            → Makes (step s (add v)) self.old self.new result }
     {
         add_seen(&mut self.bytes, &mut self.frames, &pod)
     }
@@ -290,7 +301,8 @@ impl Builder {
     /// values have to be of the first one's kind, of fixed size and not None. There has to be at least one value: of a Range
     /// default, minimum and maximum, of a Step these and the step. Only Enum and Flags take more.
     pub fn push_choice(&mut self, shape: u32, flags: u32) -> Result<Frame, Errno>
-        ensures step { (s : State) → IsAt self.old s → Makes (step s (push_choice shape flags)) self.old self.new result }
+        ensures step { (s : State) → IsAt self.old s
+            → Makes (step s (push_choice shape flags)) self.old self.new result }
         ensures frame { (s : State) → IsAt self.old s → IfOk result (λ f. f.0 ≡ length s.opened + 1) }
     {
         if shape > FLAGS_SHAPE {

@@ -8,8 +8,8 @@ ghost use Rattle.spa_format.specs.Encoding.{encoded_body, encoding_of};
 ghost use Rattle.spa_format.specs.Words.{header_size, size_limit, word_bytes};
 ghost use Rattle.spa_value.specs.View.{array_view};
 ghost use Rattle.spa_builder.specs.State.{Partial, State};
-ghost use Rattle.spa_builder.specs.Step.{abandoned, add, begun, closes, keyed, placed, sized, step, taken, takes_trees};
-ghost use Rattle.spa_builder.specs.Held.{IsAt, IsFair, IsHeld, held, so_far, what_of};
+ghost use Rattle.spa_builder.specs.Step.{state_after_abandon, add, state_with_tree, state_after_pop, state_with_key, state_with_value, outcome_if_fits, step, outcome_of, takes_trees};
+ghost use Rattle.spa_builder.specs.Fields.{IsAt, IsFair, HasState, fields_of, so_far, what_of};
 ghost use Rattle.spa_builder.specs.Framed.{is_nothing};
 ghost use Rattle.spa_builder.specs.Innermost.{takes_elements};
 ghost use Rattle.spa_builder.specs.Answers.{Makes};
@@ -33,11 +33,13 @@ pub(crate) fn add_body(
     front: &[u8],
     back: &[u8],
 ) -> Result<(), Errno>
-    requires holds { IsHeld (held bytes.old frames.old) }
+    requires holds { HasState (fields_of bytes.old frames.old) }
     requires back { length back.now ≤ header_size }
-    ensures { (s : State) (v : Tree) → IsAt (held bytes.old frames.old) s → type_of v ≡ type_ → encoded_body v ≡ front.now ++ back.now
-        → (takes_trees s.opened ≡ false → placed s.closed s.opened v ≡ None)
-        → Makes (sized (nat_lt (length (encoded_body v)) size_limit) (placed s.closed s.opened v)) (held bytes.old frames.old) (held bytes.new frames.new) result }
+    ensures { (s : State) (v : Tree) → IsAt (fields_of bytes.old frames.old) s
+        → type_of v ≡ type_ → encoded_body v ≡ front.now ++ back.now
+        → (takes_trees s.opened ≡ false → state_with_value s.closed s.opened v ≡ None)
+        → Makes (outcome_if_fits (nat_lt (length (encoded_body v)) size_limit) (state_with_value s.closed s.opened v))
+        (fields_of bytes.old frames.old) (fields_of bytes.new frames.new) result }
 {
     let innermost = frames.innermost();
     let size = front.len().saturating_add(back.len());
@@ -55,10 +57,12 @@ pub(crate) fn add_encoding(
     size: usize,
     encoding: &[u8],
 ) -> Result<(), Errno>
-    requires holds { IsHeld (held bytes.old frames.old) }
-    ensures { (s : State) (v : Tree) → IsAt (held bytes.old frames.old) s → length (encoded_body v) ≡ size → encoding_of v ≡ encoding.now
-        → (takes_trees s.opened ≡ false → placed s.closed s.opened v ≡ None)
-        → Makes (sized (nat_lt (length (encoded_body v)) size_limit) (placed s.closed s.opened v)) (held bytes.old frames.old) (held bytes.new frames.new) result }
+    requires holds { HasState (fields_of bytes.old frames.old) }
+    ensures { (s : State) (v : Tree) → IsAt (fields_of bytes.old frames.old) s
+        → length (encoded_body v) ≡ size → encoding_of v ≡ encoding.now
+        → (takes_trees s.opened ≡ false → state_with_value s.closed s.opened v ≡ None)
+        → Makes (outcome_if_fits (nat_lt (length (encoded_body v)) size_limit) (state_with_value s.closed s.opened v))
+        (fields_of bytes.old frames.old) (fields_of bytes.new frames.new) result }
 {
     let innermost = frames.innermost();
     admit(bytes.len(), frames, size)?;
@@ -82,9 +86,10 @@ pub(crate) fn add_values<T: CanonicalFixedSizedPod>(
     frames: &mut Frames,
     values: &[T],
 ) -> Result<(), Errno>
-    requires holds { IsHeld (held bytes.old frames.old) }
-    ensures { (s : State) → IsAt (held bytes.old frames.old) s
-        → Makes (step s (add (array T.kind (map T.fixed values.now)))) (held bytes.old frames.old) (held bytes.new frames.new) result }
+    requires holds { HasState (fields_of bytes.old frames.old) }
+    ensures { (s : State) → IsAt (fields_of bytes.old frames.old) s
+        → Makes (step s (add (array T.kind (map T.fixed values.now)))) (fields_of bytes.old frames.old)
+        (fields_of bytes.new frames.new) result }
 {
     let innermost = frames.innermost();
     let had = bytes.len();
@@ -118,10 +123,12 @@ pub(crate) fn add_bodies<T: CanonicalFixedSizedPod>(
     frames: &mut Frames,
     bodies: &[u8],
 ) -> Result<(), Errno>
-    requires holds { IsHeld (held bytes.old frames.old) }
+    requires holds { HasState (fields_of bytes.old frames.old) }
     requires whole { AreWhole T.SIZE bodies.now }
-    ensures { (s : State) (xs : List Fixed) → IsAt (held bytes.old frames.old) s → AreElements T.kind xs bodies.now
-        → Makes (step s (add (array T.kind xs))) (held bytes.old frames.old) (held bytes.new frames.new) result }
+    ensures { (s : State) (xs : List Fixed) → IsAt (fields_of bytes.old frames.old) s
+        → AreElements T.kind xs bodies.now
+        → Makes (step s (add (array T.kind xs))) (fields_of bytes.old frames.old)
+        (fields_of bytes.new frames.new) result }
 {
     let innermost = frames.innermost();
     let had = bytes.len();
@@ -144,9 +151,10 @@ pub(crate) fn add_elements(
     frames: &mut Frames,
     values: &ValueArray,
 ) -> Result<(), Errno>
-    requires holds { IsHeld (held bytes.old frames.old) }
-    ensures { (s : State) → IsAt (held bytes.old frames.old) s
-        → Makes (step s (add (array_view values.now))) (held bytes.old frames.old) (held bytes.new frames.new) result }
+    requires holds { HasState (fields_of bytes.old frames.old) }
+    ensures { (s : State) → IsAt (fields_of bytes.old frames.old) s
+        → Makes (step s (add (array_view values.now))) (fields_of bytes.old frames.old)
+        (fields_of bytes.new frames.new) result }
 {
     match values {
         ValueArray::None(xs) => add_values(bytes, frames, xs.as_slice()),
@@ -169,9 +177,10 @@ pub(crate) fn add_fixed<T: CanonicalFixedSizedPod>(
     frames: &mut Frames,
     value: &T,
 ) -> Result<(), Errno>
-    requires holds { IsHeld (held bytes.old frames.old) }
-    ensures { (s : State) → IsAt (held bytes.old frames.old) s
-        → Makes (step s (add (fixed (T.fixed value.now)))) (held bytes.old frames.old) (held bytes.new frames.new) result }
+    requires holds { HasState (fields_of bytes.old frames.old) }
+    ensures { (s : State) → IsAt (fields_of bytes.old frames.old) s
+        → Makes (step s (add (fixed (T.fixed value.now)))) (fields_of bytes.old frames.old)
+        (fields_of bytes.new frames.new) result }
 {
     let innermost = frames.innermost();
     if takes_elements(innermost) {
@@ -191,10 +200,13 @@ fn add_element(
     type_: u32,
     body: &[u8],
 ) -> Result<(), Errno>
-    requires holds { IsHeld (held bytes.old frames.old) }
+    requires holds { HasState (fields_of bytes.old frames.old) }
     requires body { length body.now ≤ header_size }
-    ensures { (s : State) (x : Fixed) → IsAt (held bytes.old frames.old) s → type_number (kind_of x) ≡ type_ → fixed_body x ≡ body.now → takes_elements s.opened ≡ true
-        → Makes (sized (nat_lt (length (fixed_body x)) size_limit) (placed s.closed s.opened (fixed x))) (held bytes.old frames.old) (held bytes.new frames.new) result }
+    ensures { (s : State) (x : Fixed) → IsAt (fields_of bytes.old frames.old) s
+        → type_number (kind_of x) ≡ type_ → fixed_body x ≡ body.now → takes_elements s.opened ≡ true
+        → Makes (outcome_if_fits (nat_lt (length (fixed_body x)) size_limit)
+        (state_with_value s.closed s.opened (fixed x))) (fields_of bytes.old frames.old)
+        (fields_of bytes.new frames.new) result }
 {
     let Some(open) = frames.innermost() else {
         return Err(Errno::INVAL);
@@ -221,7 +233,9 @@ fn add_element(
 /// Writes the child header at the offset `at`, where the element is the first one.
 fn set_child(bytes: &mut Written, first: bool, at: usize, size: u32, type_: u32)
     requires { at + 8 ≤ length bytes.old }
-    ensures first { first ≡ true → (front back : List ℕ) (a b : ℕ) → at ≡ length front → bytes.old ≡ front ++ (word_bytes a ++ (word_bytes b ++ back)) → bytes.new ≡ front ++ (word_bytes size ++ (word_bytes type_ ++ back)) }
+    ensures first { first ≡ true → (front back : List ℕ) (a b : ℕ) → at ≡ length front
+        → bytes.old ≡ front ++ (word_bytes a ++ (word_bytes b ++ back))
+        → bytes.new ≡ front ++ (word_bytes size ++ (word_bytes type_ ++ back)) }
     ensures later { first ≡ false → bytes.new ≡ bytes.old }
 {
     if first {
@@ -237,9 +251,10 @@ pub(crate) fn add_key(
     key: u32,
     flags: u32,
 ) -> Result<(), Errno>
-    requires { IsHeld (held bytes.old frames.old) }
-    ensures { (s : State) → IsAt (held bytes.old frames.old) s
-        → Makes (sized true (keyed s.closed s.opened key flags)) (held bytes.old frames.old) (held bytes.new frames.new) result }
+    requires { HasState (fields_of bytes.old frames.old) }
+    ensures { (s : State) → IsAt (fields_of bytes.old frames.old) s
+        → Makes (outcome_if_fits true (state_with_key s.closed s.opened key flags)) (fields_of bytes.old frames.old)
+        (fields_of bytes.new frames.new) result }
 {
     if !takes_key(frames.innermost()) {
         return Err(Errno::INVAL);
@@ -260,13 +275,16 @@ pub(crate) fn begin_tree<const N: usize>(
     what: What,
     head: [u8; N],
 ) -> Result<Frame, Errno>
-    requires holds { IsHeld (held bytes.old frames.old) }
+    requires holds { HasState (fields_of bytes.old frames.old) }
     requires what { is_nothing what ≡ false }
     requires head { (n : ℕ) × (n ≤ 2) × (N ≡ 8 + 8 * n) }
     requires size { length head ≡ N }
-    ensures step { (s : State) (p : Partial) → IsAt (held bytes.old frames.old) s → what ≡ what_of p → head.entry ≡ so_far p → IsFair p
-        → Makes (sized true (begun p s)) (held bytes.old frames.old) (held bytes.new frames.new) result }
-    ensures frame { (s : State) → IsAt (held bytes.old frames.old) s → IfOk result (λ f. f.0 ≡ length s.opened + 1) }
+    ensures step { (s : State) (p : Partial) → IsAt (fields_of bytes.old frames.old) s
+        → what ≡ what_of p → head.entry ≡ so_far p → IsFair p
+        → Makes (outcome_if_fits true (state_with_tree p s)) (fields_of bytes.old frames.old)
+        (fields_of bytes.new frames.new) result }
+    ensures frame { (s : State) → IsAt (fields_of bytes.old frames.old) s
+        → IfOk result (λ f. f.0 ≡ length s.opened + 1) }
 {
     if !takes_trees(frames.innermost()) {
         return Err(Errno::INVAL);
@@ -282,9 +300,10 @@ pub(crate) fn begin_tree<const N: usize>(
 /// Closes the innermost open pod.
 #[inline(always)]
 pub(crate) fn close(bytes: &mut Written, frames: &mut Frames, frame: usize) -> Result<(), Errno>
-    requires { IsHeld (held bytes.old frames.old) }
-    ensures { (s : State) → IsAt (held bytes.old frames.old) s
-        → Makes (taken (closes s.closed s.opened frame)) (held bytes.old frames.old) (held bytes.new frames.new) result }
+    requires { HasState (fields_of bytes.old frames.old) }
+    ensures { (s : State) → IsAt (fields_of bytes.old frames.old) s
+        → Makes (outcome_of (state_after_pop s.closed s.opened frame)) (fields_of bytes.old frames.old)
+        (fields_of bytes.new frames.new) result }
 {
     let Some(open) = frames.innermost() else {
         return Err(Errno::INVAL);
@@ -307,9 +326,10 @@ pub(crate) fn close(bytes: &mut Written, frames: &mut Frames, frame: usize) -> R
 /// Gives up the innermost open pod, and removes its bytes.
 #[inline(always)]
 pub(crate) fn leave(bytes: &mut Written, frames: &mut Frames, frame: usize) -> Result<(), Errno>
-    requires { IsHeld (held bytes.old frames.old) }
-    ensures { (s : State) → IsAt (held bytes.old frames.old) s
-        → Makes (taken (abandoned s.closed s.opened frame)) (held bytes.old frames.old) (held bytes.new frames.new) result }
+    requires { HasState (fields_of bytes.old frames.old) }
+    ensures { (s : State) → IsAt (fields_of bytes.old frames.old) s
+        → Makes (outcome_of (state_after_abandon s.closed s.opened frame)) (fields_of bytes.old frames.old)
+        (fields_of bytes.new frames.new) result }
 {
     let Some(open) = frames.innermost() else {
         return Err(Errno::INVAL);

@@ -71,7 +71,8 @@ pub(crate) fn put_pod(
 /// Appends the canonical bodies of the elements with these bodies. Where memory runs out, what was appended stays.
 fn put_each<T: CanonicalFixedSizedPod>(bytes: &mut Written, bodies: &[u8]) -> Result<(), Errno>
     requires { AreWhole T.SIZE bodies.now }
-    ensures ok { OnOk result ((xs : List Fixed) → AreElements T.kind xs bodies.now → bytes.new ≡ bytes.old ++ fixed_bodies xs) }
+    ensures ok { OnOk result ((xs : List Fixed) → AreElements T.kind xs bodies.now
+        → bytes.new ≡ bytes.old ++ fixed_bodies xs) }
     ensures grown { IsGrown bytes.old bytes.new }
     ensures memory { IfErr result (λ e. e ≡ NOMEM) }
 {
@@ -91,7 +92,8 @@ pub(crate) fn put_bodies<T: CanonicalFixedSizedPod>(
 ) -> Result<(), Errno>
     requires whole { AreWhole T.SIZE bodies.now }
     requires small { header_size + length bodies.now < size_limit }
-    ensures ok { OnOk result ((xs : List Fixed) → AreElements T.kind xs bodies.now → bytes.new ≡ bytes.old ++ framed array_type (array_body T.kind xs)) }
+    ensures ok { OnOk result ((xs : List Fixed) → AreElements T.kind xs bodies.now
+        → bytes.new ≡ bytes.old ++ framed array_type (array_body T.kind xs)) }
     ensures grown { IsGrown bytes.old bytes.new }
     ensures memory { IfErr result (λ e. e ≡ NOMEM) }
 {

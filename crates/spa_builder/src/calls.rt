@@ -2,7 +2,7 @@
 ghost use Rattle.std.specs.Prelude.{◌≡◌, [], IfErr, IfOk, length, vec_capacity};
 ghost use Rattle.spa_builder.specs.State.{State, start};
 ghost use Rattle.spa_builder.specs.Step.{step};
-ghost use Rattle.spa_builder.specs.Held.{IsAt};
+ghost use Rattle.spa_builder.specs.Fields.{IsAt};
 ghost use Rattle.spa_builder.specs.Answers.{Makes};
 ghost use Rattle.spa_builder.specs.Replay.{IsReplayed, IsRunning, call_of, calls_of};
 ghost use Rattle.spa_utils.specs.declared.errno.TheConstants.Errno.{NOMEM};

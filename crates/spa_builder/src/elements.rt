@@ -3,8 +3,8 @@ ghost use Rattle.std.specs.Prelude.{◌≡◌, List, ℕ, true, false, is_some};
 ghost use Rattle.spa_format.specs.Kind.{Fixed, kind_of, type_number};
 ghost use Rattle.spa_format.specs.Tree.{Shape, shape_number};
 ghost use Rattle.spa_builder.specs.State.{Partial};
-ghost use Rattle.spa_builder.specs.Step.{finished, has_place};
-ghost use Rattle.spa_builder.specs.Held.{what_of};
+ghost use Rattle.spa_builder.specs.Step.{closed_value, has_place};
+ghost use Rattle.spa_builder.specs.Fields.{what_of};
 ghost use Rattle.spa_builder.specs.Framed.{is_nothing};
 ghost use Rattle.spa_builder.specs.Innermost.{innermost_of, is_first, takes_element, takes_elements, with_element};
 
@@ -49,7 +49,8 @@ fn has_place(shape: u32, count: u32) -> bool
 
 /// Whether an element of this type is allowed next in the pod.
 pub(crate) fn takes_element(what: What, type_: u32) -> bool
-    ensures { (p : Partial) (x : Fixed) → what ≡ what_of p → type_ ≡ type_number (kind_of x) → result ≡ takes_element p x }
+    ensures { (p : Partial) (x : Fixed) → what ≡ what_of p → type_ ≡ type_number (kind_of x)
+        → result ≡ takes_element p x }
 {
     let Elements {
         shape,
@@ -67,7 +68,8 @@ pub(crate) fn takes_element(what: What, type_: u32) -> bool
 
 /// The pod's stage and elements after one more element of this type.
 pub(crate) fn with_element(what: What, type_: u32) -> What
-    ensures with { (p : Partial) (x : Fixed) → what ≡ what_of p → type_ ≡ type_number (kind_of x) → takes_element p x ≡ true → result ≡ what_of (with_element p x) }
+    ensures with { (p : Partial) (x : Fixed) → what ≡ what_of p → type_ ≡ type_number (kind_of x)
+        → takes_element p x ≡ true → result ≡ what_of (with_element p x) }
     ensures something { is_nothing what ≡ false → is_nothing result ≡ false }
 {
     let Elements { shape, count, .. } = what.elements;
@@ -90,7 +92,7 @@ pub(crate) fn with_element(what: What, type_: u32) -> What
 /// Whether the pod may be closed: it lacks no value.
 #[inline(always)]
 pub(crate) fn is_finished(what: What) -> bool
-    ensures { (p : Partial) → what ≡ what_of p → result ≡ is_some (finished p) }
+    ensures { (p : Partial) → what ≡ what_of p → result ≡ is_some (closed_value p) }
 {
     let Elements { shape, count, .. } = what.elements;
     match (what.stage, shape) {

@@ -5,9 +5,9 @@ ghost use Rattle.spa_format.specs.Words.{size_limit};
 ghost use Rattle.spa_spare_capacity.specs.Limits.{longest_piece, vector_limit};
 ghost use Rattle.spa_builder.specs.State.{Partial};
 ghost use Rattle.spa_builder.specs.Step.{takes_trees};
-ghost use Rattle.spa_builder.specs.Held.{all_so_far, frames_of, what_of};
+ghost use Rattle.spa_builder.specs.Fields.{all_so_far, frames_of, what_of};
 ghost use Rattle.spa_builder.specs.Framed.{at_stage, is_nothing, most_bytes, no_stage};
-ghost use Rattle.spa_builder.specs.Innermost.{filled, has_room_for, innermost_of, takes_key, waits};
+ghost use Rattle.spa_builder.specs.Innermost.{trees_with_value, has_room_for, innermost_of, takes_key, waits};
 ghost use Rattle.spa_builder.specs.Answers.{IsAdmitted};
 ghost use Rattle.spa_utils.specs.declared.errno.TheConstants.Errno.{NOMEM};
 
@@ -166,9 +166,11 @@ impl Frames {
     /// Whether every size word still fits 32 bits after `more` bytes: that of the outermost pod is the greatest.
     #[inline(always)]
     pub(crate) fn has_room(&self, len: usize, more: usize) -> bool
-        requires within { (base : ℕ) × (ps : List Partial) × (self.now ≡ frames_of base ps) × (len ≡ base + length (all_so_far ps)) × IsTrue (has_room_for 0 ps) }
+        requires within { (base : ℕ) × (ps : List Partial) × (self.now ≡ frames_of base ps)
+            × (len ≡ base + length (all_so_far ps)) × IsTrue (has_room_for 0 ps) }
         requires more { more < 2 * size_limit }
-        ensures { (base : ℕ) (ps : List Partial) → self.now ≡ frames_of base ps → len ≡ base + length (all_so_far ps) → result ≡ has_room_for more ps }
+        ensures { (base : ℕ) (ps : List Partial) → self.now ≡ frames_of base ps → len ≡ base + length (all_so_far ps)
+            → result ≡ has_room_for more ps }
     {
         if is_nothing(self.innermost.what) {
             return true;
@@ -180,7 +182,8 @@ impl Frames {
     #[inline(always)]
     pub(crate) fn set_innermost(&mut self, what: What)
         requires { is_nothing what ≡ false }
-        ensures { (base : ℕ) (p q : Partial) (ps : List Partial) → self.old ≡ frames_of base (p ∷ ps) → what ≡ what_of q → self.new ≡ frames_of base (q ∷ ps) }
+        ensures { (base : ℕ) (p q : Partial) (ps : List Partial) → self.old ≡ frames_of base (p ∷ ps)
+            → what ≡ what_of q → self.new ≡ frames_of base (q ∷ ps) }
     {
         self.innermost.what = what;
     }
@@ -189,7 +192,8 @@ impl Frames {
     #[inline(always)]
     pub(crate) fn set_stage(&mut self, stage: Stage)
         requires { no_stage stage ≡ false }
-        ensures { (base : ℕ) (p q : Partial) (ps : List Partial) → self.old ≡ frames_of base (p ∷ ps) → at_stage (what_of p) stage ≡ what_of q → self.new ≡ frames_of base (q ∷ ps) }
+        ensures { (base : ℕ) (p q : Partial) (ps : List Partial) → self.old ≡ frames_of base (p ∷ ps)
+            → at_stage (what_of p) stage ≡ what_of q → self.new ≡ frames_of base (q ∷ ps) }
     {
         self.innermost.what.stage = stage;
     }
@@ -230,7 +234,8 @@ impl Frames {
     #[inline(always)]
     pub(crate) fn pop(&mut self)
         requires { (base : ℕ) × (p : Partial) × (ps : List Partial) × (self.old ≡ frames_of base (p ∷ ps)) }
-        ensures { (base : ℕ) (p : Partial) (ps : List Partial) → self.old ≡ frames_of base (p ∷ ps) → self.new ≡ frames_of base ps }
+        ensures { (base : ℕ) (p : Partial) (ps : List Partial) → self.old ≡ frames_of base (p ∷ ps)
+            → self.new ≡ frames_of base ps }
     {
         let Some(frame) = self.outer.pop() else {
             self.innermost = NO_FRAME;
@@ -280,8 +285,10 @@ pub(crate) fn takes_key(innermost: Option<BegunPod>) -> bool
 /// size word wouldn't fit 32 bits.
 #[inline(always)]
 pub(crate) fn admit(len: usize, frames: &Frames, size: usize) -> Result<(), Errno>
-    requires { (base : ℕ) × (ps : List Partial) × (frames.now ≡ frames_of base ps) × (len ≡ base + length (all_so_far ps)) × IsTrue (has_room_for 0 ps) }
-    ensures { (base : ℕ) (ps : List Partial) → frames.now ≡ frames_of base ps → len ≡ base + length (all_so_far ps) → IsAdmitted size ps result }
+    requires { (base : ℕ) × (ps : List Partial) × (frames.now ≡ frames_of base ps)
+        × (len ≡ base + length (all_so_far ps)) × IsTrue (has_room_for 0 ps) }
+    ensures { (base : ℕ) (ps : List Partial) → frames.now ≡ frames_of base ps → len ≡ base + length (all_so_far ps)
+        → IsAdmitted size ps result }
 {
     if !takes_trees(frames.innermost()) {
         return Err(Errno::INVAL);
@@ -298,7 +305,8 @@ pub(crate) fn admit(len: usize, frames: &Frames, size: usize) -> Result<(), Errn
 /// Marks that a value was added to the innermost open pod, whose frame was read before: a key that waited doesn't any more.
 #[inline(always)]
 pub(crate) fn fill(frames: &mut Frames, innermost: Option<BegunPod>)
-    ensures { (base : ℕ) (ps : List Partial) (v : Tree) → IsTrue (takes_trees ps) → frames.old ≡ frames_of base ps → innermost ≡ innermost_of base ps → frames.new ≡ frames_of base (filled ps v) }
+    ensures { (base : ℕ) (ps : List Partial) (v : Tree) → IsTrue (takes_trees ps) → frames.old ≡ frames_of base ps
+        → innermost ≡ innermost_of base ps → frames.new ≡ frames_of base (trees_with_value ps v) }
 {
     if waits(innermost) {
         frames.set_stage(Stage::Object);

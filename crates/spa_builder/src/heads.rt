@@ -2,7 +2,7 @@
 ghost use Rattle.std.specs.Prelude.{◌≡◌, []};
 ghost use Rattle.spa_format.specs.Tree.{Shape, no_properties, no_trees, shape_number};
 ghost use Rattle.spa_builder.specs.State.{open_array, open_choice, open_object, open_struct};
-ghost use Rattle.spa_builder.specs.Held.{so_far};
+ghost use Rattle.spa_builder.specs.Fields.{so_far};
 
 use spa_bytes::{HEADER_LEN, two_words};
 use spa_utils::SpaTypes;

@@ -4,29 +4,39 @@ ghost use Rattle.spa_format.specs.Tree.{Properties, Tree, object, property_node_
 ghost use Rattle.spa_format.specs.Writable.{IsWritable};
 ghost use Rattle.spa_builder.specs.State.{State, start};
 ghost use Rattle.spa_builder.specs.Step.{Accepts, Call, add, pop, step};
-ghost use Rattle.spa_builder.specs.Held.{Held, IsAt};
+ghost use Rattle.spa_builder.specs.Fields.{BuilderFields, IsAt};
 ghost use Rattle.spa_builder.specs.Answers.{Makes};
-ghost use Rattle.spa_builder.specs.Replay.{spelled, spelled_from};
-ghost use Rattle.spa_builder.specs.Making.{AreFixed, ComesTo, built, calls_for, open_behind};
+ghost use Rattle.spa_builder.specs.Replay.{state_after_calls, state_from};
+ghost use Rattle.spa_builder.specs.Making.{AreFixed, ComesTo, state_of_value, calls_for, open_behind};
 ghost use Rattle.spa_utils.specs.declared.errno.Errno.{Errno};
 ghost use Rattle.spa_utils.specs.declared.frame.Frame.{Frame};
 ghost use Rattle.spa_utils.specs.declared.errno.TheConstants.Errno.{NOMEM};
 
 /// Building a value call by call gives the state that adding it as one value gives: each call is accepted where that would be.
 pub fn values_are_made_call_by_call()
-    ensures made { (s t : State) (v : Tree) → step s (add v) ≡ Accepts t → spelled_from s (calls_for (length s.opened) v) ≡ Some t }
-    ensures begins { (v : Tree) (b : Held) → IsWritable v → IsAt b start → ComesTo 0 (built v) (calls_for 0 v) b }
-    ensures built { (v : Tree) → IsWritable v → spelled (calls_for 0 v) ≡ Some (built v) }
+    ensures made { (s t : State) (v : Tree) → step s (add v) ≡ Accepts t
+        → state_from s (calls_for (length s.opened) v) ≡ Some t }
+    ensures begins { (v : Tree) (b : BuilderFields) → IsWritable v → IsAt b start
+        → ComesTo 0 (state_of_value v) (calls_for 0 v) b }
+    ensures built { (v : Tree) → IsWritable v → state_after_calls (calls_for 0 v) ≡ Some (state_of_value v) }
 {}
 
 /// A builder that these calls bring to a state is brought there by the calls behind the first, once that is answered `Ok`; it refuses the
 /// first only for want of memory. The last call brings it to the state.
 pub fn calls_go_on()
-    ensures answered { (n : ℕ) (t : State) (c : Call) (cs : List Call) (old new : Held) (r : Result (Unit {0}) Errno) → ComesTo n t (c ∷ cs) old → ((s : State) → IsAt old s → Makes (step s c) old new r) → MatchResult r (λ _. ComesTo (open_behind n c) t cs new) (λ e. (e ≡ NOMEM) × (new ≡ old)) }
-    ensures begun { (n : ℕ) (t : State) (c : Call) (cs : List Call) (old new : Held) (r : Result Frame Errno) → ComesTo n t (c ∷ cs) old → ((s : State) → IsAt old s → Makes (step s c) old new r) → MatchResult r (λ _. ComesTo (open_behind n c) t cs new) (λ e. (e ≡ NOMEM) × (new ≡ old)) }
-    ensures last { (n : ℕ) (t : State) (c : Call) (old new : Held) (r : Result (Unit {0}) Errno) → ComesTo n t (c ∷ []) old → ((s : State) → IsAt old s → Makes (step s c) old new r) → OnOk r (IsAt new t) × IfErr r (λ e. e ≡ NOMEM) }
+    ensures answered { (n : ℕ) (t : State) (c : Call) (cs : List Call) (old new : BuilderFields)
+        (r : Result (Unit {0}) Errno) → ComesTo n t (c ∷ cs) old
+        → ((s : State) → IsAt old s → Makes (step s c) old new r)
+        → MatchResult r (λ _. ComesTo (open_behind n c) t cs new) (λ e. (e ≡ NOMEM) × (new ≡ old)) }
+    ensures begun { (n : ℕ) (t : State) (c : Call) (cs : List Call) (old new : BuilderFields) (r : Result Frame Errno)
+        → ComesTo n t (c ∷ cs) old → ((s : State) → IsAt old s → Makes (step s c) old new r)
+        → MatchResult r (λ _. ComesTo (open_behind n c) t cs new) (λ e. (e ≡ NOMEM) × (new ≡ old)) }
+    ensures last { (n : ℕ) (t : State) (c : Call) (old new : BuilderFields) (r : Result (Unit {0}) Errno)
+        → ComesTo n t (c ∷ []) old → ((s : State) → IsAt old s → Makes (step s c) old new r) → OnOk r (IsAt new t)
+        × IfErr r (λ e. e ≡ NOMEM) }
     // A pod is closed by the frame that opening it answered.
-    ensures frame { (n m frame : ℕ) (t : State) (cs : List Call) (b : Held) → frame ≡ m → ComesTo n t (pop m ∷ cs) b → ComesTo n t (pop frame ∷ cs) b }
+    ensures frame { (n m frame : ℕ) (t : State) (cs : List Call) (b : BuilderFields) → frame ≡ m
+        → ComesTo n t (pop m ∷ cs) b → ComesTo n t (pop frame ∷ cs) b }
 {}
 
 /// An object of fewer than 134,217,728 properties, whose values are of fixed size, can be written.

@@ -8,8 +8,8 @@ ghost use Rattle.spa_utils.specs.declared.errno.TheConstants.Errno.{INVAL, NOMEM
 ghost use Rattle.spa_scan.specs.Canonical.{BeginsCanonical};
 ghost use Rattle.spa_view.specs.View.{pod_bytes};
 ghost use Rattle.spa_builder.specs.State.{Partial, State};
-ghost use Rattle.spa_builder.specs.Step.{add, placed, step, takes_trees};
-ghost use Rattle.spa_builder.specs.Held.{IsAt, IsHeld, held};
+ghost use Rattle.spa_builder.specs.Step.{add, state_with_value, step, takes_trees};
+ghost use Rattle.spa_builder.specs.Fields.{IsAt, HasState, fields_of};
 ghost use Rattle.spa_builder.specs.Innermost.{innermost_of};
 ghost use Rattle.spa_builder.specs.Answers.{IsCopied, Makes, MakesPod};
 
@@ -30,7 +30,8 @@ use spa_view::{Pod, whole_bytes};
 
 /// Whether a value of this type is allowed next.
 fn takes_type(innermost: Option<BegunPod>, type_: u32) -> bool
-    ensures { (base : ℕ) (closed : Trees) (ps : List Partial) (v : Tree) → innermost ≡ innermost_of base ps → type_of v ≡ type_ → result ≡ is_some (placed closed ps v) }
+    ensures { (base : ℕ) (closed : Trees) (ps : List Partial) (v : Tree) → innermost ≡ innermost_of base ps
+        → type_of v ≡ type_ → result ≡ is_some (state_with_value closed ps v) }
 {
     let Some(open) = innermost else {
         return true;
@@ -57,12 +58,13 @@ fn errno_of(why: Refusal) -> Errno
 
 /// Reads a whole pod, and adds its value, where a value of its type is allowed next.
 fn add_read(bytes: &mut Written, frames: &mut Frames, pod: &[u8]) -> Result<(), Errno>
-    requires holds { IsHeld (held bytes.old frames.old) }
+    requires holds { HasState (fields_of bytes.old frames.old) }
     requires whole { length pod.now ≡ extent (word_at pod.now 0) }
-    requires place { (s : State) (v : Tree) → IsAt (held bytes.old frames.old) s → word_at pod.now 4 ≡ type_of v → placed s.closed s.opened v ≢ None }
-    ensures makes { (s : State) → IsAt (held bytes.old frames.old) s
-        → MakesPod s pod.now (held bytes.old frames.old) (held bytes.new frames.new) result }
-    ensures holds { IsHeld (held bytes.new frames.new) }
+    requires place { (s : State) (v : Tree) → IsAt (fields_of bytes.old frames.old) s → word_at pod.now 4 ≡ type_of v
+        → state_with_value s.closed s.opened v ≢ None }
+    ensures makes { (s : State) → IsAt (fields_of bytes.old frames.old) s
+        → MakesPod s pod.now (fields_of bytes.old frames.old) (fields_of bytes.new frames.new) result }
+    ensures holds { HasState (fields_of bytes.new frames.new) }
 {
     match read_value(bytes.allocator(), pod, &mut 0) {
         Ok((_, value)) => add_any(bytes, frames, &*Held::from(value)),
@@ -72,25 +74,25 @@ fn add_read(bytes: &mut Written, frames: &mut Frames, pod: &[u8]) -> Result<(), 
 
 /// Adds the value of a whole canonical pod, where a value of any type is allowed, by copying the bytes.
 fn add_copied(bytes: &mut Written, frames: &mut Frames, pod: &[u8]) -> Result<(), Errno>
-    requires holds { IsHeld (held bytes.old frames.old) }
+    requires holds { HasState (fields_of bytes.old frames.old) }
     requires whole { length pod.now ≡ extent (word_at pod.now 0) }
     requires own { (rest : List ℕ) × BeginsCanonical pod.now rest }
-    requires place { (s : State) → IsAt (held bytes.old frames.old) s → takes_trees s.opened ≡ true }
-    ensures makes { (s : State) (v : Tree) → IsAt (held bytes.old frames.old) s → IsPod pod.now v
-        → Makes (step s (add v)) (held bytes.old frames.old) (held bytes.new frames.new) result }
-    ensures holds { IsHeld (held bytes.new frames.new) }
+    requires place { (s : State) → IsAt (fields_of bytes.old frames.old) s → takes_trees s.opened ≡ true }
+    ensures makes { (s : State) (v : Tree) → IsAt (fields_of bytes.old frames.old) s → IsPod pod.now v
+        → Makes (step s (add v)) (fields_of bytes.old frames.old) (fields_of bytes.new frames.new) result }
+    ensures holds { HasState (fields_of bytes.new frames.new) }
 {
     add_encoding(bytes, frames, u32_at(pod, 0) as usize, pod)
 }
 
 /// Adds the value of a pod. Where a value of any type is allowed, the bytes of a canonical pod are copied.
 pub(crate) fn add_seen(bytes: &mut Written, frames: &mut Frames, pod: &Pod<'_>) -> Result<(), Errno>
-    requires { IsHeld (held bytes.old frames.old) }
-    ensures makes { (s : State) → IsAt (held bytes.old frames.old) s
-        → MakesPod s (pod_bytes pod.now) (held bytes.old frames.old) (held bytes.new frames.new) result }
-    ensures copied { (s : State) (v : Tree) → IsAt (held bytes.old frames.old) s → IsCopied s (pod_bytes pod.now) v
-        → Makes (step s (add v)) (held bytes.old frames.old) (held bytes.new frames.new) result }
-    ensures holds { IsHeld (held bytes.new frames.new) }
+    requires { HasState (fields_of bytes.old frames.old) }
+    ensures makes { (s : State) → IsAt (fields_of bytes.old frames.old) s
+        → MakesPod s (pod_bytes pod.now) (fields_of bytes.old frames.old) (fields_of bytes.new frames.new) result }
+    ensures copied { (s : State) (v : Tree) → IsAt (fields_of bytes.old frames.old) s → IsCopied s (pod_bytes pod.now) v
+        → Makes (step s (add v)) (fields_of bytes.old frames.old) (fields_of bytes.new frames.new) result }
+    ensures holds { HasState (fields_of bytes.new frames.new) }
 {
     let innermost = frames.innermost();
     if !takes_type(innermost, pod.type_().0) {

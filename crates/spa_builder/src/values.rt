@@ -6,7 +6,7 @@ ghost use Rattle.spa_format.specs.Tree.{fixed};
 ghost use Rattle.spa_format.specs.Writable.{IsWritable};
 ghost use Rattle.spa_value.specs.View.{view};
 ghost use Rattle.spa_builder.specs.State.{State};
-ghost use Rattle.spa_builder.specs.Held.{IsAt, IsHeld, held};
+ghost use Rattle.spa_builder.specs.Fields.{IsAt, HasState, fields_of};
 ghost use Rattle.spa_builder.specs.Answers.{MakesValue, RefusesValue, errno_of};
 
 use crate::building::{add_elements, add_fixed};
@@ -49,10 +49,10 @@ fn put_value(bytes: &mut Written, value: &Value) -> Result<usize, Errno>
 
 /// Adds a value that isn't of fixed size, by its encoding.
 fn add_written(bytes: &mut Written, frames: &mut Frames, value: &Value) -> Result<(), Errno>
-    requires holds { IsHeld (held bytes.old frames.old) }
+    requires holds { HasState (fields_of bytes.old frames.old) }
     requires long { (x : Fixed) → view value.now ≢ fixed x }
-    ensures { (s : State) → IsAt (held bytes.old frames.old) s
-        → MakesValue s (view value.now) (held bytes.old frames.old) (held bytes.new frames.new) result }
+    ensures { (s : State) → IsAt (fields_of bytes.old frames.old) s
+        → MakesValue s (view value.now) (fields_of bytes.old frames.old) (fields_of bytes.new frames.new) result }
 {
     let innermost = frames.innermost();
     if !takes_trees(innermost) {
@@ -70,9 +70,9 @@ fn add_written(bytes: &mut Written, frames: &mut Frames, value: &Value) -> Resul
 
 /// Adds a value: one of fixed size as the call of its kind does, and an array as a whole one.
 pub(crate) fn add_any(bytes: &mut Written, frames: &mut Frames, value: &Value) -> Result<(), Errno>
-    requires { IsHeld (held bytes.old frames.old) }
-    ensures { (s : State) → IsAt (held bytes.old frames.old) s
-        → MakesValue s (view value.now) (held bytes.old frames.old) (held bytes.new frames.new) result }
+    requires { HasState (fields_of bytes.old frames.old) }
+    ensures { (s : State) → IsAt (fields_of bytes.old frames.old) s
+        → MakesValue s (view value.now) (fields_of bytes.old frames.old) (fields_of bytes.new frames.new) result }
 {
     trees_have_their_types();
     match value {

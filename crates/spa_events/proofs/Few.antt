@@ -5,7 +5,7 @@ use Rattle.std.proofs.lemmas.Bool.{cases_lt}
 use Rattle.spa_format.specs.Words.{body_of, extent, word_at}
 use Rattle.spa_format.specs.Walk.{extent_behind, property_walk, walk, walk_behind}
 use Rattle.spa_format.proofs.WalkLemmas.{walk_behind-end, walk_behind-there}
-use Rattle.spa_events.specs.Events.{bytes_before, events_along, events_of, events_within, is_object, is_struct, no_parent, told}
+use Rattle.spa_events.specs.Events.{bytes_before, events_along, events_of, events_within, is_object, is_struct, no_parent, event_of}
 use Rattle.spa_events.specs.declared.event.Event.{Event}
 use Rattle.spa_events.proofs.Places.{not_both, size_behind}
 use Rattle.spa_events.proofs.Steps.{events_within-none, events_within-there}
@@ -15,8 +15,8 @@ pub record IsWholePod (pod : List ℕ) : Type 0 where
   pub whole : length pod ≡ extent (word_at pod 0)
 
 -- the function gives no more events of a whole pod than headers have room in it
-pub record TellsFew (tell : ℕ → ℕ → List ℕ → List Event) : Type 0 where
-  pub few : (index at : ℕ) (pod : List ℕ) → IsWholePod pod → length (tell index at pod) * 8 ≤ length pod
+pub record TellsFew (pod_events : ℕ → ℕ → List ℕ → List Event) : Type 0 where
+  pub few : (index at : ℕ) (pod : List ℕ) → IsWholePod pod → length (pod_events index at pod) * 8 ≤ length pod
 
 whole_behind : (k : ℕ) (b : List ℕ) → extent_behind k b ≤ length b → IsWholePod (drop k (take (extent_behind k b) b))
 whole_behind k b h =
@@ -25,40 +25,40 @@ whole_behind k b h =
     let t = length-take (extent_behind k b) b in
     record { whole = omega arith }
 
-along_end : (k : ℕ) (tell : ℕ → ℕ → List ℕ → List Event) (b : List ℕ) (index at : ℕ) → length b < extent_behind k b →
-    length (events_along k tell index at (walk_behind k b)) * 8 ≤ length b
-along_end k tell b index at l = let e = ap (λ ps. length (events_along k tell index at ps)) (walk_behind-end k b l) in omega arith
+along_end : (k : ℕ) (pod_events : ℕ → ℕ → List ℕ → List Event) (b : List ℕ) (index at : ℕ) → length b < extent_behind k b →
+    length (events_along k pod_events index at (walk_behind k b)) * 8 ≤ length b
+along_end k pod_events b index at l = let e = ap (λ ps. length (events_along k pod_events index at ps)) (walk_behind-end k b l) in omega arith
 
-along_few : (k : ℕ) (tell : ℕ → ℕ → List ℕ → List Event) → TellsFew tell → (m : ℕ) (b : List ℕ) (index at : ℕ) → length b ≤ m →
-    length (events_along k tell index at (walk_behind k b)) * 8 ≤ length b
-along_few k tell few zero b index at le = along_end k tell b index at (omega arith)
-along_few k tell few (suc m) b index at le =
+along_few : (k : ℕ) (pod_events : ℕ → ℕ → List ℕ → List Event) → TellsFew pod_events → (m : ℕ) (b : List ℕ) (index at : ℕ) → length b ≤ m →
+    length (events_along k pod_events index at (walk_behind k b)) * 8 ≤ length b
+along_few k pod_events few zero b index at le = along_end k pod_events b index at (omega arith)
+along_few k pod_events few (suc m) b index at le =
     elim (cases_lt (length b) (extent_behind k b)) [
-      | inl l ↦ along_end k tell b index at l
+      | inl l ↦ along_end k pod_events b index at l
       | inr l ↦
           let p = take (extent_behind k b) b in
           let w = whole_behind k b l in
           let f = few.few index (at + k) (drop k p) w in
-          let n = index + length (tell index (at + k) (drop k p)) in
+          let n = index + length (pod_events index (at + k) (drop k p)) in
           let dr = length-drop (extent_behind k b) b in
-          let r = along_few k tell few m (drop (extent_behind k b) b) n (at + length p) (omega arith) in
-          let e = ap (λ ps. length (events_along k tell index at ps)) (walk_behind-there k b l) in
-          let a = length-append (tell index (at + k) (drop k p)) (events_along k tell n (at + length p) (walk_behind k (drop (extent_behind k b) b))) in
+          let r = along_few k pod_events few m (drop (extent_behind k b) b) n (at + length p) (omega arith) in
+          let e = ap (λ ps. length (events_along k pod_events index at ps)) (walk_behind-there k b l) in
+          let a = length-append (pod_events index (at + k) (drop k p)) (events_along k pod_events n (at + length p) (walk_behind k (drop (extent_behind k b) b))) in
           let t = length-take (extent_behind k b) b in
           let d = length-drop k p in
           omega arith
     ]
 
-inside_few : (x y : Bool) (k : ℕ) (tell : ℕ → ℕ → List ℕ → List Event) → TellsFew tell → (body : List ℕ) (index at : ℕ) → k ≡ (if y then 8 else 0) → (x ≡ true → y ≡ false) →
-    length (events_along k tell index at (if x then walk body else (if y then property_walk (drop 8 body) else []))) * 8 ≤ length body
-inside_few true true k tell few body index at e one = absurd (let f = one refl in cc)
-inside_few true false k tell few body index at e one =
-    subst (λ n. length (events_along n tell index at (walk body)) * 8 ≤ length body) (sym e) (along_few 0 tell few (length body) body index at (omega arith))
-inside_few false true k tell few body index at e one =
-    let r = along_few 8 tell few (length (drop 8 body)) (drop 8 body) index at (omega arith) in
+inside_few : (x y : Bool) (k : ℕ) (pod_events : ℕ → ℕ → List ℕ → List Event) → TellsFew pod_events → (body : List ℕ) (index at : ℕ) → k ≡ (if y then 8 else 0) → (x ≡ true → y ≡ false) →
+    length (events_along k pod_events index at (if x then walk body else (if y then property_walk (drop 8 body) else []))) * 8 ≤ length body
+inside_few true true k pod_events few body index at e one = absurd (let f = one refl in cc)
+inside_few true false k pod_events few body index at e one =
+    subst (λ n. length (events_along n pod_events index at (walk body)) * 8 ≤ length body) (sym e) (along_few 0 pod_events few (length body) body index at (omega arith))
+inside_few false true k pod_events few body index at e one =
+    let r = along_few 8 pod_events few (length (drop 8 body)) (drop 8 body) index at (omega arith) in
     let d = length-drop 8 body in
-    subst (λ n. length (events_along n tell index at (property_walk (drop 8 body))) * 8 ≤ length body) (sym e) (omega arith)
-inside_few false false k tell few body index at e one = omega arith
+    subst (λ n. length (events_along n pod_events index at (property_walk (drop 8 body))) * 8 ≤ length body) (sym e) (omega arith)
+inside_few false false k pod_events few body index at e one = omega arith
 
 pod_few : (n depth parent index at : ℕ) (pod : List ℕ) → IsWholePod pod → length (events_within n depth parent index at pod) * 8 ≤ length pod
 pod_few zero depth parent index at pod w = let e = ap length (events_within-none depth parent index at pod) in omega arith
@@ -131,7 +131,7 @@ enough (suc n) (suc m) depth parent index at pod w a b =
     let same : TellAlike (min n m) (events_within n (depth + 1) index) (events_within m (depth + 1) index) =
     record { alike = λ i x p v short. enough n m (depth + 1) index i x p v.whole (omega arith) (omega arith) } in
     events_within-there n depth parent index at pod
-    ∙ ap (λ z. told depth parent at pod ∷ z)
+    ∙ ap (λ z. event_of depth parent at pod ∷ z)
     (inside_alike (is_struct t) (is_object t s) (bytes_before t s) (min n m) (events_within n (depth + 1) index) (events_within m (depth + 1) index) same
     (body_of pod) (index + 1) (at + 8 + bytes_before t s) refl (not_both t s) (omega arith))
     ∙ sym (events_within-there m depth parent index at pod)

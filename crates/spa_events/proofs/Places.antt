@@ -8,7 +8,7 @@ use Rattle.spa_format.specs.Words.{word_at, body_of}
 use Rattle.spa_format.specs.Walk.{extent_behind, properties_of, property_walk, walk, walk_behind}
 use Rattle.spa_format.proofs.WalkLemmas.{walk_behind-end}
 use Rattle.spa_format.proofs.WordLemmas.{word_at-drop, word_at-take}
-use Rattle.spa_events.specs.Events.{bytes_before, is_object, is_struct, pods_inside, told}
+use Rattle.spa_events.specs.Events.{bytes_before, is_object, is_struct, pods_inside, event_of}
 use Rattle.spa_events.specs.Levels.{bytes_held}
 use Rattle.spa_events.specs.declared.event.Event.{Event}
 
@@ -22,9 +22,9 @@ size_behind k b h =
     word_at-drop k 0 (take (extent_behind k b) b) ∙ word_at-take (extent_behind k b) (k + 0) b (omega arith) ∙ ap (word_at b) e
 
 -- the event of a pod behind k bytes has the words behind these
-pub told-behind : (depth parent at k : ℕ) (b : List ℕ) → (type size : ℕ) → type ≡ word_at b (k + 4) → size ≡ word_at b k →
-    record { type_ = type; size = size; depth = depth; at = at; parent = parent } ≡ told depth parent at (drop k b)
-told-behind depth parent at k b type size et es =
+pub event_of-behind : (depth parent at k : ℕ) (b : List ℕ) → (type size : ℕ) → type ≡ word_at b (k + 4) → size ≡ word_at b k →
+    record { type_ = type; size = size; depth = depth; at = at; parent = parent } ≡ event_of depth parent at (drop k b)
+event_of-behind depth parent at k b type size et es =
     let e : k + 0 ≡ k = omega arith in
     let t = et ∙ sym (word_at-drop k 4 b) in
     let s = es ∙ ap (word_at b) (sym e) ∙ sym (word_at-drop k 0 b) in

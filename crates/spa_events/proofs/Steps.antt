@@ -6,7 +6,7 @@ use Rattle.spa_format.specs.Words.{word_at, extent}
 use Rattle.spa_format.specs.Walk.{extent_behind, walk_behind}
 use Rattle.spa_format.proofs.WalkLemmas.{walk_behind-end, walk_behind-there}
 use Rattle.spa_format.proofs.WordLemmas.{word_at-drop}
-use Rattle.spa_events.specs.Events.{bytes_before, events_along, events_of, events_within, is_object, is_struct, no_parent, pods_inside, told}
+use Rattle.spa_events.specs.Events.{bytes_before, events_along, events_of, events_within, is_object, is_struct, no_parent, pods_inside, event_of}
 use Rattle.spa_events.specs.Levels.{HasNext, HasNoNext, behind, bytes_held, bytes_left, holds_pods, level_behind, level_inside, level_of_input}
 use Rattle.spa_events.specs.declared.event.Event.{Event}
 use Rattle.spa_events.specs.declared.level.Level.{Level}
@@ -20,7 +20,7 @@ events_within-none depth parent index at pod = refl
 -- the events of a pod are its own, and those of the pods in it
 pub events_within-there : (n depth parent index at : ℕ) (pod : List ℕ) →
     events_within (suc n) depth parent index at pod
-    ≡ told depth parent at pod
+    ≡ event_of depth parent at pod
     ∷ events_along (bytes_before (word_at pod 4) (word_at pod 0)) (events_within n (depth + 1) index) (index + 1)
     (at + 8 + bytes_before (word_at pod 4) (word_at pod 0)) (pods_inside pod)
 unfolding events_within
@@ -30,13 +30,13 @@ events_within-there n depth parent index at pod = refl
 pub next_type : (input : List ℕ) (l : Level) (e : Event) → HasNext input l e →
     e.type_ ≡ word_at (drop l.before (take (extent_behind l.before (bytes_left input l)) (bytes_left input l))) 4
 next_type input l e h =
-    ap (λ (x : Event). x.type_) h.told_of ∙ word_at-drop l.before 4 (bytes_left input l) ∙ sym (word_behind l.before (bytes_left input l) h.whole)
+    ap (λ (x : Event). x.type_) h.its_event ∙ word_at-drop l.before 4 (bytes_left input l) ∙ sym (word_behind l.before (bytes_left input l) h.whole)
 
 pub next_size : (input : List ℕ) (l : Level) (e : Event) → HasNext input l e →
     e.size ≡ word_at (drop l.before (take (extent_behind l.before (bytes_left input l)) (bytes_left input l))) 0
 next_size input l e h =
     let z : l.before + 0 ≡ l.before = omega arith in
-    ap (λ (x : Event). x.size) h.told_of ∙ word_at-drop l.before 0 (bytes_left input l) ∙ ap (word_at (bytes_left input l)) z
+    ap (λ (x : Event). x.size) h.its_event ∙ word_at-drop l.before 0 (bytes_left input l) ∙ ap (word_at (bytes_left input l)) z
     ∙ sym (size_behind l.before (bytes_left input l) h.whole)
 
 pub next_extent : (input : List ℕ) (l : Level) (e : Event) → HasNext input l e → extent_behind l.before (bytes_left input l) ≡ l.before + extent e.size
@@ -44,13 +44,13 @@ next_extent input l e h =
     ap (λ s. l.before + extent s) (sym (next_size input l e h ∙ size_behind l.before (bytes_left input l) h.whole))
 
 pub next_at : (input : List ℕ) (l : Level) (e : Event) → HasNext input l e → e.at ≡ l.at + l.before
-next_at input l e h = ap (λ (x : Event). x.at) h.told_of
+next_at input l e h = ap (λ (x : Event). x.at) h.its_event
 
 pub next_depth : (input : List ℕ) (l : Level) (e : Event) → HasNext input l e → e.depth ≡ l.depth
-next_depth input l e h = ap (λ (x : Event). x.depth) h.told_of
+next_depth input l e h = ap (λ (x : Event). x.depth) h.its_event
 
 pub next_parent : (input : List ℕ) (l : Level) (e : Event) → HasNext input l e → e.parent ≡ l.parent
-next_parent input l e h = ap (λ (x : Event). x.parent) h.told_of
+next_parent input l e h = ap (λ (x : Event). x.parent) h.its_event
 
 -- the pod of the event is within its level, as a whole
 pub next_whole : (input : List ℕ) (l : Level) (e : Event) → Fits input l → HasNext input l e → behind e ≤ l.end
@@ -63,11 +63,11 @@ next_whole input l e f h =
     omega arith
 
 -- the event of the first pod, and the events of the pods in it
-first_told : (input : List ℕ) (index : ℕ) (l : Level) (e : Event) → Fits input l → HasNext input l e →
+first_event : (input : List ℕ) (index : ℕ) (l : Level) (e : Event) → Fits input l → HasNext input l e →
     events_within (length input - l.depth) l.depth l.parent index (l.at + l.before)
     (drop l.before (take (extent_behind l.before (bytes_left input l)) (bytes_left input l)))
     ≡ e ∷ level_events input (index + 1) (level_inside index e)
-first_told input index l e f h =
+first_event input index l e f h =
     let b = bytes_left input l in
     let k = l.before in
     let pod = drop k (take (extent_behind k b) b) in
@@ -79,11 +79,11 @@ first_told input index l e f h =
     let en : length input - l.depth ≡ suc m = omega arith in
     let et = next_type input l e h in
     let es = next_size input l e h in
-    let tell = events_within m (l.depth + 1) index in
+    let pod_events = events_within m (l.depth + 1) index in
     let along : ℕ → ℕ → ℕ → List (List ℕ) → List Event = λ n x y ps. events_along n (events_within (length input - (x + 1)) (x + 1) index) (index + 1) y ps in
-    let ee : told l.depth l.parent (l.at + k) pod ≡ e =
-    sym (h.told_of ∙ ap (λ t. let z : Event = record { type_ = t; size = word_at (drop k b) 0; depth = l.depth; at = l.at + k; parent = l.parent } in z) (sym (ap (λ (x : Event). x.type_) h.told_of) ∙ et)
-    ∙ ap (λ s. let z : Event = record { type_ = word_at pod 4; size = s; depth = l.depth; at = l.at + k; parent = l.parent } in z) (sym (ap (λ (x : Event). x.size) h.told_of) ∙ es)) in
+    let ee : event_of l.depth l.parent (l.at + k) pod ≡ e =
+    sym (h.its_event ∙ ap (λ t. let z : Event = record { type_ = t; size = word_at (drop k b) 0; depth = l.depth; at = l.at + k; parent = l.parent } in z) (sym (ap (λ (x : Event). x.type_) h.its_event) ∙ et)
+    ∙ ap (λ s. let z : Event = record { type_ = word_at pod 4; size = s; depth = l.depth; at = l.at + k; parent = l.parent } in z) (sym (ap (λ (x : Event). x.size) h.its_event) ∙ es)) in
     ap (λ n. events_within n l.depth l.parent index (l.at + k) pod) en
     ∙ events_within-there m l.depth l.parent index (l.at + k) pod
     ∙ ap (λ z. z ∷ along (bytes_before (word_at pod 4) (word_at pod 0)) l.depth (l.at + k + 8 + bytes_before (word_at pod 4) (word_at pod 0)) (pods_inside pod)) ee
@@ -103,7 +103,7 @@ level_step input index l e f h =
     let b = bytes_left input l in
     let k = l.before in
     let n = extent_behind k b in
-    let tell = events_within (length input - l.depth) l.depth l.parent in
+    let pod_events = events_within (length input - l.depth) l.depth l.parent in
     let w = next_whole input l e f h in
     let a = next_at input l e h in
     let x = next_extent input l e h in
@@ -111,10 +111,10 @@ level_step input index l e f h =
     let wh = h.whole in
     let ea : l.at + length (take n b) ≡ behind e = omega arith in
     let er : l.at + n ≡ behind e = omega arith in
-    ap (events_along k tell index l.at) (walk_behind-there k b h.whole)
-    ∙ ap (λ y. tell index (l.at + k) (drop k (take n b)) ++ events_along k tell (index + length (tell index (l.at + k) (drop k (take n b)))) y (walk_behind k (drop n b))) ea
-    ∙ ap (λ z. z ++ events_along k tell (index + length z) (behind e) (walk_behind k (drop n b))) (first_told input index l e f h)
-    ∙ ap (λ z. (e ∷ level_events input (index + 1) (level_inside index e)) ++ events_along k tell (index + length (e ∷ level_events input (index + 1) (level_inside index e))) (behind e) (walk_behind k z))
+    ap (events_along k pod_events index l.at) (walk_behind-there k b h.whole)
+    ∙ ap (λ y. pod_events index (l.at + k) (drop k (take n b)) ++ events_along k pod_events (index + length (pod_events index (l.at + k) (drop k (take n b)))) y (walk_behind k (drop n b))) ea
+    ∙ ap (λ z. z ++ events_along k pod_events (index + length z) (behind e) (walk_behind k (drop n b))) (first_event input index l e f h)
+    ∙ ap (λ z. (e ∷ level_events input (index + 1) (level_inside index e)) ++ events_along k pod_events (index + length (e ∷ level_events input (index + 1) (level_inside index e))) (behind e) (walk_behind k z))
     (drop_part n l.at l.end input (omega arith) ∙ ap (λ y. take (l.end - y) (drop y input)) er)
 
 -- a level without pods left has no events

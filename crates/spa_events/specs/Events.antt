@@ -10,8 +10,8 @@ abbrev pub no_parent : ℕ
 no_parent = 18446744073709551615
 
 -- the event of a pod that begins at this byte and is nested in this many containers, where `parent` is the index of the innermost one's event
-abbrev pub told : ℕ → ℕ → ℕ → List ℕ → Event
-told depth parent at pod = record {
+abbrev pub event_of : ℕ → ℕ → ℕ → List ℕ → Event
+event_of depth parent at pod = record {
   type_ = word_at pod 4;
   size = word_at pod 0;
   depth = depth;
@@ -37,19 +37,20 @@ pods_inside pod =
     then walk (body_of pod)
     else (if is_object (word_at pod 4) (word_at pod 0) then property_walk (properties_of pod) else [])
 
--- The events of pods one after another, each with `before` bytes before it. The function `tell` gives the events of one pod, by the index that
--- its own event will have in the list, the byte at which it begins, and the pod.
+-- The events of pods one after another, each with `before` bytes before it. The function `pod_events` gives those of one pod and of all pods in it,
+-- by the index that the pod's own event will have in the list, the byte at which the pod begins, and its bytes.
 abbrev pub events_along : ℕ → (ℕ → ℕ → List ℕ → List Event) → ℕ → ℕ → List (List ℕ) → List Event
-events_along before tell index at [] = []
-events_along before tell index at (p ∷ ps) =
-    tell index (at + before) (drop before p)
-    ++ events_along before tell (index + length (tell index (at + before) (drop before p))) (at + length p) ps
+events_along before pod_events index at [] = []
+events_along before pod_events index at (p ∷ ps) =
+    pod_events index (at + before) (drop before p)
+    ++ events_along before pod_events (index + length (pod_events index (at + before) (drop before p))) (at + length p) ps
 
--- the events of a pod and of all pods in it, down to this nesting depth: its own, and then those of the pods in it, in order
+-- The events of a pod and of all pods in it, down to this nesting depth: its own, and then those of the pods in it, in order. Of the words
+-- 8, 14, 0, 14, 4, 4, 3, 0 the struct at byte 0 has the index 0; the empty struct in it has the index 1, is at byte 8, and its parent is 0.
 unfoldable pub events_within : ℕ → ℕ → ℕ → ℕ → ℕ → List ℕ → List Event
 events_within zero depth parent index at pod = []
 events_within (suc n) depth parent index at pod =
-    told depth parent at pod
+    event_of depth parent at pod
     ∷ events_along (bytes_before (word_at pod 4) (word_at pod 0)) (events_within n (depth + 1) index) (index + 1)
     (at + header_size + bytes_before (word_at pod 4) (word_at pod 0)) (pods_inside pod)
 

@@ -2,7 +2,7 @@
 use Rattle.std.specs.Prelude.{Bool, true, ◌≡◌, ◌≢◌, ℕ, ◌+◌, ◌-◌, ◌<◌, ◌≤◌, List, length, take, drop, if◌then◌else◌, cond, nat_eq, slice_index_or}
 use Rattle.spa_format.specs.Words.{extent, header_size}
 use Rattle.spa_format.specs.Walk.{extent_behind}
-use Rattle.spa_events.specs.Events.{bytes_before, is_object, is_struct, no_parent, told}
+use Rattle.spa_events.specs.Events.{bytes_before, is_object, is_struct, no_parent, event_of}
 use Rattle.spa_events.specs.declared.event.Event.{Event}
 use Rattle.spa_events.specs.declared.level.Level.{Level}
 
@@ -13,7 +13,7 @@ bytes_left input level = take (level.end - level.at) (drop level.at input)
 -- the first pod of the level is there, and this is its event
 pub record HasNext (input : List ℕ) (level : Level) (event : Event) : Type 0 where
   pub whole : extent_behind level.before (bytes_left input level) ≤ length (bytes_left input level)
-  pub told_of : event ≡ told level.depth level.parent (level.at + level.before) (drop level.before (bytes_left input level))
+  pub its_event : event ≡ event_of level.depth level.parent (level.at + level.before) (drop level.before (bytes_left input level))
 
 -- the level has no pod any more
 abbrev pub HasNoNext : List ℕ → Level → Type 0

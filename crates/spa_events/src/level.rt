@@ -67,7 +67,7 @@ fn inside(event: Event, index: usize) -> Level
     }
 }
 
-/// Whether pods lie inside: it is a struct, or an object whose size has room for its type and id.
+/// Whether the pod holds pods: it is a struct, or an object whose size has room for its type and id.
 fn holds_pods(event: Event) -> bool
     ensures { result ≡ holds_pods event.type_ event.size }
 {

@@ -16,7 +16,8 @@ use Rattle.spa_utils.specs.declared.choice.ChoiceEnum.TheVariants as E
 use Rattle.spa_filter_offers.specs.Admits.{Admits, AreSupported, HasCommon, IsCommon, IsMeeting, IsPlain, IsSupported, choice_flags_of, plain_of}
 use Rattle.spa_filter_offers.specs.Offers.{IsContent}
 use Rattle.spa_filter_offers.proofs.Offering.{kind_of-admitted, only_contents}
-use Rattle.spa_filter.specs.CommonPods.{HasBody, IsAppended, IsCommonAppended, IsCommonRefused, IsOffered, IsUnwritten, IsWritten}
+use Rattle.spa_filter.specs.CommonPods.{HasBody, IsAppended, IsCommonAppended, IsCommonRefused, IsOffered, IsUnwritten}
+use Rattle.spa_keyed_objects.specs.CanonicalPods.{IsCanonicalPod}
 use Rattle.spa_filter.specs.declared.refused.Refused.{Refused}
 use Rattle.spa_filter.specs.declared.refused.Refused.TheVariants.{Apart, TooLarge, OutOfMemory}
 use Rattle.spa_filter.proofs.Plain.{IsPlainTree, IsMeeting-same, none-apart}
@@ -66,7 +67,7 @@ choice_typed k f n (E.Step y a b s) = refl
 choice_typed k f n (E.Enum y ys) = refl
 choice_typed k f n (E.Flags y ys) = refl
 
-pub has_body : (v : Tree) (pod body rest : List ℕ) (type : ℕ) → IsWritten v pod → Opens pod type body rest → HasBody v type body
+pub has_body : (v : Tree) (pod body rest : List ℕ) (type : ℕ) → IsCanonicalPod v pod → Opens pod type body rest → HasBody v type body
 has_body v pod body rest type w o =
     record {
       its_type = sym w.its_pod.its_type ∙ sym o.its_type;
@@ -123,7 +124,7 @@ false_and true c e = cc
 false_and false c e = refl
 
 -- the plain value of a first side that the second admits
-pub appended_first : (v w : Tree) (pod old new : List ℕ) → IsOffered v w → IsWritten v pod → new ≡ old ++ pod → IsCommonAppended v w old new
+pub appended_first : (v w : Tree) (pod old new : List ℕ) → IsOffered v w → IsCanonicalPod v pod → new ≡ old ++ pod → IsCommonAppended v w old new
 appended_first v w pod old new o h p =
     let t = plain_tree v o.plain in
     let both : IsCommon v w v = (t.itself, o.admitted) in
@@ -141,7 +142,7 @@ appended_first v w pod old new o h p =
     }
 
 -- and that of a second side that the first admits
-pub appended_second : (v w : Tree) (pod old new : List ℕ) → IsOffered w v → IsWritten w pod → new ≡ old ++ pod → IsCommonAppended v w old new
+pub appended_second : (v w : Tree) (pod old new : List ℕ) → IsOffered w v → IsCanonicalPod w pod → new ≡ old ++ pod → IsCommonAppended v w old new
 appended_second v w pod old new o h p =
     let t = plain_tree w o.plain in
     let both : IsCommon v w w = (o.admitted, t.itself) in
@@ -159,7 +160,7 @@ appended_second v w pod old new o h p =
     }
 
 -- two plain values whose pods are the same
-pub appended_same : (v w : Tree) (pod other old new : List ℕ) → IsPlain v → IsPlain w → IsWritten v pod → IsWritten w other → pod ≡ other →
+pub appended_same : (v w : Tree) (pod other old new : List ℕ) → IsPlain v → IsPlain w → IsCanonicalPod v pod → IsCanonicalPod w other → pod ≡ other →
     new ≡ old ++ pod → IsCommonAppended v w old new
 appended_same v w pod other old new h k i j e p =
     let t = plain_tree v h in
@@ -173,7 +174,7 @@ appended_same v w pod other old new h k i j e p =
     }
 
 -- and two whose pods aren't
-pub plain_apart : (v w : Tree) (pod other : List ℕ) → IsPlain v → IsPlain w → IsWritten v pod → IsWritten w other → pod ≢ other →
+pub plain_apart : (v w : Tree) (pod other : List ℕ) → IsPlain v → IsPlain w → IsCanonicalPod v pod → IsCanonicalPod w other → pod ≢ other →
     AreSupported v w × ¬ (HasCommon v w)
 plain_apart v w pod other h k i j n =
     let t = plain_tree v h in

@@ -8,7 +8,7 @@ use Rattle.spa_value.specs.View.{view}
 use Rattle.spa_value.specs.Views.{property_views, property_view}
 use Rattle.spa_value.specs.ObjectLaws.{PropertyListsGoOn, PropertyListsAreCut}
 use Rattle.spa_keyed_objects.specs.Keys.{AtKey, HoldsAtKeys, key_list}
-use Rattle.spa_keyed_objects.specs.PropertyLists.{HasKeys, IsAdded, IsPushed, found_at}
+use Rattle.spa_keyed_objects.specs.PropertyLists.{HasKeys, IsAdded, IsPushed, offered_in}
 use Rattle.spa_keyed_objects.proofs.Holding.{HoldsAtKeys-seen, HoldsAtKeys-new}
 use Rattle.spa_keyed_objects.proofs.Lookups.{offered_at-either}
 use Rattle.spa_keyed_objects.proofs.KeySets.{join_properties-assoc, there, absent, more_keys}
@@ -69,8 +69,8 @@ module _ (go_on : PropertyListsGoOn) (are_cut : PropertyListsAreCut) (ours their
     -- its key was not there, and q was appended, to which the two sides filter under it
     pub new : is_new ≡ true → (q : Property) (now : Filtered) → q.key ≡ p.key →
         IsPushed f.met.properties.items q now.met.properties.items → now.keys ≡ keys →
-        Filters (found_at p.key ours) (found_at p.key theirs) q.flags.0 (view q.value) →
-        Agree (found_at p.key ours) (found_at p.key theirs) → IsFiltered ours theirs (these before side (i + 1)) now
+        Filters (offered_in p.key ours) (offered_in p.key theirs) q.flags.0 (view q.value) →
+        Agree (offered_in p.key ours) (offered_in p.key theirs) → IsFiltered ours theirs (these before side (i + 1)) now
     new was q now same pushed kept filters agree =
         let pushed_here = pushed ∙ ap (λ k. join_properties met (property k q.flags.0 (view q.value) no_properties)) same in
         let added =
@@ -87,14 +87,14 @@ module _ (go_on : PropertyListsGoOn) (are_cut : PropertyListsAreCut) (ours their
         }
 
     -- its key was not there, and is found on one of the sides
-    pub key_found : is_new ≡ true → found_at p.key ours ≡ None → ¬ (found_at p.key theirs ≡ None)
+    pub key_found : is_new ≡ true → offered_in p.key ours ≡ None → ¬ (offered_in p.key theirs ≡ None)
     key_found was =
         offered_at-either (property_views ours) (property_views theirs) (these before side i)
         (join_properties after part.rest) p.key p.flags.0 (view p.value) at (absent p f.keys keys is_new added (these before side i) h.keys was)
 
     -- its key was not there, and is refused
     pub refused : is_new ≡ true → (why : FilterError) →
-        IsKeyRefusal p.key (found_at p.key ours) (found_at p.key theirs) why →
+        IsKeyRefusal p.key (offered_in p.key ours) (offered_in p.key theirs) why →
         IsRefusal (property_views ours) (property_views theirs) why
     refused was why r =
         IsRefusal-next (property_views ours) (property_views theirs) (these before side i) met p.key h.filters

@@ -3,20 +3,15 @@ use Rattle.std.specs.Prelude.{⊤, ◌≡◌, ◌≢◌, ℕ, List, [], ◌∷�
 use Rattle.spa_format.specs.Words.{word_at}
 use Rattle.spa_format.specs.Kind.{Kind, Fixed, content}
 use Rattle.spa_format.specs.Tree.{Tree, choice, choice_type, enum_choice, range_choice, type_of}
-use Rattle.spa_format.specs.Pod.{IsBody, IsPod}
-use Rattle.spa_format.specs.Encoding.{encoding_of}
+use Rattle.spa_format.specs.Pod.{IsBody}
 use Rattle.spa_format.specs.Writable.{IsTooLarge}
 use Rattle.spa_filter_offers.specs.Admits.{Admits, AreSupported, HasCommon, IsMeeting, IsPlain, IsSupported}
+use Rattle.spa_keyed_objects.specs.CanonicalPods.{IsCanonicalPod}
 use Rattle.spa_filter.specs.Refusals.{IsValueRefusal}
 use Rattle.spa_filter.specs.declared.error.FilterError.{FilterError}
 use Rattle.spa_filter.specs.declared.error.FilterError.TheVariants as error
 use Rattle.spa_filter.specs.declared.refused.Refused.{Refused}
 use Rattle.spa_filter.specs.declared.refused.Refused.TheVariants.{Apart, TooLarge, OutOfMemory}
-
--- the canonical pod of this value
-pub record IsWritten (v : Tree) (pod : List ℕ) : Type 0 where
-  pub its_pod : IsPod pod v
-  pub same : pod ≡ encoding_of v
 
 -- the value is of this type, and these bytes are a body of it
 pub record HasBody (v : Tree) (type : ℕ) (body : List ℕ) : Type 0 where
@@ -26,7 +21,7 @@ pub record HasBody (v : Tree) (type : ℕ) (body : List ℕ) : Type 0 where
 -- the canonical pod of the value was appended
 pub record IsAppended (y : Tree) (old new : List ℕ) : Type 0 where
   pub pod : List ℕ
-  pub written : IsWritten y pod
+  pub written : IsCanonicalPod y pod
   pub parts : new ≡ old ++ pod
 
 -- the two values are supported, and the canonical pod of a value to which they filter was appended

@@ -48,8 +48,10 @@ pub(crate) fn put_read<T: Element>(
     b: &[u8],
 ) -> Result<(), Refused>
     requires { word_at a.now 12 ≡ T.TYPE }
-    ensures appended { OnOk result ((v w : Tree) → HasBody v choice_type a.now → HasBody w choice_type b.now → IsCommonAppended v w out.old.items out.new.items) }
-    ensures cause { IfErr result (λ e. (v w : Tree) → HasBody v choice_type a.now → HasBody w choice_type b.now → IsCommonRefused v w e) }
+    ensures appended { OnOk result ((v w : Tree) → HasBody v choice_type a.now → HasBody w choice_type b.now
+        → IsCommonAppended v w out.old.items out.new.items) }
+    ensures cause { IfErr result (λ e. (v w : Tree) → HasBody v choice_type a.now → HasBody w choice_type b.now
+        → IsCommonRefused v w e) }
 {
     let ours = choice_over::<T>(alloc, a)?;
     let theirs = choice_over::<T>(alloc, b)?;
@@ -67,8 +69,10 @@ pub(crate) fn put_read<T: Element>(
 
 /// Appends the canonical pod of a value that admits contents of the type `T`, and has no flags of its own.
 fn put_value<T: Element>(out: &mut Vec<u8>, value: &Value) -> Result<(), Refused>
-    ensures appended { OnOk result (choice_flags_of (view value.now) ≡ 0 → IsAppended (view value.now) out.old.items out.new.items) }
-    ensures cause { IfErr result (λ e. (x : Fixed) → kind_of x ≡ T.kind → Admits (view value.now) (fixed x) → IsUnwritten (view value.now) e) }
+    ensures appended { OnOk result (choice_flags_of (view value.now) ≡ 0
+        → IsAppended (view value.now) out.old.items out.new.items) }
+    ensures cause { IfErr result (λ e. (x : Fixed) → kind_of x ≡ T.kind → Admits (view value.now) (fixed x)
+        → IsUnwritten (view value.now) e) }
 {
     match value {
         Value::Choice(choice) => match T::in_choice(choice) {
@@ -87,7 +91,8 @@ pub(crate) fn put_choice_of<T: Element>(
     out: &mut Vec<u8>,
     choice: &Choice<T>,
 ) -> Result<(), Refused>
-    ensures appended { OnOk result (choice_flags_of (choice_tree T.kind T.fixed choice.now) ≡ 0 → IsAppended (choice_tree T.kind T.fixed choice.now) out.old.items out.new.items) }
+    ensures appended { OnOk result (choice_flags_of (choice_tree T.kind T.fixed choice.now) ≡ 0
+        → IsAppended (choice_tree T.kind T.fixed choice.now) out.old.items out.new.items) }
     ensures cause { IfErr result (IsUnwritten (choice_tree T.kind T.fixed choice.now)) }
 {
     match put_choice(out, choice) {

@@ -2,7 +2,8 @@
 ghost use Rattle.std.specs.Prelude.{◌≡◌, ◌≢◌, ◌++◌, IfErr, OnOk};
 ghost use Rattle.spa_format.specs.Tree.{Tree, choice_type};
 ghost use Rattle.spa_format.specs.Words.{word_at};
-ghost use Rattle.spa_filter.specs.CommonPods.{AreApart, HasBody, IsCommonAppended, IsCommonRefused, IsOfferRefused, IsOffered, IsPodRefusal, IsWritten};
+ghost use Rattle.spa_filter.specs.CommonPods.{AreApart, HasBody, IsCommonAppended, IsCommonRefused, IsOfferRefused, IsOffered, IsPodRefusal};
+ghost use Rattle.spa_keyed_objects.specs.CanonicalPods.{IsCanonicalPod};
 ghost use Rattle.spa_filter.specs.declared.refused.Refused.TheVariants.{OutOfMemory};
 
 use crate::choices::{VALUES_AT, choice_over, put_read};
@@ -36,8 +37,10 @@ pub fn put_common(
     a: &[u8],
     b: &[u8],
 ) -> Result<(), FilterError>
-    ensures appended { OnOk result ((v w : Tree) → IsWritten v a.now → IsWritten w b.now → IsCommonAppended v w out.old.items out.new.items) }
-    ensures cause { IfErr result (λ e. (v w : Tree) → IsWritten v a.now → IsWritten w b.now → IsPodRefusal key v w e) }
+    ensures appended { OnOk result ((v w : Tree) → IsCanonicalPod v a.now → IsCanonicalPod w b.now
+        → IsCommonAppended v w out.old.items out.new.items) }
+    ensures cause { IfErr result (λ e. (v w : Tree) → IsCanonicalPod v a.now → IsCanonicalPod w b.now
+        → IsPodRefusal key v w e) }
 {
     match put_met(alloc, out, a, b) {
         Ok(()) => Ok(()),
@@ -50,7 +53,8 @@ pub fn put_common(
 /// The refusal of the values of two pods, for which no common value was found: `Unsupported` or `Disjoint`.
 #[inline(never)]
 fn refusal(key: u32, a: &[u8], b: &[u8]) -> FilterError
-    ensures { (v w : Tree) → IsWritten v a.now → IsWritten w b.now → AreApart v w → IsPodRefusal key v w result }
+    ensures { (v w : Tree) → IsCanonicalPod v a.now → IsCanonicalPod w b.now → AreApart v w
+        → IsPodRefusal key v w result }
 {
     if are_supported(a, b) {
         FilterError::Disjoint(key)
@@ -61,8 +65,10 @@ fn refusal(key: u32, a: &[u8], b: &[u8]) -> FilterError
 
 /// Appends the canonical pod of a value that admits exactly what the values of two canonical pods admit.
 fn put_met(alloc: Global, out: &mut Vec<u8>, a: &[u8], b: &[u8]) -> Result<(), Refused>
-    ensures appended { OnOk result ((v w : Tree) → IsWritten v a.now → IsWritten w b.now → IsCommonAppended v w out.old.items out.new.items) }
-    ensures cause { IfErr result (λ e. (v w : Tree) → IsWritten v a.now → IsWritten w b.now → IsCommonRefused v w e) }
+    ensures appended { OnOk result ((v w : Tree) → IsCanonicalPod v a.now → IsCanonicalPod w b.now
+        → IsCommonAppended v w out.old.items out.new.items) }
+    ensures cause { IfErr result (λ e. (v w : Tree) → IsCanonicalPod v a.now → IsCanonicalPod w b.now
+        → IsCommonRefused v w e) }
 {
     let Some(ours) = open(a) else {
         return Err(Refused::Apart);
@@ -103,8 +109,10 @@ fn put_pod(out: &mut Vec<u8>, pod: &[u8]) -> Result<(), Refused>
 /// where the choice is over another type or unsupported.
 fn is_offered(alloc: Global, type_: u32, body: &[u8], choice: &[u8]) -> Result<(), Refused>
     requires { type_ ≢ choice_type }
-    ensures offered { OnOk result ((v w : Tree) → HasBody v type_ body.now → HasBody w choice_type choice.now → IsOffered v w) }
-    ensures cause { IfErr result (λ e. (v w : Tree) → HasBody v type_ body.now → HasBody w choice_type choice.now → IsOfferRefused v w e) }
+    ensures offered { OnOk result ((v w : Tree) → HasBody v type_ body.now → HasBody w choice_type choice.now
+        → IsOffered v w) }
+    ensures cause { IfErr result (λ e. (v w : Tree) → HasBody v type_ body.now → HasBody w choice_type choice.now
+        → IsOfferRefused v w e) }
 {
     match type_ {
         BOOL => is_offered_over::<bool>(alloc, body, choice),
@@ -122,8 +130,10 @@ fn is_offered(alloc: Global, type_: u32, body: &[u8], choice: &[u8]) -> Result<(
 
 /// Checks that the element of the type `T` with this body is one that the choice of the other body admits, with the refusals of `is_offered`.
 fn is_offered_over<T: Element>(alloc: Global, body: &[u8], choice: &[u8]) -> Result<(), Refused>
-    ensures offered { OnOk result ((v w : Tree) → HasBody v T.TYPE body.now → HasBody w choice_type choice.now → IsOffered v w) }
-    ensures cause { IfErr result (λ e. (v w : Tree) → HasBody v T.TYPE body.now → HasBody w choice_type choice.now → IsOfferRefused v w e) }
+    ensures offered { OnOk result ((v w : Tree) → HasBody v T.TYPE body.now → HasBody w choice_type choice.now
+        → IsOffered v w) }
+    ensures cause { IfErr result (λ e. (v w : Tree) → HasBody v T.TYPE body.now → HasBody w choice_type choice.now
+        → IsOfferRefused v w e) }
 {
     if body.len() != T::SIZE {
         return Err(Refused::Apart);
@@ -140,8 +150,10 @@ fn is_offered_over<T: Element>(alloc: Global, body: &[u8], choice: &[u8]) -> Res
 
 /// Appends the canonical pod of the value to which the choices of two bodies filter.
 fn put_choices(alloc: Global, out: &mut Vec<u8>, a: &[u8], b: &[u8]) -> Result<(), Refused>
-    ensures appended { OnOk result ((v w : Tree) → HasBody v choice_type a.now → HasBody w choice_type b.now → IsCommonAppended v w out.old.items out.new.items) }
-    ensures cause { IfErr result (λ e. (v w : Tree) → HasBody v choice_type a.now → HasBody w choice_type b.now → IsCommonRefused v w e) }
+    ensures appended { OnOk result ((v w : Tree) → HasBody v choice_type a.now → HasBody w choice_type b.now
+        → IsCommonAppended v w out.old.items out.new.items) }
+    ensures cause { IfErr result (λ e. (v w : Tree) → HasBody v choice_type a.now → HasBody w choice_type b.now
+        → IsCommonRefused v w e) }
 {
     if a.len() < VALUES_AT {
         return Err(Refused::Apart);
@@ -170,8 +182,10 @@ fn put_over<T: Element, const N: usize>(
 ) -> Result<(), Refused>
     requires size { T.SIZE ≡ N }
     requires over { word_at a.now 12 ≡ T.TYPE }
-    ensures appended { OnOk result ((v w : Tree) → HasBody v choice_type a.now → HasBody w choice_type b.now → IsCommonAppended v w out.old.items out.new.items) }
-    ensures cause { IfErr result (λ e. (v w : Tree) → HasBody v choice_type a.now → HasBody w choice_type b.now → IsCommonRefused v w e) }
+    ensures appended { OnOk result ((v w : Tree) → HasBody v choice_type a.now → HasBody w choice_type b.now
+        → IsCommonAppended v w out.old.items out.new.items) }
+    ensures cause { IfErr result (λ e. (v w : Tree) → HasBody v choice_type a.now → HasBody w choice_type b.now
+        → IsCommonRefused v w e) }
 {
     if is_short_enum(a) && is_short_enum(b) {
         return put_shared::<T, N>(alloc, out, a, b);

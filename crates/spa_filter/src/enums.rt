@@ -62,7 +62,9 @@ fn shared<T: Element, const N: usize>(
     theirs: &[[u8; N]],
 ) -> Result<Vec<T>, AllocError>
     requires { T.SIZE ≡ N }
-    ensures { IfOk result (λ kept. IsKept (Contains (map (content T.kind) theirs.now)) (map (content T.kind) ours.now) (map T.fixed kept.items)) }
+    ensures { IfOk result
+        (λ kept. IsKept (Contains (map (content T.kind) theirs.now)) (map (content T.kind) ours.now)
+        (map T.fixed kept.items)) }
 {
     let mut values = Vec::with_capacity(alloc, ours.len())?;
     for value in ours {
@@ -78,7 +80,8 @@ fn keep_shared<T: Element, const N: usize>(
     theirs: &[[u8; N]],
 ) -> Result<(), AllocError>
     requires { T.SIZE ≡ N }
-    ensures { OnOk result (IsOneMoreKept (Contains (map (content T.kind) theirs.now)) (T.fixed value.now) (map T.fixed values.old.items) (map T.fixed values.new.items)) }
+    ensures { OnOk result (IsOneMoreKept (Contains (map (content T.kind) theirs.now)) (T.fixed value.now)
+        (map T.fixed values.old.items) (map T.fixed values.new.items)) }
 {
     if !is_one(value, theirs) {
         return Ok(());
@@ -101,8 +104,10 @@ fn shared_default<T: Element, const N: usize>(
     requires size { T.SIZE ≡ N }
     requires first { Contains (map (content T.kind) ours.now) (T.fixed first.now) }
     requires second { Contains (map (content T.kind) theirs.now) (T.fixed second.now) }
-    requires other { Contains (map (content T.kind) ours.now) (T.fixed other.now) × Contains (map (content T.kind) theirs.now) (T.fixed other.now) }
-    ensures { IsDefault (Contains (map (content T.kind) ours.now)) (Contains (map (content T.kind) theirs.now)) (T.fixed first.now) (T.fixed second.now) (T.fixed result) }
+    requires other { Contains (map (content T.kind) ours.now) (T.fixed other.now)
+        × Contains (map (content T.kind) theirs.now) (T.fixed other.now) }
+    ensures { IsDefault (Contains (map (content T.kind) ours.now)) (Contains (map (content T.kind) theirs.now))
+        (T.fixed first.now) (T.fixed second.now) (T.fixed result) }
 {
     if is_one(first, theirs) {
         return *first;
@@ -122,8 +127,10 @@ pub(crate) fn put_shared<T: Element, const N: usize>(
 ) -> Result<(), Refused>
     requires size { T.SIZE ≡ N }
     requires over { word_at a.now 12 ≡ T.TYPE }
-    ensures appended { OnOk result ((v w : Tree) → HasBody v choice_type a.now → HasBody w choice_type b.now → IsCommonAppended v w out.old.items out.new.items) }
-    ensures cause { IfErr result (λ e. (v w : Tree) → HasBody v choice_type a.now → HasBody w choice_type b.now → IsCommonRefused v w e) }
+    ensures appended { OnOk result ((v w : Tree) → HasBody v choice_type a.now → HasBody w choice_type b.now
+        → IsCommonAppended v w out.old.items out.new.items) }
+    ensures cause { IfErr result (λ e. (v w : Tree) → HasBody v choice_type a.now → HasBody w choice_type b.now
+        → IsCommonRefused v w e) }
 {
     let Some(ours) = enum_view::<T, N>(a) else {
         return put_read::<T>(alloc, out, a, b);

@@ -3,7 +3,7 @@ ghost use Rattle.std.specs.Prelude.{◌≡◌, IfErr, IfOk, None, OnOk, Some};
 ghost use Rattle.std.specs.List.{All};
 ghost use Rattle.spa_format.specs.Tree.{join_properties};
 ghost use Rattle.spa_keyed_objects.specs.Keys.{AtKey, HoldsAtKeys, keys_of};
-ghost use Rattle.spa_keyed_objects.specs.PropertyLists.{IsKeyed, found_at, offered_by};
+ghost use Rattle.spa_keyed_objects.specs.PropertyLists.{IsKeyed, offered_in, offered_by};
 ghost use Rattle.spa_value.specs.View.{object_view, view};
 ghost use Rattle.spa_value.specs.Views.{property_views};
 ghost use Rattle.spa_filter.specs.Filtering.{Agree, CanFilter, Filters, IsFilter};
@@ -64,8 +64,11 @@ struct Filtered {
 
 /// The properties of the object to which two objects with these properties are filtered.
 fn filter_lists(alloc: Global, a: &[Property], b: &[Property]) -> Result<Vec<Property>, FilterError>
-    ensures filters { IfOk result (λ met. HoldsAtKeys Filters (property_views a.now) (property_views b.now) (join_properties (property_views a.now) (property_views b.now)) (property_views met.items)) }
-    ensures agreed { OnOk result (All (AtKey Agree (property_views a.now) (property_views b.now)) (keys_of (join_properties (property_views a.now) (property_views b.now)))) }
+    ensures filters { IfOk result
+        (λ met. HoldsAtKeys Filters (property_views a.now) (property_views b.now)
+        (join_properties (property_views a.now) (property_views b.now)) (property_views met.items)) }
+    ensures agreed { OnOk result (All (AtKey Agree (property_views a.now) (property_views b.now))
+        (keys_of (join_properties (property_views a.now) (property_views b.now)))) }
     ensures cause { IfErr result (IsRefusal (property_views a.now) (property_views b.now)) }
 {
     let ours = Keyed::new(alloc, a)?;
@@ -91,9 +94,12 @@ fn filter_side(
 ) -> Result<Filtered, FilterError>
     requires keyed { IsKeyed ours.now × IsKeyed theirs.now }
     requires part { IsPart ours.now.properties.now theirs.now.properties.now before.now side.now }
-    requires filtered { IsFiltered ours.now.properties.now theirs.now.properties.now (property_views before.now) filtered }
-    ensures filtered { IfOk result (IsFiltered ours.now.properties.now theirs.now.properties.now (join_properties (property_views before.now) (property_views side.now))) }
-    ensures cause { IfErr result (IsRefusal (property_views ours.now.properties.now) (property_views theirs.now.properties.now)) }
+    requires filtered { IsFiltered ours.now.properties.now theirs.now.properties.now
+        (property_views before.now) filtered }
+    ensures filtered { IfOk result (IsFiltered ours.now.properties.now theirs.now.properties.now
+        (join_properties (property_views before.now) (property_views side.now))) }
+    ensures cause { IfErr result (IsRefusal (property_views ours.now.properties.now)
+        (property_views theirs.now.properties.now)) }
 {
     property_lists_are_in_order();
     let Filtered { mut met, mut keys } = filtered;
@@ -114,11 +120,16 @@ fn filter_key(
     theirs: &Keyed<'_>,
 ) -> Result<Property, FilterError>
     requires keyed { IsKeyed ours.now × IsKeyed theirs.now }
-    requires there { (found_at key ours.now.properties.now ≡ None) → ¬ (found_at key theirs.now.properties.now ≡ None) }
+    requires there { (offered_in key ours.now.properties.now ≡ None)
+        → ¬ (offered_in key theirs.now.properties.now ≡ None) }
     ensures key { IfOk result (λ p. p.key ≡ key) }
-    ensures filters { IfOk result (λ p. Filters (found_at key ours.now.properties.now) (found_at key theirs.now.properties.now) p.flags.0 (view p.value)) }
-    ensures agreed { OnOk result (Agree (found_at key ours.now.properties.now) (found_at key theirs.now.properties.now)) }
-    ensures cause { IfErr result (IsKeyRefusal key (found_at key ours.now.properties.now) (found_at key theirs.now.properties.now)) }
+    ensures filters { IfOk result
+        (λ p. Filters (offered_in key ours.now.properties.now) (offered_in key theirs.now.properties.now) p.flags.0
+        (view p.value)) }
+    ensures agreed { OnOk result (Agree (offered_in key ours.now.properties.now)
+        (offered_in key theirs.now.properties.now)) }
+    ensures cause { IfErr result (IsKeyRefusal key (offered_in key ours.now.properties.now)
+        (offered_in key theirs.now.properties.now)) }
 {
     match ours.find(key) {
         Some(a) => match theirs.find(key) {
@@ -135,7 +146,8 @@ fn filter_key(
 /// The property to which two properties with this key filter.
 fn both(alloc: Global, key: u32, a: &Property, b: &Property) -> Result<Property, FilterError>
     ensures key { IfOk result (λ p. p.key ≡ key) }
-    ensures filters { IfOk result (λ p. Filters (Some (offered_by a.now)) (Some (offered_by b.now)) p.flags.0 (view p.value)) }
+    ensures filters { IfOk result
+        (λ p. Filters (Some (offered_by a.now)) (Some (offered_by b.now)) p.flags.0 (view p.value)) }
     ensures agreed { OnOk result (Agree (Some (offered_by a.now)) (Some (offered_by b.now))) }
     ensures cause { IfErr result (IsKeyRefusal key (Some (offered_by a.now)) (Some (offered_by b.now))) }
 {

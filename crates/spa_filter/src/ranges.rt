@@ -31,7 +31,8 @@ pub(crate) fn is_range(body: &[u8]) -> bool {
 /// The values of the Range over the type `T` with this body. None: it isn't the body of such a Range.
 #[inline(always)]
 fn range_of<T: Element>(alloc: Global, body: &[u8]) -> Option<Range<T>>
-    ensures { IfSome result (λ range. IsRangeBody T.kind (T.fixed range.default) (T.fixed range.min) (T.fixed range.max) body.now) }
+    ensures { IfSome result
+        (λ range. IsRangeBody T.kind (T.fixed range.default) (T.fixed range.min) (T.fixed range.max) body.now) }
 {
     let Ok(choice) = choice_over::<T>(alloc, body) else {
         return None;
@@ -49,7 +50,8 @@ fn range_of<T: Element>(alloc: Global, body: &[u8]) -> Option<Range<T>>
 /// The first of three elements that are from `low` to `high`: two defaults, and `low`.
 fn default_within<T: Element>(first: &T, second: &T, low: &T, high: &T) -> T
     requires { IsAtMost (T.fixed low.now) (T.fixed high.now) }
-    ensures { IsDefault (IsWithin (T.fixed low.now) (T.fixed high.now)) (IsWithin (T.fixed low.now) (T.fixed high.now)) (T.fixed first.now) (T.fixed second.now) (T.fixed result) }
+    ensures { IsDefault (IsWithin (T.fixed low.now) (T.fixed high.now))
+        (IsWithin (T.fixed low.now) (T.fixed high.now)) (T.fixed first.now) (T.fixed second.now) (T.fixed result) }
 {
     if low.is_at_most(first) && first.is_at_most(high) {
         return *first;
@@ -69,8 +71,10 @@ pub(crate) fn put_ranges<T: Element>(
     b: &[u8],
 ) -> Result<(), Refused>
     requires { word_at a.now 12 ≡ T.TYPE }
-    ensures appended { OnOk result ((v w : Tree) → HasBody v choice_type a.now → HasBody w choice_type b.now → IsCommonAppended v w out.old.items out.new.items) }
-    ensures cause { IfErr result (λ e. (v w : Tree) → HasBody v choice_type a.now → HasBody w choice_type b.now → IsCommonRefused v w e) }
+    ensures appended { OnOk result ((v w : Tree) → HasBody v choice_type a.now → HasBody w choice_type b.now
+        → IsCommonAppended v w out.old.items out.new.items) }
+    ensures cause { IfErr result (λ e. (v w : Tree) → HasBody v choice_type a.now → HasBody w choice_type b.now
+        → IsCommonRefused v w e) }
 {
     let Some(ours) = range_of::<T>(alloc, a) else {
         return put_read::<T>(alloc, out, a, b);

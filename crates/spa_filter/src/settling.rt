@@ -29,7 +29,8 @@ pub fn settle(alloc: Global, object: &Object) -> Result<Object, AllocError>
 
 /// The properties with each choice at its default. Refused only for want of memory.
 fn settled_list(alloc: Global, properties: &[Property]) -> Result<Vec<Property>, AllocError>
-    ensures { IfOk result (λ settled. property_views settled.items ≡ settled_properties (property_views properties.now)) }
+    ensures { IfOk result
+        (λ settled. property_views settled.items ≡ settled_properties (property_views properties.now)) }
 {
     property_lists_are_in_order();
     let mut met = Met::new(alloc);

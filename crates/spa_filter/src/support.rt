@@ -66,9 +66,12 @@ fn support_of(pod: &[u8]) -> Support
 
 /// The `Support` of a choice of this shape over values of this type.
 fn support_over(shape: u32, type_: u32) -> Support
-    ensures supported { (s : Shape) (f : ℕ) (k : Kind) (d : Fixed) (vs : List Fixed) → shape ≡ shape_number s → type_ ≡ type_number k → IsTrue result.is_supported ↔ IsSupported (choice s f k d vs) }
-    ensures flags { (s : Shape) (f : ℕ) (k : Kind) (d : Fixed) (vs : List Fixed) → shape ≡ shape_number s → result.is_flags ≡ is_flags (choice s f k d vs) }
-    ensures bounded { (s : Shape) (f : ℕ) (k : Kind) (d : Fixed) (vs : List Fixed) → shape ≡ shape_number s → result.is_bounded ≡ is_bounded (choice s f k d vs) }
+    ensures supported { (s : Shape) (f : ℕ) (k : Kind) (d : Fixed) (vs : List Fixed) → shape ≡ shape_number s
+        → type_ ≡ type_number k → IsTrue result.is_supported ↔ IsSupported (choice s f k d vs) }
+    ensures flags { (s : Shape) (f : ℕ) (k : Kind) (d : Fixed) (vs : List Fixed) → shape ≡ shape_number s
+        → result.is_flags ≡ is_flags (choice s f k d vs) }
+    ensures bounded { (s : Shape) (f : ℕ) (k : Kind) (d : Fixed) (vs : List Fixed) → shape ≡ shape_number s
+        → result.is_bounded ≡ is_bounded (choice s f k d vs) }
 {
     let is_supported = match shape {
         RANGE_SHAPE => has_order(type_),

@@ -7,12 +7,12 @@ use Rattle.spa_format.specs.Words.{size_limit, word_bytes}
 use Rattle.spa_format.specs.Tree.{Tree, object, Properties, no_properties, property, join_properties}
 use Rattle.spa_format.specs.Writable.{IsTooLarge, SomeValueTooLarge}
 use Rattle.spa_object_view.specs.Fronts.{BeginBoth}
-use Rattle.spa_object_view.specs.Written.{AreBehind, AreWritten, BeginsWritten, has_key, open_header}
+use Rattle.spa_object_view.specs.Written.{AreBehind, AreWritten, BeginsWritten, open_header}
 use Rattle.spa_object_view.proofs.Both.{begin_both}
 use Rattle.spa_object_view.proofs.Joined.{behind_none, behind_on, join_properties-assoc, object_large, object_written}
 use Rattle.spa_object_view.proofs.Sides.{IsNext}
 use Rattle.spa_filter.specs.Filtering.{Agree, CanFilter, Filters}
-use Rattle.spa_keyed_objects.specs.Keys.{AtKey, contains, key_list, keys_of, offered, offered_at}
+use Rattle.spa_keyed_objects.specs.Keys.{AtKey, keys_of, offered, offered_at, has_key}
 use Rattle.spa_keyed_objects.proofs.Holding.{HoldsAtKeys-new, HoldsAtKeys-none, HoldsAtKeys-seen, first_lacks, second_offers}
 use Rattle.spa_keyed_objects.proofs.Lookups.{offered_at-absent, offered_at-joined}
 use Rattle.spa_filter.specs.Refusals.{AreRefused, IsKeyRefusal, IsRefusal}
@@ -22,7 +22,6 @@ use Rattle.spa_filter.proofs.Agreeing.{Agree-push, AreRefused-properties, IsRefu
 use Rattle.spa_filter_pods.specs.Fronts.{FilterIn, FilterTooLarge}
 use Rattle.spa_filter_pods.specs.Written.{AreViewsRefused, IsFilteredBehind, IsPutAs, IsPutBehind, IsPutBy}
 use Rattle.spa_filter_pods.specs.declared.answer.Answer.{Answer}
-use Rattle.spa_filter_pods.proofs.Lookups.{has_contains}
 
 -- what was too large stays so behind others, and before them
 large_before : (ps qs : Properties) → SomeValueTooLarge ps → SomeValueTooLarge (join_properties ps qs)
@@ -57,7 +56,7 @@ pub seen : {ps qs these : Properties} {head : List ℕ} {out : Answer} (k f : �
 seen {ps} {qs} {these} k f v there m =
     record {
       met = m.met;
-      filters = HoldsAtKeys-seen Filters ps qs these m.met m.filters k f v (sym (has_contains k these) ∙ there);
+      filters = HoldsAtKeys-seen Filters ps qs these m.met m.filters k f v there;
       agree = m.agree;
       held = m.held;
     }
@@ -69,7 +68,7 @@ put : (ps qs these : Properties) (head : List ℕ) (old new : Answer) (k f : ℕ
 put ps qs these head old new k f v fresh l p m =
     record {
       met = join_properties m.met (property k p.flags p.value no_properties);
-      filters = HoldsAtKeys-new Filters ps qs these m.met m.filters k f v (sym (has_contains k these) ∙ fresh) p.flags p.value p.filters;
+      filters = HoldsAtKeys-new Filters ps qs these m.met m.filters k f v fresh p.flags p.value p.filters;
       agree = Agree-push ps qs m.met k p.flags p.value m.agree p.agree;
       held = held_on k p.flags p.value m.met head old new l m.held p.put;
     }
@@ -78,7 +77,7 @@ put ps qs these head old new k f v fresh l p m =
 module _ {ps qs : Properties} {b left pod rest head : List ℕ} {old : Answer} {k f bound : ℕ}
     (n : IsNext no_properties ps b left pod rest k f bound (λ these. IsFilteredBehind ps qs these head old)) (fresh : has_key k n.done ≡ false) where
   offered_first : offered_at k ps ≡ Some (offered f n.value)
-  offered_first = offered_at-joined k f n.value n.done n.behind ps n.all (offered_at-absent k n.done (sym (has_contains k n.done) ∙ fresh))
+  offered_first = offered_at-joined k f n.value n.done n.behind ps n.all (offered_at-absent k n.done fresh)
 
   pub first_put : {new : Answer} → k < 2 ^ 32 → IsPutBy (Some (offered f n.value)) (offered_at k qs) k old new →
       IsFilteredBehind ps qs (join_properties n.done (property k f n.value no_properties)) head new
@@ -89,19 +88,16 @@ module _ {ps qs : Properties} {b left pod rest head : List ℕ} {old : Answer} {
       let along = ap (λ z. join_properties z qs) n.all ∙ join_properties-assoc n.done (property k f n.value n.behind) qs in
       let refused = subst (λ o. IsKeyRefusal k o (offered_at k qs) e) (sym offered_first) r in
       IsRefusal-next ps qs n.done n.holds.met k n.holds.filters f n.value (join_properties n.behind qs) along n.holds.agree
-      (sym (has_contains k n.done) ∙ fresh) e refused
+      fresh e refused
 
 -- and one that the second side alone has
 module _ {ps qs : Properties} {b left pod rest head : List ℕ} {old : Answer} {k f bound : ℕ}
     (n : IsNext ps qs b left pod rest k f bound (λ these. IsFilteredBehind ps qs these head old)) (fresh : has_key k (join_properties ps n.done) ≡ false) where
-  absent : contains k (key_list (join_properties ps n.done)) ≡ false
-  absent = sym (has_contains k (join_properties ps n.done)) ∙ fresh
-
   none_offered : offered_at k ps ≡ None
-  none_offered = first_lacks ps n.done k absent
+  none_offered = first_lacks ps n.done k fresh
 
   offered_other : offered_at k qs ≡ Some (offered f n.value)
-  offered_other = second_offers ps qs n.done n.behind k f n.value n.all absent
+  offered_other = second_offers ps qs n.done n.behind k f n.value n.all fresh
 
   pub other_put : {new : Answer} → k < 2 ^ 32 → IsPutBy None (Some (offered f n.value)) k old new →
       IsFilteredBehind ps qs (join_properties (join_properties ps n.done) (property k f n.value no_properties)) head new
@@ -111,7 +107,7 @@ module _ {ps qs : Properties} {b left pod rest head : List ℕ} {old : Answer} {
   other_refused e r =
       let along = ap (join_properties ps) n.all ∙ sym (join_properties-assoc ps n.done (property k f n.value n.behind)) in
       let refused : IsKeyRefusal k (offered_at k ps) (offered_at k qs) e = rw (none_offered, offered_other) r in
-      IsRefusal-next ps qs (join_properties ps n.done) n.holds.met k n.holds.filters f n.value n.behind along n.holds.agree absent e refused
+      IsRefusal-next ps qs (join_properties ps n.done) n.holds.met k n.holds.filters f n.value n.behind along n.holds.agree fresh e refused
 
 held_none : (head : List ℕ) (b : Bool) → b ≡ false → MatchBool b (SomeValueTooLarge no_properties) (AreBehind no_properties head head)
 held_none head true e = absurd (true≢false e)

@@ -1,4 +1,3 @@
 pub mod Fronts
-pub mod Lookups
 pub mod Filterings
 pub mod Puts

@@ -4,8 +4,8 @@ use Rattle.std.specs.Prelude.{MatchBool, bit_and}
 use Rattle.spa_format.specs.Words.{word_bytes}
 use Rattle.spa_format.specs.Tree.{Tree}
 use Rattle.spa_format.specs.Writable.{IsTooLarge}
-use Rattle.spa_object_view.specs.Written.{IsWritten}
 use Rattle.spa_filter.specs.CommonPods as common
+use Rattle.spa_keyed_objects.specs.CanonicalPods.{IsCanonicalPod}
 use Rattle.spa_filter_offers.specs.Admits.{plain_of}
 use Rattle.spa_keyed_objects.specs.Keys.{Offered}
 use Rattle.spa_filter.specs.Keys.{IsMandatory}
@@ -16,12 +16,8 @@ use Rattle.spa_keyed_objects.specs.Keys.{offered}
 use Rattle.spa_filter_pods.specs.Written.{IsPutAs, IsPutBehind, IsPutBy}
 use Rattle.spa_filter_pods.specs.declared.answer.Answer.{Answer}
 
--- the word for what is written, of the crate below
-pub as_common : (v : Tree) (pod : List ℕ) → IsWritten v pod → common.IsWritten v pod
-as_common v pod w = record { its_pod = w.its_pod; same = w.same }
-
 -- a property that was appended to an answer that is as large as it was
-put_as : (key flags : ℕ) (value : Tree) (pod : List ℕ) (old new : Answer) → flags < 2 ^ 32 → IsWritten value pod →
+put_as : (key flags : ℕ) (value : Tree) (pod : List ℕ) (old new : Answer) → flags < 2 ^ 32 → IsCanonicalPod value pod →
     new.bytes.items ≡ old.bytes.items ++ ((word_bytes key ++ word_bytes flags) ++ pod) → new.is_large ≡ old.is_large → IsPutAs key flags value old new
 put_as key flags value pod old new l w p e = by_size new.is_large (sym e)
   where
@@ -35,13 +31,12 @@ pub put_of_both : (v w : Tree) (f g h key : ℕ) (old new : Answer) (mid : List 
 put_of_both v w f g h key old new mid e l m z c =
     let words = word_bytes key ++ word_bytes h in
     let parts = c.appended.parts ∙ ap (λ x. x ++ c.appended.pod) m ∙ append_assoc old.bytes.items words c.appended.pod in
-    let written : IsWritten c.value c.appended.pod = record { its_pod = c.appended.written.its_pod; same = c.appended.written.same } in
     record {
       flags = h;
       value = c.value;
       filters = (e, c.meeting);
       agree = (c.supported, (plain_of c.value, c.meeting.admitted));
-      put = put_as key h c.value c.appended.pod old new l written parts z;
+      put = put_as key h c.value c.appended.pod old new l c.appended.written parts z;
     }
 
 -- a property that is put, where its value can't be written
@@ -68,7 +63,7 @@ refused_both v w f g key _ n h = absurd h
 
 -- a property of one side alone
 pub put_of_first : (v : Tree) (f key : ℕ) (pod mid : List ℕ) (old new : Answer) → ¬ (IsMandatory f) → f < 2 ^ 32 → mid ≡ old.bytes.items ++ (word_bytes key ++ word_bytes f) →
-    new.bytes.items ≡ mid ++ pod → new.is_large ≡ old.is_large → IsWritten v pod → IsPutBy (Some (offered f v)) None key old new
+    new.bytes.items ≡ mid ++ pod → new.is_large ≡ old.is_large → IsCanonicalPod v pod → IsPutBy (Some (offered f v)) None key old new
 put_of_first v f key pod mid old new n l m p z w =
     record {
       flags = f;
@@ -79,7 +74,7 @@ put_of_first v f key pod mid old new n l m p z w =
     }
 
 pub put_of_second : (v : Tree) (f key : ℕ) (pod mid : List ℕ) (old new : Answer) → ¬ (IsMandatory f) → f < 2 ^ 32 → mid ≡ old.bytes.items ++ (word_bytes key ++ word_bytes f) →
-    new.bytes.items ≡ mid ++ pod → new.is_large ≡ old.is_large → IsWritten v pod → IsPutBy None (Some (offered f v)) key old new
+    new.bytes.items ≡ mid ++ pod → new.is_large ≡ old.is_large → IsCanonicalPod v pod → IsPutBy None (Some (offered f v)) key old new
 put_of_second v f key pod mid old new n l m p z w =
     record {
       flags = f;

@@ -4,13 +4,14 @@ use Rattle.std.specs.List.{All}
 use Rattle.spa_format.specs.Words.{size_limit, word_bytes}
 use Rattle.spa_format.specs.Tree.{Tree, Properties}
 use Rattle.spa_format.specs.Writable.{IsTooLarge, SomeValueTooLarge}
-use Rattle.spa_object_view.specs.Written.{AreBehind, IsWritten}
+use Rattle.spa_object_view.specs.Written.{AreBehind}
 use Rattle.spa_keyed_objects.specs.Keys.{AtKey, HoldsAtKeys, Offered, key_list}
 use Rattle.spa_filter.specs.Filtering.{Agree, Filters}
 use Rattle.spa_filter.specs.Refusals.{AreRefused}
 use Rattle.spa_filter.specs.declared.error.FilterError.{FilterError}
 use Rattle.spa_filter.specs.declared.error.FilterError.TheVariants.{TooLarge}
 use Rattle.spa_object_view.specs.Fronts.{BeginBoth}
+use Rattle.spa_keyed_objects.specs.CanonicalPods.{IsCanonicalPod}
 use Rattle.spa_filter_pods.specs.Fronts.{FilterTooLarge}
 use Rattle.spa_filter_pods.specs.declared.answer.Answer.{Answer}
 
@@ -19,7 +20,7 @@ pub record IsPutBehind (key flags : ℕ) (value : Tree) (old new : Answer) : Typ
   pub small : old.is_large ≡ false
   pub pod : List ℕ
   pub fits : flags < size_limit
-  pub written : IsWritten value pod
+  pub written : IsCanonicalPod value pod
   pub parts : new.bytes.items ≡ old.bytes.items ++ ((word_bytes key ++ word_bytes flags) ++ pod)
 
 -- such a property was appended, or the outcome is too large, for this value or for one before it

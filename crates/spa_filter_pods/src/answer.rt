@@ -5,7 +5,8 @@ ghost use Rattle.spa_filter.specs.Refusals.{IsKeyRefusal};
 ghost use Rattle.spa_filter.specs.declared.error.FilterError.TheVariants.{OutOfMemory};
 ghost use Rattle.spa_keyed_objects.specs.Keys.{offered};
 ghost use Rattle.spa_filter_pods.specs.Written.{IsEnded, IsPutBy, IsUnended};
-ghost use Rattle.spa_object_view.specs.Written.{IsWritten, open_header};
+ghost use Rattle.spa_object_view.specs.Written.{open_header};
+ghost use Rattle.spa_keyed_objects.specs.CanonicalPods.{IsCanonicalPod};
 
 use crate::common_pods::put_met;
 use spa_filter::FilterError;
@@ -47,10 +48,14 @@ pub(crate) fn begun(alloc: Global, object: &ObjectView<'_>) -> Result<Answer, Fi
 
 /// Appends a property that only one side has. Refused as `Missing` where it is MANDATORY.
 pub(crate) fn put_alone(out: &mut Answer, first: &PropertyView<'_>) -> Result<(), FilterError>
-    ensures first { OnOk result ((v : Tree) → IsWritten v first.now.pod.now → IsPutBy (Some (offered first.now.flags v)) None first.now.key out.old out.new) }
-    ensures second { OnOk result ((v : Tree) → IsWritten v first.now.pod.now → IsPutBy None (Some (offered first.now.flags v)) first.now.key out.old out.new) }
-    ensures first_cause { IfErr result (λ e. (v : Tree) → IsKeyRefusal first.now.key (Some (offered first.now.flags v)) None e) }
-    ensures second_cause { IfErr result (λ e. (v : Tree) → IsKeyRefusal first.now.key None (Some (offered first.now.flags v)) e) }
+    ensures first { OnOk result ((v : Tree) → IsCanonicalPod v first.now.pod.now
+        → IsPutBy (Some (offered first.now.flags v)) None first.now.key out.old out.new) }
+    ensures second { OnOk result ((v : Tree) → IsCanonicalPod v first.now.pod.now
+        → IsPutBy None (Some (offered first.now.flags v)) first.now.key out.old out.new) }
+    ensures first_cause { IfErr result (λ e. (v : Tree)
+        → IsKeyRefusal first.now.key (Some (offered first.now.flags v)) None e) }
+    ensures second_cause { IfErr result (λ e. (v : Tree)
+        → IsKeyRefusal first.now.key None (Some (offered first.now.flags v)) e) }
 {
     if first.flags & MANDATORY == MANDATORY {
         return Err(FilterError::Missing(first.key));
@@ -71,8 +76,11 @@ pub(crate) fn put_both(
     first: &PropertyView<'_>,
     other: &PropertyView<'_>,
 ) -> Result<(), FilterError>
-    ensures put { OnOk result ((v w : Tree) → IsWritten v first.now.pod.now → IsWritten w other.now.pod.now → IsPutBy (Some (offered first.now.flags v)) (Some (offered other.now.flags w)) first.now.key out.old out.new) }
-    ensures cause { IfErr result (λ e. (v w : Tree) → IsWritten v first.now.pod.now → IsWritten w other.now.pod.now → IsKeyRefusal first.now.key (Some (offered first.now.flags v)) (Some (offered other.now.flags w)) e) }
+    ensures put { OnOk result ((v w : Tree) → IsCanonicalPod v first.now.pod.now → IsCanonicalPod w other.now.pod.now
+        → IsPutBy (Some (offered first.now.flags v)) (Some (offered other.now.flags w)) first.now.key out.old out.new) }
+    ensures cause { IfErr result (λ e. (v w : Tree) → IsCanonicalPod v first.now.pod.now
+        → IsCanonicalPod w other.now.pod.now
+        → IsKeyRefusal first.now.key (Some (offered first.now.flags v)) (Some (offered other.now.flags w)) e) }
 {
     let flags = first.flags & other.flags;
     if !put_key(&mut out.bytes, first.key, flags) {

@@ -1,7 +1,8 @@
 //! Filters two values, from their pods to the pod of the outcome.
 ghost use Rattle.std.specs.Prelude.{IfErr, OnOk};
 ghost use Rattle.spa_format.specs.Tree.{Tree};
-ghost use Rattle.spa_filter.specs.CommonPods.{IsCommonAppended, IsPodRefusal, IsWritten};
+ghost use Rattle.spa_filter.specs.CommonPods.{IsCommonAppended, IsPodRefusal};
+ghost use Rattle.spa_keyed_objects.specs.CanonicalPods.{IsCanonicalPod};
 
 use spa_filter::{FilterError, put_common};
 use spa_object_view::{are_same, is_plain, put_pod};
@@ -15,8 +16,10 @@ pub(crate) fn put_met(
     a: &[u8],
     b: &[u8],
 ) -> Result<(), FilterError>
-    ensures appended { OnOk result ((v w : Tree) → IsWritten v a.now → IsWritten w b.now → IsCommonAppended v w out.old.items out.new.items) }
-    ensures cause { IfErr result (λ e. (v w : Tree) → IsWritten v a.now → IsWritten w b.now → IsPodRefusal key v w e) }
+    ensures appended { OnOk result ((v w : Tree) → IsCanonicalPod v a.now → IsCanonicalPod w b.now
+        → IsCommonAppended v w out.old.items out.new.items) }
+    ensures cause { IfErr result (λ e. (v w : Tree) → IsCanonicalPod v a.now → IsCanonicalPod w b.now
+        → IsPodRefusal key v w e) }
 {
     if !is_plain(a) || !is_plain(b) {
         return put_common(alloc, key, out, a, b);

@@ -9,7 +9,8 @@ ghost use Rattle.spa_filter_pods.specs.Fronts.{FilterIn};
 ghost use Rattle.spa_filter_pods.specs.Written.{AreViewsRefused, IsFilteredBehind, IsPutBy};
 ghost use Rattle.spa_object_view.specs.Fronts.{BeginBoth, BeginsView};
 ghost use Rattle.spa_object_view.specs.KeyOrder.{IsKeyed};
-ghost use Rattle.spa_object_view.specs.Written.{AreWritten, IsWritten};
+ghost use Rattle.spa_object_view.specs.Written.{AreWritten};
+ghost use Rattle.spa_keyed_objects.specs.CanonicalPods.{IsCanonicalPod};
 
 use crate::answer::{Answer, begun, ended, put_alone, put_both};
 use spa_filter::FilterError;
@@ -23,9 +24,12 @@ pub(crate) fn filter_objects(
     theirs: &ObjectView<'_>,
 ) -> Result<Vec<u8>, FilterError>
     requires { (ours.now.type_ < size_limit) × (ours.now.id < size_limit) }
-    ensures accepted { OnOk result ((a b : List ℕ) → BeginsView a ours.now → BeginsView b theirs.now → BeginBoth a b CanFilter) }
-    ensures value { IfOk result (λ bytes. (a b : List ℕ) → BeginsView a ours.now → BeginsView b theirs.now → BeginBoth a b (FilterIn bytes.items)) }
-    ensures cause { IfErr result (λ e. (a b : List ℕ) → BeginsView a ours.now → BeginsView b theirs.now → AreViewsRefused a b e) }
+    ensures accepted { OnOk result ((a b : List ℕ) → BeginsView a ours.now → BeginsView b theirs.now
+        → BeginBoth a b CanFilter) }
+    ensures value { IfOk result (λ bytes. (a b : List ℕ) → BeginsView a ours.now → BeginsView b theirs.now
+        → BeginBoth a b (FilterIn bytes.items)) }
+    ensures cause { IfErr result (λ e. (a b : List ℕ) → BeginsView a ours.now → BeginsView b theirs.now
+        → AreViewsRefused a b e) }
 {
     if ours.type_ != theirs.type_ {
         return Err(FilterError::TypeMismatch);
@@ -48,8 +52,10 @@ fn filter_first(
     requires first { IsKeyed ours.now }
     requires second { IsKeyed theirs.now }
     requires small { out.old.is_large ≡ false }
-    ensures filtered { OnOk result ((ps qs : Properties) → AreWritten ps ours.now.properties.now → AreWritten qs theirs.now.properties.now → IsFilteredBehind ps qs ps out.old.bytes.items out.new) }
-    ensures cause { IfErr result (λ e. (ps qs : Properties) → AreWritten ps ours.now.properties.now → AreWritten qs theirs.now.properties.now → IsRefusal ps qs e) }
+    ensures filtered { OnOk result ((ps qs : Properties) → AreWritten ps ours.now.properties.now
+        → AreWritten qs theirs.now.properties.now → IsFilteredBehind ps qs ps out.old.bytes.items out.new) }
+    ensures cause { IfErr result (λ e. (ps qs : Properties) → AreWritten ps ours.now.properties.now
+        → AreWritten qs theirs.now.properties.now → IsRefusal ps qs e) }
 {
     let mut left = ours.properties;
     let mut bound = 0;
@@ -67,8 +73,11 @@ fn filter_first(
 fn filter_others(out: &mut Answer, ours: &Keyed<'_>, theirs: &Keyed<'_>) -> Result<(), FilterError>
     requires first { IsKeyed ours.now }
     requires second { IsKeyed theirs.now }
-    ensures filtered { OnOk result ((ps qs : Properties) (head : List ℕ) → AreWritten ps ours.now.properties.now → AreWritten qs theirs.now.properties.now → IsFilteredBehind ps qs ps head out.old → IsFilteredBehind ps qs (join_properties ps qs) head out.new) }
-    ensures cause { IfErr result (λ e. (ps qs : Properties) (head : List ℕ) → AreWritten ps ours.now.properties.now → AreWritten qs theirs.now.properties.now → IsFilteredBehind ps qs ps head out.old → IsRefusal ps qs e) }
+    ensures filtered { OnOk result ((ps qs : Properties) (head : List ℕ) → AreWritten ps ours.now.properties.now
+        → AreWritten qs theirs.now.properties.now → IsFilteredBehind ps qs ps head out.old
+        → IsFilteredBehind ps qs (join_properties ps qs) head out.new) }
+    ensures cause { IfErr result (λ e. (ps qs : Properties) (head : List ℕ) → AreWritten ps ours.now.properties.now
+        → AreWritten qs theirs.now.properties.now → IsFilteredBehind ps qs ps head out.old → IsRefusal ps qs e) }
 {
     let mut left = theirs.properties;
     let mut bound = 0;
@@ -90,8 +99,12 @@ fn put_filtered(
     theirs: &Keyed<'_>,
 ) -> Result<(), FilterError>
     requires { IsKeyed theirs.now }
-    ensures put { OnOk result ((v : Tree) (qs : Properties) → IsWritten v first.now.pod.now → AreWritten qs theirs.now.properties.now → IsPutBy (Some (offered first.now.flags v)) (offered_at first.now.key qs) first.now.key out.old out.new) }
-    ensures cause { IfErr result (λ e. (v : Tree) (qs : Properties) → IsWritten v first.now.pod.now → AreWritten qs theirs.now.properties.now → IsKeyRefusal first.now.key (Some (offered first.now.flags v)) (offered_at first.now.key qs) e) }
+    ensures put { OnOk result ((v : Tree) (qs : Properties) → IsCanonicalPod v first.now.pod.now
+        → AreWritten qs theirs.now.properties.now
+        → IsPutBy (Some (offered first.now.flags v)) (offered_at first.now.key qs) first.now.key out.old out.new) }
+    ensures cause { IfErr result (λ e. (v : Tree) (qs : Properties) → IsCanonicalPod v first.now.pod.now
+        → AreWritten qs theirs.now.properties.now
+        → IsKeyRefusal first.now.key (Some (offered first.now.flags v)) (offered_at first.now.key qs) e) }
 {
     match theirs.find(first.key) {
         Some(other) => put_both(alloc, out, first, &other),

@@ -8,7 +8,7 @@ use Rattle.std.specs.Prelude.{nat_lt}
 use Rattle.std.proofs.lemmas.List.{drop_more, get_or_default}
 use Rattle.spa_keyed_objects.specs.Keys.{Offered}
 use Rattle.spa_value.specs.declared.object.Property.{Property}
-use Rattle.spa_keyed_objects.specs.PropertyLists.{found_at, offered_by, IsFoundAt}
+use Rattle.spa_keyed_objects.specs.PropertyLists.{offered_in, offered_by, IsFoundAt}
 
 -- two keys compare as equal where they are
 is_eq-same : (j : ℕ) → is_eq (nat_cmp j j) ≡ true
@@ -33,9 +33,9 @@ module _ (ps : List Property) (at : ℕ) (p : Property) (l : at < length ps) (e 
   where
     -- what is found from the place on
     found_from : (k : ℕ) →
-        found_at k (drop at ps) ≡ (if p.key == k then Some (offered_by p) else found_at k (drop (at + 1) ps))
+        offered_in k (drop at ps) ≡ (if p.key == k then Some (offered_by p) else offered_in k (drop (at + 1) ps))
     found_from k =
-        ap (found_at k) (drop_more ps at p l ∙ ap (λ x. x ∷ drop (at + 1) ps) (sym e))
+        ap (offered_in k) (drop_more ps at p l ∙ ap (λ x. x ∷ drop (at + 1) ps) (sym e))
 
     same_value : (found : Option Offered) → found ≡ Some (offered_by p) → (q : Property) →
         q ≡ get_or ps at q → found ≡ Some (offered_by q)
@@ -43,20 +43,20 @@ module _ (ps : List Property) (at : ℕ) (p : Property) (l : at < length ps) (e 
         let same : p ≡ q = e ∙ get_or_default ps at p q l ∙ sym r in
         h ∙ ap (λ x. Some (offered_by x)) same
 
-    placed_by : (k : ℕ) (b : Bool) (old : Option ℕ) → IsFoundAt ps (found_at k (drop (at + 1) ps)) old →
-        IsFoundAt ps (if b then Some (offered_by p) else found_at k (drop (at + 1) ps)) (cond b (Some at) old)
+    placed_by : (k : ℕ) (b : Bool) (old : Option ℕ) → IsFoundAt ps (offered_in k (drop (at + 1) ps)) old →
+        IsFoundAt ps (if b then Some (offered_by p) else offered_in k (drop (at + 1) ps)) (cond b (Some at) old)
     placed_by k true old h = (l, same_value (Some (offered_by p)) refl)
     placed_by k false old h = h
 
     -- one more place
     pub placed : (left : ℕ) → left ≡ at + 1 → (old new : BTreeMap ℕ ℕ) →
-        ((k : ℕ) → IsFoundAt ps (found_at k (drop left ps)) (get nat_cmp old k)) →
+        ((k : ℕ) → IsFoundAt ps (offered_in k (drop left ps)) (get nat_cmp old k)) →
         Updates nat_cmp old new p.key (Some at) →
-        (k : ℕ) → IsFoundAt ps (found_at k (drop at ps)) (get nat_cmp new k)
+        (k : ℕ) → IsFoundAt ps (offered_in k (drop at ps)) (get nat_cmp new k)
     placed left next old new h u k =
-        let behind = subst (λ n. IsFoundAt ps (found_at k (drop n ps)) (get nat_cmp old k)) next (h k) in
+        let behind = subst (λ n. IsFoundAt ps (offered_in k (drop n ps)) (get nat_cmp old k)) next (h k) in
         let now : get nat_cmp new k ≡ cond (p.key == k) (Some at) (get nat_cmp old k) =
         u.0 k ∙ ap (λ b. cond b (Some at) (get nat_cmp old k)) (is_at-key p.key k) in
         subst (λ found. IsFoundAt ps found (get nat_cmp new k)) (sym (found_from k))
-        (subst (IsFoundAt ps (if p.key == k then Some (offered_by p) else found_at k (drop (at + 1) ps)))
+        (subst (IsFoundAt ps (if p.key == k then Some (offered_by p) else offered_in k (drop (at + 1) ps)))
         (sym now) (placed_by k (p.key == k) (get nat_cmp old k) behind))

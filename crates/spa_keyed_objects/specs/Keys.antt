@@ -36,6 +36,10 @@ abbrev pub contains : ℕ → List ℕ → Bool
 contains k [] = false
 contains k (j ∷ js) = if j == k then true else contains k js
 
+-- whether a property has this key
+abbrev pub has_key : ℕ → Properties → Bool
+has_key key ps = contains key (key_list ps)
+
 -- the fact holds of what the two sides offer under this key
 abbrev pub AtKey : (Option Offered → Option Offered → Type 0) → (ours theirs : Properties) → ℕ → Type 0
 AtKey Fact ours theirs key = Fact (offered_at key ours) (offered_at key theirs)

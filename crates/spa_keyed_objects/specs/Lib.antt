@@ -1,3 +1,4 @@
+pub mod CanonicalPods
 pub mod Keys
 pub mod PropertyLists
 pub mod Sides

@@ -12,8 +12,8 @@ use Rattle.spa_keyed_objects.specs.Keys.{Offered, offered, offered_at, key_list,
 use Rattle.spa_keyed_objects.specs.declared.keyed.Keyed.{Keyed}
 
 -- the flags and the value of the first of these properties with the key; None where none has it
-abbrev pub found_at : ℕ → List Property → Option Offered
-found_at key properties = offered_at key (property_views properties)
+abbrev pub offered_in : ℕ → List Property → Option Offered
+offered_in key properties = offered_at key (property_views properties)
 
 -- the flags and the value of a property
 abbrev pub offered_by : Property → Offered
@@ -29,7 +29,7 @@ IsFoundAt properties found (Some place) =
 -- the map has the index of the first property with each key, and no other key
 abbrev pub HasPlaces : BTreeMap ℕ ℕ → List Property → Type 0
 HasPlaces places properties =
-    (key : ℕ) → IsFoundAt properties (found_at key properties) (get nat_cmp places key)
+    (key : ℕ) → IsFoundAt properties (offered_in key properties) (get nat_cmp places key)
 
 -- the map of `keyed` has the index of the first of its properties with each key
 pub record IsKeyed (keyed : Keyed) : Type 0 where

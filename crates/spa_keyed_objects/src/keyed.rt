@@ -1,6 +1,6 @@
 //! Finds properties by their keys, and keeps sets of keys.
 ghost use Rattle.std.specs.Prelude.{◌≡◌, IfOk, MatchOption, None, Some};
-ghost use Rattle.spa_keyed_objects.specs.PropertyLists.{HasPlaces, IsAdded, IsKeyed, found_at, offered_by};
+ghost use Rattle.spa_keyed_objects.specs.PropertyLists.{HasPlaces, IsAdded, IsKeyed, offered_in, offered_by};
 
 use spa_value::Property;
 use std::alloc::{AllocError, Global};
@@ -30,7 +30,7 @@ impl<'a> Keyed<'a> {
     /// The first property with this key, in a time that grows with log n.
     pub fn find(&self, key: u32) -> Option<&'a Property>
         requires { IsKeyed self.now }
-        ensures { MatchOption result (found_at key self.now.properties.now ≡ None) (λ p. found_at key self.now.properties.now ≡ Some (offered_by p.now)) }
+        ensures { MatchOption result (offered_in key self.now.properties.now ≡ None) (λ p. offered_in key self.now.properties.now ≡ Some (offered_by p.now)) }
     {
         match self.places.get(&key) {
             Some(place) => Some(&self.properties[*place]),

@@ -9,7 +9,7 @@ use Rattle.spa_value.specs.ObjectLaws.{PropertyListsGoOn, PropertyListsAreCut}
 use Rattle.spa_negotiate_objects.specs.declared.error.NegotiateError.{NegotiateError}
 use Rattle.spa_negotiate_objects.specs.declared.negotiation.Settled.{Settled}
 use Rattle.spa_keyed_objects.specs.Keys.{HoldsAtKeys}
-use Rattle.spa_keyed_objects.specs.PropertyLists.{HasKeys, IsAdded, found_at, offered_by}
+use Rattle.spa_keyed_objects.specs.PropertyLists.{HasKeys, IsAdded, offered_in, offered_by}
 use Rattle.spa_keyed_objects.proofs.Holding.{HoldsAtKeys-seen, HoldsAtKeys-first, HoldsAtKeys-other}
 use Rattle.spa_keyed_objects.proofs.KeySets.{join_properties-assoc, there, absent, more_keys}
 use Rattle.spa_negotiate_objects.specs.Admits.{IsPlain, plain_of}
@@ -58,7 +58,7 @@ module _ (go_on : PropertyListsGoOn) (are_cut : PropertyListsAreCut) (ours their
     -- its key was not there, and x settles it
     pub first_new : is_new ≡ true → (now : List Property) (x : Tree) →
         IsPushed s.met.properties.items p.key x now →
-        IsMetAt (Some (offered_by p)) (found_at p.key theirs) 0 x →
+        IsMetAt (Some (offered_by p)) (offered_in p.key theirs) 0 x →
         AreSettled ours theirs (firsts ours (i + 1)) now
     first_new was now x m settles =
         let os = property_views ours in
@@ -75,7 +75,7 @@ module _ (go_on : PropertyListsGoOn) (are_cut : PropertyListsAreCut) (ours their
 
     -- its key was not there, and is refused
     pub first_refused : is_new ≡ true → (why : NegotiateError) →
-        IsKeyRefusal p.key (Some (offered_by p)) (found_at p.key theirs) why →
+        IsKeyRefusal p.key (Some (offered_by p)) (offered_in p.key theirs) why →
         IsRefusal (property_views ours) (property_views theirs) why
     first_refused was why r =
         let os = property_views ours in

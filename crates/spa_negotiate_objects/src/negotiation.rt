@@ -4,7 +4,7 @@ ghost use Rattle.spa_format.specs.Tree.{join_properties};
 ghost use Rattle.spa_value.specs.declared.object.Property.{Property};
 ghost use Rattle.spa_value.specs.View.{object_view, view};
 ghost use Rattle.spa_value.specs.Views.{property_views};
-ghost use Rattle.spa_keyed_objects.specs.PropertyLists.{IsKeyed, found_at, offered_by};
+ghost use Rattle.spa_keyed_objects.specs.PropertyLists.{IsKeyed, offered_in, offered_by};
 ghost use Rattle.spa_negotiate_objects.specs.Admits.{AreSupported, IsCommon, IsPlain};
 ghost use Rattle.spa_negotiate_objects.specs.Meeting.{CanMeet, IsMetAt, Meet};
 ghost use Rattle.spa_negotiate_objects.specs.PropertyLists.{AreSettled, IsSettled};
@@ -87,7 +87,8 @@ fn settle_first(alloc: Global, a: &[Property], b: &Keyed<'_>) -> Result<Settled,
 
 /// The properties of the outcome for the keys of the first side, and behind them those for the keys that only the second side has.
 fn settle_rest(first: Settled, b: &[Property]) -> Result<Vec<Property>, AllocError>
-    ensures { IfOk result (λ met. (a : List Property) → IsSettled a b.now (property_views a) first → AreSettled a b.now (join_properties (property_views a) (property_views b.now)) met.items) }
+    ensures { IfOk result (λ met. (a : List Property) → IsSettled a b.now (property_views a) first
+        → AreSettled a b.now (join_properties (property_views a) (property_views b.now)) met.items) }
 {
     property_lists_are_in_order();
     let Settled { mut met, mut keys } = first;
@@ -104,8 +105,11 @@ fn settle_rest(first: Settled, b: &[Property]) -> Result<Vec<Property>, AllocErr
 /// The plain value that the outcome has under the key of a property of the first side, where `others` are the properties of the second.
 fn settle(alloc: Global, property: &Property, others: &Keyed<'_>) -> Result<Value, NegotiateError>
     requires { IsKeyed others.now }
-    ensures met { IfOk result (λ x. IsMetAt (Some (offered_by property.now)) (found_at property.now.key others.now.properties.now) 0 (view x)) }
-    ensures cause { IfErr result (IsKeyRefusal property.now.key (Some (offered_by property.now)) (found_at property.now.key others.now.properties.now)) }
+    ensures met { IfOk result
+        (λ x. IsMetAt (Some (offered_by property.now)) (offered_in property.now.key others.now.properties.now) 0
+        (view x)) }
+    ensures cause { IfErr result (IsKeyRefusal property.now.key (Some (offered_by property.now))
+        (offered_in property.now.key others.now.properties.now)) }
 {
     match others.find(property.key) {
         Some(other) => common(alloc, property.key, &property.value, &other.value),

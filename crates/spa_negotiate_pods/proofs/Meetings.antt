@@ -1,15 +1,15 @@
 -- Two borrowed objects meet: what is appended while their properties are passed, and what they meet in.
-use Rattle.std.proofs.Common.{◌≡◌, ℕ, ◌-◌, ◌<◌, ◌≤◌, ◌^◌, List, ◌++◌, ◌==◌, length, drop, refl, sym, ap, ◌∙◌, subst, arith, true, false, if◌then◌else◌, Some}
+use Rattle.std.proofs.Common.{◌≡◌, ℕ, ◌-◌, ◌<◌, ◌≤◌, ◌^◌, List, ◌++◌, ◌==◌, length, drop, refl, sym, ◌∙◌, subst, arith, true, false, if◌then◌else◌, Some}
 use Rattle.std.specs.List.{All}
 use Rattle.spa_format.specs.Words.{size_limit, word_bytes}
 use Rattle.spa_format.specs.Tree.{Tree, object, Properties, no_properties, property, join_properties}
 use Rattle.spa_object_view.specs.Fronts.{BeginBoth}
-use Rattle.spa_object_view.specs.Written.{AreBehind, AreWritten, BeginsWritten, has_key, open_header}
+use Rattle.spa_object_view.specs.Written.{AreBehind, AreWritten, BeginsWritten, open_header}
 use Rattle.spa_object_view.proofs.Both.{begin_both}
 use Rattle.spa_object_view.proofs.Joined.{behind_none, behind_on, object_large, object_written}
 use Rattle.spa_object_view.proofs.Sides.{IsNext}
 use Rattle.spa_negotiate_objects.specs.Admits.{plain_of}
-use Rattle.spa_keyed_objects.specs.Keys.{AtKey, HoldsAtKeys, contains, key_list, keys_of, offered, offered_at}
+use Rattle.spa_keyed_objects.specs.Keys.{AtKey, HoldsAtKeys, keys_of, offered, offered_at, has_key}
 use Rattle.spa_keyed_objects.proofs.Holding.{HoldsAtKeys-first, HoldsAtKeys-none, HoldsAtKeys-other, HoldsAtKeys-seen}
 use Rattle.spa_negotiate_objects.specs.Meeting.{Agree, CanMeet, IsMetAt}
 use Rattle.spa_negotiate_objects.specs.Refusals.{AreRefused, IsKeyRefusal, IsRefusal}
@@ -20,10 +20,6 @@ use Rattle.spa_negotiate_objects.proofs.Settling.{IsRefusal-first, agree_settled
 use Rattle.spa_negotiate_pods.specs.Fronts.{AreViewsRefused, MeetIn, MeetTooLarge}
 use Rattle.spa_negotiate_pods.specs.Written.{IsMetBehind, IsMetPut, IsPut}
 
-has_contains : (k : ℕ) (ps : Properties) → has_key k ps ≡ contains k (key_list ps)
-has_contains k no_properties = refl
-has_contains k (property j f v ps) = ap (λ y. if j == k then true else y) (has_contains k ps)
-
 -- no property is passed yet
 pub none_passed : (ps qs : Properties) (head : List ℕ) → IsMetBehind ps qs no_properties head head
 none_passed ps qs head = record { met = no_properties; held = behind_none head; settles = HoldsAtKeys-none IsMetAt ps qs }
@@ -32,7 +28,7 @@ none_passed ps qs head = record { met = no_properties; held = behind_none head; 
 pub seen : {ps qs these : Properties} {head out : List ℕ} (k f : ℕ) (v : Tree) → has_key k these ≡ true → IsMetBehind ps qs these head out →
     IsMetBehind ps qs (join_properties these (property k f v no_properties)) head out
 seen {ps} {qs} {these} k f v there m =
-    record { met = m.met; held = m.held; settles = HoldsAtKeys-seen IsMetAt ps qs these m.met m.settles k f v (sym (has_contains k these) ∙ there) }
+    record { met = m.met; held = m.held; settles = HoldsAtKeys-seen IsMetAt ps qs these m.met m.settles k f v there }
 
 -- one of a new key is put
 put : (ps qs these next : Properties) (head old new : List ℕ) (k : ℕ) (x : Tree) → k < 2 ^ 32 → (m : IsMetBehind ps qs these head old) → IsPut k x old new →
@@ -51,11 +47,11 @@ module _ {ps qs : Properties} {b left pod rest head old : List ℕ} {k f bound :
       IsMetBehind ps qs (join_properties n.done (property k f n.value no_properties)) head new
   first_put {new} l p =
       put ps qs n.done (join_properties n.done (property k f n.value no_properties)) head old new k p.value l n.holds p.put
-      (HoldsAtKeys-first IsMetAt ps qs n.done n.holds.met n.holds.settles k f n.value (sym (has_contains k n.done) ∙ fresh) 0 p.value n.behind n.all p.met)
+      (HoldsAtKeys-first IsMetAt ps qs n.done n.holds.met n.holds.settles k f n.value fresh 0 p.value n.behind n.all p.met)
 
   pub first_refused : (e : NegotiateError) → IsKeyRefusal k (Some (offered f n.value)) (offered_at k qs) e → IsRefusal ps qs e
   first_refused e r =
-      IsRefusal-first ps qs n.done n.holds.met n.behind k f n.value n.all n.holds.settles (sym (has_contains k n.done) ∙ fresh) e r
+      IsRefusal-first ps qs n.done n.holds.met n.behind k f n.value n.all n.holds.settles fresh e r
 
 -- and one that the second side alone has
 module _ {ps qs : Properties} {b left pod rest head old : List ℕ} {k f bound : ℕ}
@@ -65,7 +61,7 @@ module _ {ps qs : Properties} {b left pod rest head old : List ℕ} {k f bound :
   other_put {new} l p =
       let before = join_properties ps n.done in
       put ps qs before (join_properties before (property k f n.value no_properties)) head old new k (plain_of n.value) l n.holds p
-      (HoldsAtKeys-other IsMetAt ps qs n.done n.holds.met n.holds.settles k f n.value (sym (has_contains k before) ∙ fresh) 0 (plain_of n.value) n.behind n.all
+      (HoldsAtKeys-other IsMetAt ps qs n.done n.holds.met n.holds.settles k f n.value fresh 0 (plain_of n.value) n.behind n.all
       (refl, p.plain, tt, refl))
 
 -- what two objects of one type are refused for under a key is none of the size of the answer

@@ -1,11 +1,10 @@
 -- Properties put behind one another, as they are written.
-use Rattle.std.proofs.Common.{◌≡◌, ◌≢◌, ℕ, zero, suc, ◌<◌, ◌≤◌, List, ◌∷◌, ◌++◌, ◌==◌, map, length, take, drop, refl, sym, ap, ◌∙◌, subst, arith, append_assoc, true, false, Bool, if◌then◌else◌, Option, Some, None}
+use Rattle.std.proofs.Common.{◌≡◌, ◌≢◌, ℕ, zero, suc, ◌<◌, ◌≤◌, List, ◌∷◌, ◌++◌, ◌==◌, length, take, drop, refl, sym, ap, ◌∙◌, subst, arith, append_assoc, true, if◌then◌else◌, Some, None}
 use Rattle.std.specs.Prelude.{nat_lt, replicate}
-use Rattle.std.proofs.lemmas.List.Elements.{All-cons, All-contains, All-map}
 use Rattle.std.proofs.lemmas.List.{length-take-le, take-append-drop, append-nil}
 use Rattle.spa_format.specs.Words.{word_at, word_bytes, wide_at, wide_bytes, padding}
 use Rattle.spa_format.specs.Kind.{Kind, bool_kind, Fixed, bool, kind_of, content, body_size, type_number}
-use Rattle.spa_format.specs.Tree.{none_choice, range_choice, enum_choice, Tree, fixed, choice, choice_type, type_of, Properties, no_properties, property}
+use Rattle.spa_format.specs.Tree.{Tree, fixed, choice, choice_type, type_of, Properties}
 use Rattle.spa_format.specs.Encoding.{encoding_of}
 use Rattle.spa_format.specs.Pod.{IsPod}
 use Rattle.spa_format.specs.Typed.{IsBytes, IsTyped}
@@ -16,14 +15,15 @@ use Rattle.spa_format.proofs.Unique.{one_value}
 use Rattle.spa_format.proofs.WordLemmas.{IsBytes-take, length-word_bytes, word_at-take}
 use Rattle.spa_scan.proofs.Words.{content_kept, word_there, wide_back, wide_of_take}
 use Rattle.spa_negotiate_objects.specs.Admits.{Admits, IsPlain, plain_of}
-use Rattle.spa_keyed_objects.specs.Keys.{Offered, offered, offered_at}
+use Rattle.spa_keyed_objects.specs.Keys.{offered, offered_at}
 use Rattle.spa_negotiate_objects.specs.Refusals.{IsKeyRefusal, IsValueRefusal}
 use Rattle.spa_negotiate_objects.specs.declared.error.NegotiateError.{NegotiateError}
 use Rattle.spa_negotiate_objects.specs.declared.error.NegotiateError.TheVariants.{Disjoint}
 use Rattle.spa_negotiate_objects.proofs.Agreeing.{IsSupported-plain, met_alone, refused_value}
 use Rattle.spa_negotiate_pods.specs.Offering.{IsOffer, IsShared, value_of}
 use Rattle.spa_bodies.specs.Written.{IsLeaf}
-use Rattle.spa_object_view.specs.Written.{Found, IsFound, IsWritten, found_at}
+use Rattle.spa_object_view.specs.Written.{IsFound}
+use Rattle.spa_keyed_objects.specs.CanonicalPods.{IsCanonicalPod}
 use Rattle.spa_negotiate_pods.specs.Written.{IsCommonEncoded, IsCommonPut, IsMetPut, IsPut}
 use Rattle.spa_negotiate_pods.specs.declared.offer_view.OfferView.{OfferView}
 
@@ -149,30 +149,30 @@ plain_admits : (v x : Tree) → IsPlain v → Admits v x → x ≡ v
 plain_admits (choice s f k d vs) x h a = absurd h
 plain_admits _ x h a = a
 
-written_fixed : (x : Tree) → ((y : Fixed) × (x ≡ fixed y)) → IsTyped x → IsWritable x → IsWritten x (encoding_of x)
+written_fixed : (x : Tree) → ((y : Fixed) × (x ≡ fixed y)) → IsTyped x → IsWritable x → IsCanonicalPod x (encoding_of x)
 written_fixed x f t w =
     let typed = subst IsTyped f.1 t in
     let writable = subst IsWritable f.1 w in
-    subst (λ z. IsWritten z (encoding_of z)) (sym f.1) (record { its_pod = encoding_is_pod (fixed f.0) typed writable; same = refl })
+    subst (λ z. IsCanonicalPod z (encoding_of z)) (sym f.1) (record { its_pod = encoding_is_pod (fixed f.0) typed writable; same = refl })
 
 -- what a value that is written admits is written as its encoding
-written_admitted : (v x : Tree) (pod : List ℕ) → IsWritten v pod → Admits v x → IsTyped x → IsWritable x → IsWritten x (encoding_of x)
+written_admitted : (v x : Tree) (pod : List ℕ) → IsCanonicalPod v pod → Admits v x → IsTyped x → IsWritable x → IsCanonicalPod x (encoding_of x)
 written_admitted (choice s f k d vs) (fixed x) pod i h t w = written_fixed (fixed x) (x, refl) t w
 written_admitted (choice s f k d vs) _ pod i h t w = absurd h
 written_admitted v x pod i h t w =
-    let itself : IsWritten v (encoding_of v) = record { its_pod = subst (λ b. IsPod b v) i.same i.its_pod; same = refl } in
-    subst (λ z. IsWritten z (encoding_of z)) (sym h) itself
+    let itself : IsCanonicalPod v (encoding_of v) = record { its_pod = subst (λ b. IsPod b v) i.same i.its_pod; same = refl } in
+    subst (λ z. IsCanonicalPod z (encoding_of z)) (sym h) itself
 
 pub plain_typed : (v : Tree) → type_of v ≢ choice_type → IsPlain v
 plain_typed (choice s f k d vs) n = absurd (n refl)
 plain_typed _ n = tt
 
-pub put_plain : (v : Tree) (key : ℕ) (pod old new : List ℕ) → IsPlain v → IsWritten v pod →
+pub put_plain : (v : Tree) (key : ℕ) (pod old new : List ℕ) → IsPlain v → IsCanonicalPod v pod →
     new ≡ old ++ ((word_bytes key ++ word_bytes 0) ++ pod) → IsPut key (plain_of v) old new
 put_plain v key pod old new h w p =
     subst (λ x. IsPut key x old new) (sym (plain_itself v h)) (record { plain = h; pod = pod; written = w; parts = p })
 
-pub put_same : (v w : Tree) (key : ℕ) (pod other old new : List ℕ) → IsPlain v → IsPlain w → pod ≡ other → IsWritten v pod → IsWritten w other →
+pub put_same : (v w : Tree) (key : ℕ) (pod other old new : List ℕ) → IsPlain v → IsPlain w → pod ≡ other → IsCanonicalPod v pod → IsCanonicalPod w other →
     new ≡ old ++ ((word_bytes key ++ word_bytes 0) ++ pod) → IsCommonPut v w key old new
 put_same v w key pod other old new h i e first second p =
     let same : v ≡ w = one_value other v w (subst (λ b. IsPod b v) e first.its_pod) second.its_pod in
@@ -185,7 +185,7 @@ put_same v w key pod other old new h i e first second p =
     }
 
 -- two plain values that are written in two ways have none in common
-pub plain_apart : (v w : Tree) (key : ℕ) (pod other : List ℕ) → IsPlain v → IsPlain w → ¬ (pod ≡ other) → IsWritten v pod → IsWritten w other →
+pub plain_apart : (v w : Tree) (key : ℕ) (pod other : List ℕ) → IsPlain v → IsPlain w → ¬ (pod ≡ other) → IsCanonicalPod v pod → IsCanonicalPod w other →
     IsValueRefusal key v w (Disjoint key)
 plain_apart v w key pod other h i n first second = (
   refl,
@@ -208,7 +208,7 @@ pub none_beside : (v w : Tree) → ¬ (IsLeaf v) → IsLeaf w → (x : Tree) →
 none_beside v w h n x a b = h (subst IsLeaf (plain_admits v x (plain_with_members v h) a) (leaf_admits w x n b))
 
 -- a value that two values admit was put, as it is written
-pub put_admitted : (v w : Tree) (key : ℕ) (pod old new : List ℕ) → IsWritten v pod → IsCommonEncoded v w key old new → IsCommonPut v w key old new
+pub put_admitted : (v w : Tree) (key : ℕ) (pod old new : List ℕ) → IsCanonicalPod v pod → IsCommonEncoded v w key old new → IsCommonPut v w key old new
 put_admitted v w key pod old new first c =
     record {
       value = c.value;
@@ -228,34 +228,20 @@ put_shared v w a key value old new o s p =
       put = p s.kind s.its_type (o.its_size ∙ ap body_size same);
     }
 
--- what was found in bytes, by the record of the crate above
-abbrev to_offered : Option Found → Option Offered
-to_offered None = None
-to_offered (Some f) = Some (offered f.flags f.value)
-
-offered_found_by : (k f : ℕ) (v : Tree) (ps : Properties) (b : Bool) → offered_at k ps ≡ to_offered (found_at k ps) →
-    (if b then Some (offered f v) else offered_at k ps) ≡ to_offered (if b then Some (record { flags = f; value = v }) else found_at k ps)
-offered_found_by k f v ps true more = refl
-offered_found_by k f v ps false more = more
-
-offered_found : (k : ℕ) (ps : Properties) → offered_at k ps ≡ to_offered (found_at k ps)
-offered_found k no_properties = refl
-offered_found k (property j f v ps) = offered_found_by k f v ps (j == k) (offered_found k ps)
-
-pub met_found : (v : Tree) (qs : Properties) (key our_flags flags : ℕ) (other old new : List ℕ) → IsFound (found_at key qs) flags other →
-    ((w : Tree) → IsWritten w other → IsCommonPut v w key old new) → IsMetPut (Some (offered our_flags v)) (offered_at key qs) key old new
+pub met_found : (v : Tree) (qs : Properties) (key our_flags flags : ℕ) (other old new : List ℕ) → IsFound (offered_at key qs) flags other →
+    ((w : Tree) → IsCanonicalPod w other → IsCommonPut v w key old new) → IsMetPut (Some (offered our_flags v)) (offered_at key qs) key old new
 met_found v qs key our_flags flags other old new f p =
     let c = p f.value f.written in
     let it : IsMetPut (Some (offered our_flags v)) (Some (offered flags f.value)) key old new =
     record { value = c.value; met = (refl, c.put.plain, (c.supported, (c.value, c.common)), c.common); put = c.put } in
-    subst (λ o. IsMetPut (Some (offered our_flags v)) o key old new) (sym (offered_found key qs ∙ ap to_offered f.is_found)) it
+    subst (λ o. IsMetPut (Some (offered our_flags v)) o key old new) (sym f.is_found) it
 
-pub refused_found : (v : Tree) (qs : Properties) (key our_flags flags : ℕ) (other : List ℕ) (e : NegotiateError) → IsFound (found_at key qs) flags other →
-    ((w : Tree) → IsWritten w other → IsValueRefusal key v w e) → IsKeyRefusal key (Some (offered our_flags v)) (offered_at key qs) e
+pub refused_found : (v : Tree) (qs : Properties) (key our_flags flags : ℕ) (other : List ℕ) (e : NegotiateError) → IsFound (offered_at key qs) flags other →
+    ((w : Tree) → IsCanonicalPod w other → IsValueRefusal key v w e) → IsKeyRefusal key (Some (offered our_flags v)) (offered_at key qs) e
 refused_found v qs key our_flags flags other e f p =
-    refused_value (offered our_flags v) (offered flags f.value) (offered_at key qs) (offered_found key qs ∙ ap to_offered f.is_found) key e (p f.value f.written)
+    refused_value (offered our_flags v) (offered flags f.value) (offered_at key qs) f.is_found key e (p f.value f.written)
 
-pub put_alone : (v : Tree) (qs : Properties) (key our_flags : ℕ) (old new : List ℕ) → found_at key qs ≡ None → IsPut key (plain_of v) old new →
+pub put_alone : (v : Tree) (qs : Properties) (key our_flags : ℕ) (old new : List ℕ) → offered_at key qs ≡ None → IsPut key (plain_of v) old new →
     IsMetPut (Some (offered our_flags v)) (offered_at key qs) key old new
 put_alone v qs key our_flags old new e p =
-    record { value = plain_of v; met = met_alone (offered our_flags v) (offered_at key qs) (plain_of v) (offered_found key qs ∙ ap to_offered e) refl; put = p }
+    record { value = plain_of v; met = met_alone (offered our_flags v) (offered_at key qs) (plain_of v) e refl; put = p }

@@ -6,7 +6,8 @@ use Rattle.spa_format.specs.Words.{word_bytes}
 use Rattle.spa_format.specs.Writable.{IsWritable}
 use Rattle.spa_format.specs.Tree.{Tree, Properties}
 use Rattle.spa_keyed_objects.specs.Keys.{HoldsAtKeys, Offered}
-use Rattle.spa_object_view.specs.Written.{AreBehind, IsWritten}
+use Rattle.spa_object_view.specs.Written.{AreBehind}
+use Rattle.spa_keyed_objects.specs.CanonicalPods.{IsCanonicalPod}
 use Rattle.spa_negotiate_objects.specs.Admits.{AreSupported, IsCommon, IsPlain}
 use Rattle.spa_negotiate_objects.specs.Meeting.{IsMetAt}
 
@@ -14,7 +15,7 @@ use Rattle.spa_negotiate_objects.specs.Meeting.{IsMetAt}
 pub record IsPut (key : ℕ) (value : Tree) (old new : List ℕ) : Type 0 where
   pub plain : IsPlain value
   pub pod : List ℕ
-  pub written : IsWritten value pod
+  pub written : IsCanonicalPod value pod
   pub parts : new ≡ old ++ ((word_bytes key ++ word_bytes 0) ++ pod)
 
 -- the two values are supported, and a property with a plain value that both admit was appended

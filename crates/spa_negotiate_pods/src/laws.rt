@@ -20,7 +20,8 @@ pub fn refused_fronts_cannot_meet()
 
 /// The encoding of the object in which the objects at two fronts meet needs no fixation.
 pub fn meetings_need_no_fixation()
-    ensures { (a b bytes : List ℕ) → BeginBoth a b (MeetIn bytes) → IsTrue (all_settled (property_walk (properties_of bytes))) }
+    ensures { (a b bytes : List ℕ) → BeginBoth a b (MeetIn bytes)
+        → IsTrue (all_settled (property_walk (properties_of bytes))) }
 {
     walks_find_members();
     settled_properties_are_settled();

@@ -110,7 +110,8 @@ fn is_same(size: usize, value: &[u8], other: &[u8]) -> bool
 
 /// Whether the first value is no greater than the second, of a type over which Ranges are supported.
 fn is_at_most(type_: u32, value: &[u8], other: &[u8]) -> bool
-    ensures { result ≡ true → (k : Kind) → type_ ≡ type_number k → IsRangeKind k × IsAtMost (value_of k value.now) (value_of k other.now) }
+    ensures { result ≡ true → (k : Kind) → type_ ≡ type_number k → IsRangeKind k
+        × IsAtMost (value_of k value.now) (value_of k other.now) }
 {
     match SpaTypes(type_) {
         SpaTypes::Id => {
@@ -147,7 +148,8 @@ fn is_at_most(type_: u32, value: &[u8], other: &[u8]) -> bool
 /// Whether the value is among these, by a linear search.
 fn is_among(size: usize, values: &[u8], value: &[u8]) -> bool
     requires { (0 < size) × (size ≤ length value.now) }
-    ensures { result ≡ true → (k : Kind) (ys : List Fixed) → size ≡ body_size k → AreElements k ys values.now → Contains ys (value_of k value.now) }
+    ensures { result ≡ true → (k : Kind) (ys : List Fixed) → size ≡ body_size k → AreElements k ys values.now
+        → Contains ys (value_of k value.now) }
 {
     let mut left = values;
     while left.len() >= size {
@@ -281,7 +283,8 @@ pub(crate) fn first_common<'v>(
     a: &OfferView<'v>,
     b: &OfferView<'v>,
 ) -> Option<&'v [u8]>
-    ensures { IfSome result (λ value. (v w : Tree) → IsOffer v a.now → IsOffer w b.now → IsShared v w a.now.type_ value.now) }
+    ensures { IfSome result (λ value. (v w : Tree) → IsOffer v a.now → IsOffer w b.now
+        → IsShared v w a.now.type_ value.now) }
 {
     if a.type_ != b.type_ || a.size != b.size || a.size == 0 {
         return None;

@@ -4,7 +4,7 @@ ghost use Rattle.spa_format.specs.Kind.{Kind, body_size, type_number};
 ghost use Rattle.spa_format.specs.Pod.{IsPod};
 ghost use Rattle.spa_format.specs.Tree.{Tree, fixed};
 ghost use Rattle.spa_format.specs.Words.{word_bytes};
-ghost use Rattle.spa_object_view.specs.Written.{IsWritten};
+ghost use Rattle.spa_keyed_objects.specs.CanonicalPods.{IsCanonicalPod};
 ghost use Rattle.spa_bodies.specs.Written.{IsLeaf};
 ghost use Rattle.spa_value.specs.View.{view};
 ghost use Rattle.spa_negotiate_objects.specs.Admits.{IsPlain, plain_of};
@@ -32,7 +32,8 @@ const TWO_WORDS: usize = 8;
 
 /// Appends a property with a plain value, or with the default of a choice.
 pub(crate) fn put_default(out: &mut Vec<u8>, key: u32, pod: &[u8]) -> bool
-    ensures { result ≡ true → (v : Tree) → IsWritten v pod.now → IsPut key (plain_of v) out.old.items out.new.items }
+    ensures { result ≡ true → (v : Tree) → IsCanonicalPod v pod.now
+        → IsPut key (plain_of v) out.old.items out.new.items }
 {
     if is_plain(pod) {
         return put(out, key, pod);
@@ -52,8 +53,10 @@ pub(crate) fn put_common(
     pod: &[u8],
     other: &[u8],
 ) -> Result<(), NegotiateError>
-    ensures put { OnOk result ((v w : Tree) → IsWritten v pod.now → IsWritten w other.now → IsCommonPut v w key out.old.items out.new.items) }
-    ensures cause { IfErr result (λ e. (v w : Tree) → IsWritten v pod.now → IsWritten w other.now → IsValueRefusal key v w e) }
+    ensures put { OnOk result ((v w : Tree) → IsCanonicalPod v pod.now → IsCanonicalPod w other.now
+        → IsCommonPut v w key out.old.items out.new.items) }
+    ensures cause { IfErr result (λ e. (v w : Tree) → IsCanonicalPod v pod.now → IsCanonicalPod w other.now
+        → IsValueRefusal key v w e) }
 {
     if is_plain(pod) && is_plain(other) {
         return put_same(out, key, pod, other);
@@ -76,8 +79,10 @@ pub(crate) fn put_common(
 /// Appends a property with the value of two plain pods that are equal.
 fn put_same(out: &mut Vec<u8>, key: u32, pod: &[u8], other: &[u8]) -> Result<(), NegotiateError>
     requires { (v w : Tree) → IsPod pod.now v → IsPod other.now w → IsPlain v × IsPlain w }
-    ensures put { OnOk result ((v w : Tree) → IsWritten v pod.now → IsWritten w other.now → IsCommonPut v w key out.old.items out.new.items) }
-    ensures cause { IfErr result (λ e. (v w : Tree) → IsWritten v pod.now → IsWritten w other.now → IsValueRefusal key v w e) }
+    ensures put { OnOk result ((v w : Tree) → IsCanonicalPod v pod.now → IsCanonicalPod w other.now
+        → IsCommonPut v w key out.old.items out.new.items) }
+    ensures cause { IfErr result (λ e. (v w : Tree) → IsCanonicalPod v pod.now → IsCanonicalPod w other.now
+        → IsValueRefusal key v w e) }
 {
     if !are_same(pod, other) {
         return Err(NegotiateError::Disjoint(key));
@@ -97,8 +102,10 @@ fn put_read(
     pod: &[u8],
     other: &[u8],
 ) -> Result<(), NegotiateError>
-    ensures put { OnOk result ((v w : Tree) → IsWritten v pod.now → IsWritten w other.now → IsCommonPut v w key out.old.items out.new.items) }
-    ensures cause { IfErr result (λ e. (v w : Tree) → IsWritten v pod.now → IsWritten w other.now → IsValueRefusal key v w e) }
+    ensures put { OnOk result ((v w : Tree) → IsCanonicalPod v pod.now → IsCanonicalPod w other.now
+        → IsCommonPut v w key out.old.items out.new.items) }
+    ensures cause { IfErr result (λ e. (v w : Tree) → IsCanonicalPod v pod.now → IsCanonicalPod w other.now
+        → IsValueRefusal key v w e) }
 {
     let first = leaf_at(alloc, pod)?;
     let second = leaf_at(alloc, other)?;
@@ -173,7 +180,8 @@ fn apart(key: u32, leaf: &Value) -> NegotiateError
 
 /// Appends a property with the value of fixed size, of this type and this body length, at the front of the bytes.
 fn put_value(out: &mut Vec<u8>, key: u32, type_: u32, size: usize, value: &[u8]) -> bool
-    ensures { result ≡ true → (k : Kind) → type_ ≡ type_number k → size ≡ body_size k → IsPut key (fixed (value_of k value.now)) out.old.items out.new.items }
+    ensures { result ≡ true → (k : Kind) → type_ ≡ type_number k → size ≡ body_size k
+        → IsPut key (fixed (value_of k value.now)) out.old.items out.new.items }
 {
     if value.len() < size {
         return false;

@@ -4,7 +4,8 @@ ghost use Rattle.spa_format.specs.Tree.{Properties, Tree, join_properties};
 ghost use Rattle.spa_format.specs.Words.{size_limit};
 ghost use Rattle.spa_object_view.specs.Fronts.{BeginBoth, BeginsView};
 ghost use Rattle.spa_object_view.specs.KeyOrder.{IsKeyed};
-ghost use Rattle.spa_object_view.specs.Written.{AreWritten, IsWritten, open_header};
+ghost use Rattle.spa_object_view.specs.Written.{AreWritten, open_header};
+ghost use Rattle.spa_keyed_objects.specs.CanonicalPods.{IsCanonicalPod};
 ghost use Rattle.spa_keyed_objects.specs.Keys.{offered, offered_at};
 ghost use Rattle.spa_negotiate_objects.specs.Meeting.{CanMeet};
 ghost use Rattle.spa_negotiate_objects.specs.Refusals.{IsKeyRefusal, IsRefusal};
@@ -29,9 +30,12 @@ pub(crate) fn meet_objects(
     theirs: &ObjectView<'_>,
 ) -> Result<Vec<u8>, NegotiateError>
     requires { (ours.now.type_ < size_limit) × (ours.now.id < size_limit) }
-    ensures accepted { OnOk result ((a b : List ℕ) → BeginsView a ours.now → BeginsView b theirs.now → BeginBoth a b CanMeet) }
-    ensures value { IfOk result (λ bytes. (a b : List ℕ) → BeginsView a ours.now → BeginsView b theirs.now → BeginBoth a b (MeetIn bytes.items)) }
-    ensures cause { IfErr result (λ e. (a b : List ℕ) → BeginsView a ours.now → BeginsView b theirs.now → AreViewsRefused a b e) }
+    ensures accepted { OnOk result ((a b : List ℕ) → BeginsView a ours.now → BeginsView b theirs.now
+        → BeginBoth a b CanMeet) }
+    ensures value { IfOk result (λ bytes. (a b : List ℕ) → BeginsView a ours.now → BeginsView b theirs.now
+        → BeginBoth a b (MeetIn bytes.items)) }
+    ensures cause { IfErr result (λ e. (a b : List ℕ) → BeginsView a ours.now → BeginsView b theirs.now
+        → AreViewsRefused a b e) }
 {
     if ours.type_ != theirs.type_ {
         return Err(NegotiateError::TypeMismatch);
@@ -72,8 +76,10 @@ fn settle_first(
 ) -> Result<(), NegotiateError>
     requires first { IsKeyed ours.now }
     requires second { IsKeyed theirs.now }
-    ensures settled { OnOk result ((ps qs : Properties) → AreWritten ps ours.now.properties.now → AreWritten qs theirs.now.properties.now → IsMetBehind ps qs ps out.old.items out.new.items) }
-    ensures cause { IfErr result (λ e. (ps qs : Properties) → AreWritten ps ours.now.properties.now → AreWritten qs theirs.now.properties.now → IsRefusal ps qs e) }
+    ensures settled { OnOk result ((ps qs : Properties) → AreWritten ps ours.now.properties.now
+        → AreWritten qs theirs.now.properties.now → IsMetBehind ps qs ps out.old.items out.new.items) }
+    ensures cause { IfErr result (λ e. (ps qs : Properties) → AreWritten ps ours.now.properties.now
+        → AreWritten qs theirs.now.properties.now → IsRefusal ps qs e) }
 {
     let mut left = ours.properties;
     let mut bound = 0;
@@ -91,7 +97,9 @@ fn settle_first(
 fn settle_others(out: &mut Vec<u8>, ours: &Keyed<'_>, theirs: &Keyed<'_>) -> bool
     requires first { IsKeyed ours.now }
     requires second { IsKeyed theirs.now }
-    ensures { result ≡ true → (ps qs : Properties) (head : List ℕ) → AreWritten ps ours.now.properties.now → AreWritten qs theirs.now.properties.now → IsMetBehind ps qs ps head out.old.items → IsMetBehind ps qs (join_properties ps qs) head out.new.items }
+    ensures { result ≡ true → (ps qs : Properties) (head : List ℕ) → AreWritten ps ours.now.properties.now
+        → AreWritten qs theirs.now.properties.now → IsMetBehind ps qs ps head out.old.items
+        → IsMetBehind ps qs (join_properties ps qs) head out.new.items }
 {
     let mut left = theirs.properties;
     let mut bound = 0;
@@ -114,8 +122,13 @@ fn settle(
     theirs: &Keyed<'_>,
 ) -> Result<(), NegotiateError>
     requires { IsKeyed theirs.now }
-    ensures settled { OnOk result ((v : Tree) (qs : Properties) → IsWritten v first.now.pod.now → AreWritten qs theirs.now.properties.now → IsMetPut (Some (offered first.now.flags v)) (offered_at first.now.key qs) first.now.key out.old.items out.new.items) }
-    ensures cause { IfErr result (λ e. (v : Tree) (qs : Properties) → IsWritten v first.now.pod.now → AreWritten qs theirs.now.properties.now → IsKeyRefusal first.now.key (Some (offered first.now.flags v)) (offered_at first.now.key qs) e) }
+    ensures settled { OnOk result ((v : Tree) (qs : Properties) → IsCanonicalPod v first.now.pod.now
+        → AreWritten qs theirs.now.properties.now
+        → IsMetPut (Some (offered first.now.flags v))
+        (offered_at first.now.key qs) first.now.key out.old.items out.new.items) }
+    ensures cause { IfErr result (λ e. (v : Tree) (qs : Properties) → IsCanonicalPod v first.now.pod.now
+        → AreWritten qs theirs.now.properties.now
+        → IsKeyRefusal first.now.key (Some (offered first.now.flags v)) (offered_at first.now.key qs) e) }
 {
     match theirs.find(first.key) {
         Some(other) => put_common(alloc, out, first.key, first.pod, other.pod),

@@ -11,7 +11,8 @@ use Rattle.spa_format.proofs.Back.{whole_frame}
 use Rattle.spa_format.proofs.Encodings.{key_words, property_encoding, whole_properties}
 use Rattle.spa_format.proofs.Sequences.{props_joined}
 use Rattle.spa_format.proofs.WordLemmas.{length-word_bytes, word_inside}
-use Rattle.spa_object_view.specs.Written.{AreBehind, AreWritten, IsWritten, open_header}
+use Rattle.spa_object_view.specs.Written.{AreBehind, AreWritten, open_header}
+use Rattle.spa_keyed_objects.specs.CanonicalPods.{IsCanonicalPod}
 
 pub join_properties-none : (ps : Properties) → join_properties ps no_properties ≡ ps
 join_properties-none no_properties = refl
@@ -36,7 +37,7 @@ written_joined ps qs b c h k = record {
 }
 
 -- one property
-pub written_one : (k f : ℕ) (x : Tree) (pod : List ℕ) → k < 2 ^ 32 → f < 2 ^ 32 → IsWritten x pod → AreWritten (property k f x no_properties) ((word_bytes k ++ word_bytes f) ++ pod)
+pub written_one : (k f : ℕ) (x : Tree) (pod : List ℕ) → k < 2 ^ 32 → f < 2 ^ 32 → IsCanonicalPod x pod → AreWritten (property k f x no_properties) ((word_bytes k ++ word_bytes f) ++ pod)
 written_one k f x pod l m w =
     let head = word_bytes k ++ word_bytes f in
     let b = head ++ pod in
@@ -59,7 +60,7 @@ pub behind_none : (head : List ℕ) → AreBehind no_properties head head
 behind_none head = record { bytes = []; parts = sym (append-nil head); written = record { properties = refl; same = refl } }
 
 -- and one more
-pub behind_on : (k f : ℕ) (x : Tree) (met : Properties) (pod head old new : List ℕ) → k < 2 ^ 32 → f < 2 ^ 32 → IsWritten x pod →
+pub behind_on : (k f : ℕ) (x : Tree) (met : Properties) (pod head old new : List ℕ) → k < 2 ^ 32 → f < 2 ^ 32 → IsCanonicalPod x pod →
     new ≡ old ++ ((word_bytes k ++ word_bytes f) ++ pod) → AreBehind met head old → AreBehind (join_properties met (property k f x no_properties)) head new
 behind_on k f x met pod head old new l m w p h =
     let piece = (word_bytes k ++ word_bytes f) ++ pod in

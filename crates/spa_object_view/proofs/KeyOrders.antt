@@ -11,10 +11,12 @@ use Rattle.std.proofs.lemmas.List.Sorted.{Contains-permutation, IsPermutation-sy
 use Rattle.spa_format.specs.Words.{word_at, extent, header_size, size_limit}
 use Rattle.spa_format.specs.Tree.{Tree, Properties, no_properties, property}
 use Rattle.spa_format.specs.Front.{HasFront, rest_of}
-use Rattle.spa_object_view.specs.Written.{AreWritten, IsFound, IsWritten, HasFirst, found_at}
+use Rattle.spa_object_view.specs.Written.{AreWritten, IsFound, HasFirst}
 use Rattle.spa_object_view.specs.KeyOrder.{HasNoWord, IsFirstFrom, IsLeastWord, IsOrder, length_behind, place_word, place_words}
 use Rattle.spa_object_view.specs.declared.object_view.PropertyView.{PropertyView}
 use Rattle.spa_object_view.proofs.Listed.{AreListed, IsFirst}
+use Rattle.spa_keyed_objects.specs.Keys.{offered_at}
+use Rattle.spa_keyed_objects.specs.CanonicalPods.{IsCanonicalPod}
 
 -- what is behind a property is shorter
 pub rest_short : (b : List ℕ) → header_size ≤ length b → HasFront (drop header_size b) → length (rest_of (drop header_size b)) + 16 ≤ length b
@@ -60,7 +62,7 @@ place_word_of n (property k f v ps) b m w h =
     ]
 
 -- no property has a key that no number has
-pub none_by_words : (n key : ℕ) (ps : Properties) (b : List ℕ) → n < size_limit → HasNoWord key (place_words n ps b) → found_at key ps ≡ None
+pub none_by_words : (n key : ℕ) (ps : Properties) (b : List ℕ) → n < size_limit → HasNoWord key (place_words n ps b) → offered_at key ps ≡ None
 none_by_words n key no_properties b l h = refl
 none_by_words n key (property k f v ps) b l h =
     let r = rest_of (drop header_size b) in
@@ -68,9 +70,9 @@ none_by_words n key (property k f v ps) b l h =
     let rest = none_by_words n key ps r l (λ u c g. h u (contains_later w u (place_words n ps r) c) g) in
     of_key (k == key) refl rest (h w (contains_first w (place_words n ps r)))
   where
-    of_key : (b' : Bool) → (k == key) ≡ b' → found_at key ps ≡ None →
+    of_key : (b' : Bool) → (k == key) ≡ b' → offered_at key ps ≡ None →
         (key * size_limit ≤ place_word k (n - length b) → (key + 1) * size_limit ≤ place_word k (n - length b)) →
-        (if b' then Some (record { flags = f; value = v }) else found_at key ps) ≡ None
+        (if b' then Some (record { flags = f; value = v }) else offered_at key ps) ≡ None
     of_key true e rest g =
         let same : k ≡ key = (unsigned_Decides k key).0 e in
         let far = g (omega arith) in
@@ -81,7 +83,7 @@ none_by_words n key (property k f v ps) b l h =
 pub record IsFirstAt (key : ℕ) (ps : Properties) (b left : List ℕ) : Type 0 where
   pub flags : ℕ
   pub value : Tree
-  pub found : found_at key ps ≡ Some (record { flags = flags; value = value })
+  pub found : offered_at key ps ≡ Some (record { flags = flags; value = value })
   pub first : IsFirst key flags value left
   pub behind : length_behind key ps b ≡ length (rest_of (drop header_size left))
 
@@ -108,7 +110,7 @@ first_by_key n key place k f v ps all b l s d first m h more true e (inl here) =
     record {
       flags = f;
       value = v;
-      found = ap (λ t. if t then Some (record { flags = f; value = v }) else found_at key ps) e;
+      found = ap (λ t. if t then Some (record { flags = f; value = v }) else offered_at key ps) e;
       first = subst (IsFirst key f v) left (subst (λ i. IsFirst i f v b) same first);
       behind = ap (λ t. if t then length (rest_of (drop header_size b)) else length_behind key ps (rest_of (drop header_size b))) e ∙ ap (λ x. length (rest_of (drop header_size x))) left;
     }
@@ -133,7 +135,7 @@ first_by_key n key place k f v ps all b l s d first m h more false e (inr later)
     record {
       flags = i.flags;
       value = i.value;
-      found = ap (λ t. if t then Some (record { flags = f; value = v }) else found_at key ps) e ∙ i.found;
+      found = ap (λ t. if t then Some (record { flags = f; value = v }) else offered_at key ps) e ∙ i.found;
       first = i.first;
       behind = ap (λ t. if t then length r else length_behind key ps r) e ∙ i.behind;
     }
@@ -151,7 +153,7 @@ first_by_words n key place (property k f v ps) all b l s d m h =
     (k == key) refl (contains_cases (place_word k (n - length b)) (place_word key place) (place_words n ps r) h.among)
 
 -- no property has the key, by the index
-pub none_by_order : (key : ℕ) (ps : Properties) (b order : List ℕ) → IsOrder ps b order → HasNoWord key order → found_at key ps ≡ None
+pub none_by_order : (key : ℕ) (ps : Properties) (b order : List ℕ) → IsOrder ps b order → HasNoWord key order → offered_at key ps ≡ None
 none_by_order key ps b order o h =
     none_by_words (length b) key ps b o.short (λ w c g. h w (Contains-permutation _ _ w o.same c) g)
 
@@ -241,13 +243,13 @@ least_word key least at order e f l near =
 -- what the first property at the place is
 pub found_there : (key : ℕ) (ps : Properties) (b left : List ℕ) (r : Option PropertyView) → IsFirstAt key ps b left →
     IfSome r (λ first. HasFirst left first.key first.flags first.pod.now first.rest.now) → IfNone r (header_size ≤ length left → ¬ (HasFront (drop header_size left))) →
-    MatchOption r (found_at key ps ≡ None) (λ first. IsFound (found_at key ps) first.flags first.pod.now)
+    MatchOption r (offered_at key ps ≡ None) (λ first. IsFound (offered_at key ps) first.flags first.pod.now)
 found_there key ps b left (Some first) i h n =
     let flags : i.flags ≡ first.flags = i.first.flags ∙ sym h.its_flags in
     record {
       value = i.value;
       is_found = i.found ∙ ap (λ f. Some (record { flags = f; value = i.value })) flags;
-      written = subst (IsWritten i.value) (sym h.its_pod) i.first.written;
+      written = subst (IsCanonicalPod i.value) (sym h.its_pod) i.first.written;
     }
 found_there key ps b left None i h n = absurd (n i.first.header i.first.there)
 

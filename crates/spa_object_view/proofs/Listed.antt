@@ -11,8 +11,10 @@ use Rattle.spa_format.proofs.Back.{body_fits, type_fits, whole_frame}
 use Rattle.spa_format.proofs.Fronts.{front_of_whole}
 use Rattle.spa_format.proofs.Origin.{writable}
 use Rattle.spa_format.proofs.WordLemmas.{IsBytes-drop, IsBytes-take, length-word_bytes}
-use Rattle.spa_object_view.specs.Written.{AreWritten, IsWritten, HasFirst, Found, found_at, has_key, IsFound}
+use Rattle.spa_object_view.specs.Written.{AreWritten, HasFirst, IsFound}
 use Rattle.spa_object_view.specs.KeyOrder.{length_behind}
+use Rattle.spa_keyed_objects.specs.Keys.{Offered, offered_at, has_key}
+use Rattle.spa_keyed_objects.specs.CanonicalPods.{IsCanonicalPod}
 use Rattle.std.specs.Cmp.{unsigned_Decides}
 
 -- the first of some properties
@@ -21,7 +23,7 @@ pub record IsFirst (k f : ℕ) (v : Tree) (b : List ℕ) : Type 0 where
   pub key : k ≡ word_at b 0
   pub flags : f ≡ word_at b 4
   pub there : HasFront (drop header_size b)
-  pub written : IsWritten v (front_of (drop header_size b))
+  pub written : IsCanonicalPod v (front_of (drop header_size b))
 
 -- each property with what is behind it
 abbrev pub AreListed : Properties → List ℕ → Type 0
@@ -55,16 +57,16 @@ test-true : (m n : ℕ) → (m == n) ≡ true → m ≡ n
 test-true m n = (unsigned_Decides m n).0
 
 other_key_by : (j key f : ℕ) (v : Tree) (ps : Properties) (b : Bool) → (j == key) ≡ b → j ≢ key →
-    (if b then Some (record { flags = f; value = v }) else found_at key ps) ≡ found_at key ps
+    (if b then Some (record { flags = f; value = v }) else offered_at key ps) ≡ offered_at key ps
 other_key_by j key f v ps true e n = absurd (n (test-true j key e))
 other_key_by j key f v ps false e n = refl
 
 -- what is under another key than the first one
-other_key : (j key f : ℕ) (v : Tree) (ps : Properties) → j ≢ key → found_at key (property j f v ps) ≡ found_at key ps
+other_key : (j key f : ℕ) (v : Tree) (ps : Properties) → j ≢ key → offered_at key (property j f v ps) ≡ offered_at key ps
 other_key j key f v ps n = other_key_by j key f v ps (j == key) refl n
 
-first_key : (key f : ℕ) (v : Tree) (ps : Properties) → found_at key (property key f v ps) ≡ Some (record { flags = f; value = v })
-first_key key f v ps = ap (λ b. if b then Some (record { flags = f; value = v }) else found_at key ps) ((unsigned_Decides key key).1 refl)
+first_key : (key f : ℕ) (v : Tree) (ps : Properties) → offered_at key (property key f v ps) ≡ Some (record { flags = f; value = v })
+first_key key f v ps = ap (λ b. if b then Some (record { flags = f; value = v }) else offered_at key ps) ((unsigned_Decides key key).1 refl)
 
 other_behind_by : (j key : ℕ) (ps : Properties) (b : List ℕ) (t : Bool) → (j == key) ≡ t → j ≢ key →
     (if t then length (rest_of (drop header_size b)) else length_behind key ps (rest_of (drop header_size b))) ≡ length_behind key ps (rest_of (drop header_size b))
@@ -83,7 +85,7 @@ first_behind_here key f v ps b =
 pub record IsLeft (key : ℕ) (ps : Properties) (all left : List ℕ) : Type 0 where
   pub rest : Properties
   pub list : AreListed rest left
-  pub same : found_at key ps ≡ found_at key rest
+  pub same : offered_at key ps ≡ offered_at key rest
   pub behind : length_behind key ps all ≡ length_behind key rest left
 
 abbrev pub AreSearched : ℕ → List ℕ → List ℕ → Type 0
@@ -95,7 +97,7 @@ search_begun key b h = λ ps w. record { rest = ps; list = listed ps b h w.prope
 pub search_on : (key : ℕ) (all left pod rest : List ℕ) (k g : ℕ) → HasFirst left k g pod rest → k ≢ key → AreSearched key all left → AreSearched key all rest
 search_on key all left pod rest k g f n s = λ ps w. let i = s ps w in of_left ps i.rest i.list i.same i.behind
   where
-    of_left : (ps rs : Properties) → AreListed rs left → found_at key ps ≡ found_at key rs → length_behind key ps all ≡ length_behind key rs left → IsLeft key ps all rest
+    of_left : (ps rs : Properties) → AreListed rs left → offered_at key ps ≡ offered_at key rs → length_behind key ps all ≡ length_behind key rs left → IsLeft key ps all rest
     of_left ps no_properties l e b = absurd (let z = ap length l in let h = f.header in omega arith)
     of_left ps (property j h v rs) l e b =
         let other : j ≢ key = λ same. n (f.its_key ∙ sym l.0.key ∙ same) in
@@ -106,18 +108,18 @@ search_on key all left pod rest k g f n s = λ ps w. let i = s ps w in of_left p
           behind = b ∙ other_behind j key h v rs left other ∙ ap (length_behind key rs) (sym f.its_rest);
         }
 
-pub found_first : (key : ℕ) (all left pod rest : List ℕ) (k g : ℕ) → HasFirst left k g pod rest → k ≡ key → AreSearched key all left → (ps : Properties) → AreWritten ps all → IsFound (found_at key ps) g pod
+pub found_first : (key : ℕ) (all left pod rest : List ℕ) (k g : ℕ) → HasFirst left k g pod rest → k ≡ key → AreSearched key all left → (ps : Properties) → AreWritten ps all → IsFound (offered_at key ps) g pod
 found_first key all left pod rest k g f same s ps w = let i = s ps w in of_left i.rest i.list i.same
   where
-    of_left : (rs : Properties) → AreListed rs left → found_at key ps ≡ found_at key rs → IsFound (found_at key ps) g pod
+    of_left : (rs : Properties) → AreListed rs left → offered_at key ps ≡ offered_at key rs → IsFound (offered_at key ps) g pod
     of_left no_properties l e = absurd (let z = ap length l in let h = f.header in omega arith)
     of_left (property j h v rs) l e =
         let here : j ≡ key = l.0.key ∙ sym f.its_key ∙ same in
         let flags : h ≡ g = l.0.flags ∙ sym f.its_flags in
         record {
           value = v;
-          is_found = e ∙ ap (λ i. found_at key (property i h v rs)) here ∙ first_key key h v rs ∙ ap (λ n. Some (record { flags = n; value = v })) flags;
-          written = subst (IsWritten v) (sym f.its_pod) l.0.written;
+          is_found = e ∙ ap (λ i. offered_at key (property i h v rs)) here ∙ first_key key h v rs ∙ ap (λ n. Some (record { flags = n; value = v })) flags;
+          written = subst (IsCanonicalPod v) (sym f.its_pod) l.0.written;
         }
 
 -- what stands behind it
@@ -130,28 +132,28 @@ first_behind key all left pod rest k g f same s ps w = let i = s ps w in of_left
         let here : j ≡ key = l.0.key ∙ sym f.its_key ∙ same in
         ap length f.its_rest ∙ sym (b ∙ ap (λ i. length_behind key (property i h v rs) left) here ∙ first_behind_here key h v rs left)
 
-pub found_none : (key : ℕ) (all left : List ℕ) → (header_size ≤ length left → ¬ (HasFront (drop header_size left))) → AreSearched key all left → (ps : Properties) → AreWritten ps all → found_at key ps ≡ None
+pub found_none : (key : ℕ) (all left : List ℕ) → (header_size ≤ length left → ¬ (HasFront (drop header_size left))) → AreSearched key all left → (ps : Properties) → AreWritten ps all → offered_at key ps ≡ None
 found_none key all left n s ps w = let i = s ps w in of_left i.rest i.list i.same
   where
-    of_left : (rs : Properties) → AreListed rs left → found_at key ps ≡ found_at key rs → found_at key ps ≡ None
+    of_left : (rs : Properties) → AreListed rs left → offered_at key ps ≡ offered_at key rs → offered_at key ps ≡ None
     of_left no_properties l e = e
     of_left (property j h v rs) l e = absurd (n l.0.header l.0.there)
 
 -- whether there is a key, by what was found
-absent_by : (key f : ℕ) (v : Tree) (ps : Properties) (b : Bool) → (found_at key ps ≡ None → has_key key ps ≡ false) →
-    (if b then Some (record { flags = f; value = v }) else found_at key ps) ≡ None → (if b then true else has_key key ps) ≡ false
+absent_by : (key f : ℕ) (v : Tree) (ps : Properties) (b : Bool) → (offered_at key ps ≡ None → has_key key ps ≡ false) →
+    (if b then Some (record { flags = f; value = v }) else offered_at key ps) ≡ None → (if b then true else has_key key ps) ≡ false
 absent_by key f v ps true more e = cc
 absent_by key f v ps false more e = more e
 
-pub has_key-none : (key : ℕ) (ps : Properties) → found_at key ps ≡ None → has_key key ps ≡ false
+pub has_key-none : (key : ℕ) (ps : Properties) → offered_at key ps ≡ None → has_key key ps ≡ false
 has_key-none key no_properties e = refl
 has_key-none key (property j f v ps) e = absent_by key f v ps (j == key) (has_key-none key ps) e
 
-there_by : (key f : ℕ) (v : Tree) (w : Found) (ps : Properties) (b : Bool) → (found_at key ps ≡ Some w → has_key key ps ≡ true) →
-    (if b then Some (record { flags = f; value = v }) else found_at key ps) ≡ Some w → (if b then true else has_key key ps) ≡ true
+there_by : (key f : ℕ) (v : Tree) (w : Offered) (ps : Properties) (b : Bool) → (offered_at key ps ≡ Some w → has_key key ps ≡ true) →
+    (if b then Some (record { flags = f; value = v }) else offered_at key ps) ≡ Some w → (if b then true else has_key key ps) ≡ true
 there_by key f v w ps true more e = refl
 there_by key f v w ps false more e = more e
 
-pub has_key-some : (key : ℕ) (w : Found) (ps : Properties) → found_at key ps ≡ Some w → has_key key ps ≡ true
+pub has_key-some : (key : ℕ) (w : Offered) (ps : Properties) → offered_at key ps ≡ Some w → has_key key ps ≡ true
 has_key-some key w no_properties e = cc
 has_key-some key w (property j f v ps) e = there_by key f v w ps (j == key) (has_key-some key w ps) e

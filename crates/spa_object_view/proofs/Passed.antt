@@ -5,10 +5,11 @@ use Rattle.spa_format.specs.Words.{header_size}
 use Rattle.spa_format.specs.Tree.{Tree, Properties, no_properties, property, join_properties}
 use Rattle.spa_format.specs.Front.{rest_of}
 use Rattle.spa_format.specs.Typed.{IsBytes}
-use Rattle.spa_object_view.specs.Written.{AreWritten, HasFirst, found_at, has_key}
+use Rattle.spa_object_view.specs.Written.{AreWritten, HasFirst}
 use Rattle.spa_object_view.specs.KeyOrder.{AreBelow, ArePassed, bytes_behind, length_behind}
 use Rattle.spa_object_view.proofs.Listed.{AreListed, listed, has_key-none}
 use Rattle.spa_object_view.proofs.KeyOrders.{rest_short}
+use Rattle.spa_keyed_objects.specs.Keys.{offered_at, has_key}
 
 -- a key among properties and others behind them
 pub has_key-join : (k : ℕ) (ps qs : Properties) → has_key k (join_properties ps qs) ≡ (if has_key k ps then true else has_key k qs)
@@ -111,7 +112,7 @@ new_first key f n ps done b left pod rest h w p i e =
 
 -- a property of the list has a key that is found
 pub found_left : (key f : ℕ) (ps done : Properties) (b left pod rest : List ℕ) → IsBytes b → AreWritten ps b → ArePassed ps done b left → HasFirst left key f pod rest →
-    ¬ (found_at key ps ≡ None)
+    ¬ (offered_at key ps ≡ None)
 found_left key f ps done b left pod rest h w p i e =
     let list = subst (λ qs. AreListed qs b) p.all (listed ps b h w.properties w.same) in
     of_rest p.rest (subst (AreListed p.rest) (sym p.left_is) (left_listed done p.rest b list)) (ap (has_key key) (sym p.all) ∙ has_key-none key ps e)

@@ -4,11 +4,12 @@ use Rattle.spa_format.specs.Words.{header_size}
 use Rattle.spa_format.specs.Tree.{Tree, Properties, no_properties, property, join_properties}
 use Rattle.spa_format.specs.Front.{HasFront, rest_of}
 use Rattle.spa_format.specs.Typed.{IsBytes}
-use Rattle.spa_object_view.specs.Written.{AreWritten, HasFirst, IsWritten}
+use Rattle.spa_object_view.specs.Written.{AreWritten, HasFirst}
 use Rattle.spa_object_view.specs.KeyOrder.{AreBelow, ArePassed}
 use Rattle.spa_object_view.proofs.Joined.{join_properties-assoc, join_properties-none}
 use Rattle.spa_object_view.proofs.Listed.{AreListed, listed}
 use Rattle.spa_object_view.proofs.Passed.{below_on, passed_on}
+use Rattle.spa_keyed_objects.specs.CanonicalPods.{IsCanonicalPod}
 
 -- some properties of a side were passed, and these bytes of it are left; the fact holds of the passed ones, behind those before the side
 pub record IsSideLeft (before ps : Properties) (b left : List ℕ) (bound : ℕ) (Holds : Properties → Type 0) : Type 0 where
@@ -24,7 +25,7 @@ pub record IsNext (before ps : Properties) (b left pod rest : List ℕ) (key fla
   pub value : Tree
   pub behind : Properties
   pub all : ps ≡ join_properties done (property key flags value behind)
-  pub written : IsWritten value pod
+  pub written : IsCanonicalPod value pod
   pub passed : ArePassed ps done b left
   pub below : AreBelow bound done
   pub its_rest : rest ≡ rest_of (drop header_size left)
@@ -56,7 +57,7 @@ side_next {before} {ps} {b} {left} {pod} {rest} {key} {flags} {bound} {Holds} f 
           value = v;
           behind = rs;
           all = e ∙ ap (λ n. join_properties i.done (property n g v rs)) its_key ∙ ap (λ n. join_properties i.done (property key n v rs)) its_flags;
-          written = subst (IsWritten v) (sym f.its_pod) m.0.written;
+          written = subst (IsCanonicalPod v) (sym f.its_pod) m.0.written;
           passed = i.passed;
           below = i.below;
           its_rest = f.its_rest;

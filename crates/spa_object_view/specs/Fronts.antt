@@ -3,12 +3,13 @@ use Rattle.std.specs.Prelude.{⊤, ℕ, List}
 use Rattle.spa_format.specs.Tree.{Tree, object, Properties}
 use Rattle.spa_format.specs.Front.{Begins, IsRefused}
 use Rattle.spa_bodies.specs.Reading.{MayLackMemory}
-use Rattle.spa_object_view.specs.Written.{BeginsWritten, IsWritten}
+use Rattle.spa_object_view.specs.Written.{BeginsWritten}
 use Rattle.spa_object_view.specs.declared.object_view.ObjectView.{ObjectView}
 use Rattle.spa_object_view.specs.declared.front.ObjectPod.{ObjectPod}
-use Rattle.spa_object_view.specs.declared.front.ObjectPod.TheVariants.{Lying, Rewritten}
+use Rattle.spa_object_view.specs.declared.front.ObjectPod.TheVariants.{Borrowed, Rewritten}
 use Rattle.spa_object_view.specs.declared.front.NoObject.{NoObject}
 use Rattle.spa_object_view.specs.declared.front.NoObject.TheVariants.{Unread, Other, OutOfMemory}
+use Rattle.spa_keyed_objects.specs.CanonicalPods.{IsCanonicalPod}
 
 -- the front of the input is a pod of an object, and this is that object's canonical pod
 pub record BeginsObjectIn (input pod : List ℕ) : Type 0 where
@@ -16,7 +17,7 @@ pub record BeginsObjectIn (input pod : List ℕ) : Type 0 where
   pub id : ℕ
   pub values : Properties
   pub begins : Begins input (object type id values)
-  pub written : IsWritten (object type id values) pod
+  pub written : IsCanonicalPod (object type id values) pod
 
 -- the front of the input is a pod of the object of this view
 abbrev pub BeginsView : List ℕ → ObjectView → Type 0
@@ -24,7 +25,7 @@ BeginsView input view = BeginsWritten input view.type_ view.id view.properties.n
 
 -- the bytes of the pod
 abbrev pub bytes_of : ObjectPod → List ℕ
-bytes_of (Lying pod) = pod.now
+bytes_of (Borrowed pod) = pod.now
 bytes_of (Rewritten bytes) = bytes.items
 
 -- the value is an object

@@ -6,9 +6,10 @@ use Rattle.spa_format.specs.Words.{header_size, size_limit}
 use Rattle.spa_format.specs.Tree.{Properties, no_properties, property, join_properties}
 use Rattle.spa_format.specs.Front.{rest_of}
 use Rattle.spa_format.specs.Typed.{IsBytes}
-use Rattle.spa_object_view.specs.Written.{AreWritten, HasFirst, has_key}
+use Rattle.spa_object_view.specs.Written.{AreWritten, HasFirst}
 use Rattle.spa_object_view.specs.declared.keyed.Keyed.{Keyed}
 use Rattle.spa_object_view.specs.declared.object_view.PropertyView.{PropertyView}
+use Rattle.spa_keyed_objects.specs.Keys.{has_key}
 
 -- a key and the offset of its property as one number
 abbrev pub place_word : ℕ → ℕ → ℕ
@@ -25,10 +26,12 @@ pub record IsOrder (ps : Properties) (b order : List ℕ) : Type 0 where
   pub short : length b < size_limit
   pub same : IsPermutation (place_words (length b) ps b) order
 
+-- the index, where there is one, has the numbers of these properties
 abbrev pub MayBeOrder : Properties → List ℕ → Option (Vec ℕ Global) → Type 0
 MayBeOrder ps b None = ⊤
 MayBeOrder ps b (Some order) = IsOrder ps b order.items
 
+-- the index, where there is one, is ascending
 abbrev pub MayAscend : Option (Vec ℕ Global) → Type 0
 MayAscend None = ⊤
 MayAscend (Some order) = IsNonDecreasingBy (λ x. x) order.items

@@ -1,20 +1,17 @@
 -- Objects and their properties in canonical bytes.
-use Rattle.std.specs.Prelude.{◌≡◌, ℕ, ◌≤◌, List, ◌++◌, drop, length, Bool, true, false, ◌==◌, if◌then◌else◌, Option, Some, None}
+use Rattle.std.specs.Prelude.{◌≡◌, ℕ, ◌≤◌, List, ◌++◌, drop, length, Option, Some}
 use Rattle.spa_format.specs.Words.{word_at, word_bytes, header_size}
-use Rattle.spa_format.specs.Tree.{Tree, object, Properties, no_properties, property}
-use Rattle.spa_format.specs.Pod.{AreProperties, IsPod}
-use Rattle.spa_format.specs.Encoding.{encoding_of, property_encodings}
+use Rattle.spa_format.specs.Tree.{Tree, object, Properties, property}
+use Rattle.spa_format.specs.Pod.{AreProperties}
+use Rattle.spa_format.specs.Encoding.{property_encodings}
 use Rattle.spa_format.specs.Front.{Begins, HasFront, front_of, rest_of}
+use Rattle.spa_keyed_objects.specs.CanonicalPods.{IsCanonicalPod}
+use Rattle.spa_keyed_objects.specs.Keys.{Offered, offered}
 
 -- the bytes are these properties, and canonical
 pub record AreWritten (ps : Properties) (b : List ℕ) : Type 0 where
   pub properties : AreProperties ps b
   pub same : b ≡ property_encodings ps
-
--- the canonical pod of this value
-pub record IsWritten (v : Tree) (pod : List ℕ) : Type 0 where
-  pub its_pod : IsPod pod v
-  pub same : pod ≡ encoding_of v
 
 -- the front of the input is a pod of an object of this type and id, whose properties have these canonical bytes
 pub record BeginsWritten (input : List ℕ) (type id : ℕ) (properties : List ℕ) : Type 0 where
@@ -31,27 +28,11 @@ pub record HasFirst (b : List ℕ) (key flags : ℕ) (pod rest : List ℕ) : Typ
   pub its_pod : pod ≡ front_of (drop header_size b)
   pub its_rest : rest ≡ rest_of (drop header_size b)
 
--- the flags and the value of a property
-pub record Found : Type 0 where
-  pub flags : ℕ
-  pub value : Tree
-
--- the flags and the value of the first property with this key; None where no property has it
-abbrev pub found_at : ℕ → Properties → Option Found
-found_at key no_properties = None
-found_at key (property k flags value rest) =
-    if k == key then Some (record { flags = flags; value = value }) else found_at key rest
-
--- whether a property has this key
-abbrev pub has_key : ℕ → Properties → Bool
-has_key key no_properties = false
-has_key key (property k flags value rest) = if k == key then true else has_key key rest
-
 -- the property that was found has these flags, and this is the canonical pod of its value
-pub record IsFound (found : Option Found) (flags : ℕ) (pod : List ℕ) : Type 0 where
+pub record IsFound (found : Option Offered) (flags : ℕ) (pod : List ℕ) : Type 0 where
   pub value : Tree
-  pub is_found : found ≡ Some (record { flags = flags; value = value })
-  pub written : IsWritten value pod
+  pub is_found : found ≡ Some (offered flags value)
+  pub written : IsCanonicalPod value pod
 
 -- the first bytes of an open object: its header with a size word of 0, its type and its id
 abbrev pub open_header : ℕ → ℕ → List ℕ

@@ -1,4 +1,4 @@
-//! The pods of objects at the fronts of inputs, as they are written.
+//! The canonical pods of objects at the fronts of inputs.
 ghost use Rattle.std.specs.Prelude.{◌≡◌, ◌≢◌, ◌<◌, IfErr, IfNone, IfOk, IfSome, List, ℕ};
 ghost use Rattle.spa_format.specs.Tree.{object_type};
 ghost use Rattle.spa_format.specs.Words.{size_limit, word_at};
@@ -14,12 +14,12 @@ use spa_rewrite::{Rejected, canonical_front, look_at_pod, rewrite};
 use spa_utils::SpaTypes;
 use std::alloc::Global;
 
-/// The pod of an object at the front of an input, as it is written.
+/// The canonical pod of the object at the front of an input.
 #[derive(Drop)]
 pub enum ObjectPod<'a> {
-    /// The front is canonical, and lies here.
-    Lying(&'a [u8]),
-    /// It isn't, or nests too deep to be looked into: this is its rewriting.
+    /// The front itself, which is canonical.
+    Borrowed(&'a [u8]),
+    /// The rewriting of the front, which isn't canonical or nests too deep to be looked into.
     Rewritten(Vec<u8>),
 }
 
@@ -29,7 +29,7 @@ impl ObjectPod<'_> {
         ensures { result.now ≡ bytes_of self.now }
     {
         match self {
-            ObjectPod::Lying(pod) => pod,
+            ObjectPod::Borrowed(pod) => pod,
             ObjectPod::Rewritten(bytes) => bytes.as_slice(),
         }
     }
@@ -46,8 +46,8 @@ pub enum NoObject {
     OutOfMemory,
 }
 
-/// The pod of the object at the front of the input, as it is written. Memory is asked for only where the front isn't canonical,
-/// or structs and objects stand more than 1000 deep in one another.
+/// The canonical pod of the object at the front of the input. Memory is asked for only where the front isn't canonical, or structs and objects
+/// nest more than 1000 deep.
 pub fn object_pod(alloc: Global, input: &[u8]) -> Result<ObjectPod<'_>, NoObject>
     ensures object { IfOk result (λ pod. BeginsObjectIn input.now (bytes_of pod)) }
     ensures cause { IfErr result (IsNoObject input.now) }
@@ -60,7 +60,7 @@ pub fn object_pod(alloc: Global, input: &[u8]) -> Result<ObjectPod<'_>, NoObject
     }
     if let Some(rest) = canonical_front(input) {
         let (pod, _) = input.split_at(input.len() - rest.len());
-        return Ok(ObjectPod::Lying(pod));
+        return Ok(ObjectPod::Borrowed(pod));
     }
     let bytes = rewritten(alloc, input)?;
     Ok(ObjectPod::Rewritten(bytes))
@@ -79,8 +79,8 @@ fn rewritten(alloc: Global, input: &[u8]) -> Result<Vec<u8>, NoObject>
     }
 }
 
-/// What a front of another type than an object's is. Memory is asked for only where structs stand more than 1000 deep in one another, not counting
-/// those that end where the one around them does.
+/// Why a front of another type than an object's is refused. Memory is asked for only where structs nest more than 1000 deep, not counting those in
+/// tail position.
 #[inline(never)]
 fn no_object(alloc: Global, input: &[u8]) -> NoObject
     requires { word_at input.now 4 ≢ object_type }
@@ -109,7 +109,8 @@ fn deep_no_object(alloc: Global, input: &[u8]) -> NoObject
 
 /// The object of a pod.
 pub fn object_in(pod: &[u8]) -> Option<ObjectView<'_>>
-    ensures object { IfSome result (λ object. (input : List ℕ) → BeginsObjectIn input pod.now → BeginsView input object) }
+    ensures object { IfSome result (λ object. (input : List ℕ) → BeginsObjectIn input pod.now
+        → BeginsView input object) }
     ensures words { IfSome result (λ object. (object.type_ < size_limit) × (object.id < size_limit)) }
     ensures none { IfNone result ((input : List ℕ) → ¬ (BeginsObjectIn input pod.now)) }
 {

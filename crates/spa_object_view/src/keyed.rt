@@ -1,10 +1,11 @@
 //! Finds properties by their keys, in a zero-copy view.
-ghost use Rattle.std.specs.Prelude.{◌≡◌, ◌≤◌, ◌<◌, IfOk, IfSome, List, MatchOption, None, length, not, true, ℕ};
+ghost use Rattle.std.specs.Prelude.{◌≡◌, ◌≤◌, ◌<◌, IfOk, IfSome, MatchOption, None, length, not, true};
 ghost use Rattle.std.specs.List.Sorted.{IsNonDecreasingBy};
 ghost use Rattle.spa_format.specs.Tree.{Properties};
 ghost use Rattle.spa_format.specs.Words.{size_limit};
 ghost use Rattle.spa_object_view.specs.KeyOrder.{HasNoWord, IsFirstFrom, IsKeyed, IsLeastWord, IsOrder, SaysFirst, SaysNew, SaysNewBeside, length_behind, place_words};
-ghost use Rattle.spa_object_view.specs.Written.{AreWritten, HasFirst, IsFound, found_at, has_key};
+ghost use Rattle.spa_object_view.specs.Written.{AreWritten, IsFound};
+ghost use Rattle.spa_keyed_objects.specs.Keys.{offered_at, has_key};
 
 use crate::object_view::{PropertyView, find, first_property};
 use std::alloc::{AllocError, Global};
@@ -51,8 +52,11 @@ impl<'a> Keyed<'a> {
     #[inline(always)]
     pub fn find(&self, key: u32) -> Option<PropertyView<'a>>
         requires { IsKeyed self.now }
-        ensures found { (ps : Properties) → AreWritten ps self.now.properties.now → MatchOption result (found_at key ps ≡ None) (λ first. IsFound (found_at key ps) first.flags first.pod.now) }
-        ensures behind { IfSome result (λ first. (ps : Properties) → AreWritten ps self.now.properties.now → length first.rest.now ≡ length_behind key ps self.now.properties.now) }
+        ensures found { (ps : Properties) → AreWritten ps self.now.properties.now
+            → MatchOption result (offered_at key ps ≡ None)
+            (λ first. IsFound (offered_at key ps) first.flags first.pod.now) }
+        ensures behind { IfSome result (λ first. (ps : Properties) → AreWritten ps self.now.properties.now
+            → length first.rest.now ≡ length_behind key ps self.now.properties.now) }
         ensures words { IfSome result (λ first. (first.key < size_limit) × (first.flags < size_limit)) }
     {
         match &self.order {
@@ -135,7 +139,8 @@ fn are_few(properties: &[u8]) -> bool {
 /// Key and offset of each property as one number, in the order of the properties. Refused only for want of memory.
 fn places_of(alloc: Global, properties: &[u8]) -> Result<Vec<u64>, AllocError>
     requires { length properties.now < size_limit }
-    ensures { IfOk result (λ places. (ps : Properties) → AreWritten ps properties.now → places.items ≡ place_words (length properties.now) ps properties.now) }
+    ensures { IfOk result (λ places. (ps : Properties) → AreWritten ps properties.now
+        → places.items ≡ place_words (length properties.now) ps properties.now) }
 {
     let mut places = Vec::new(alloc);
     let mut left = properties;
@@ -151,7 +156,8 @@ fn places_of(alloc: Global, properties: &[u8]) -> Result<Vec<u64>, AllocError>
 #[inline(never)]
 fn order_of(alloc: Global, properties: &[u8]) -> Result<Vec<u64>, AllocError>
     requires { length properties.now < size_limit }
-    ensures order { IfOk result (λ order. (ps : Properties) → AreWritten ps properties.now → IsOrder ps properties.now order.items) }
+    ensures order { IfOk result (λ order. (ps : Properties) → AreWritten ps properties.now
+        → IsOrder ps properties.now order.items) }
     ensures ascending { IfOk result (λ order. IsNonDecreasingBy (λ x. x) order.items) }
 {
     let mut order = places_of(alloc, properties)?;
@@ -164,8 +170,11 @@ fn order_of(alloc: Global, properties: &[u8]) -> Result<Vec<u64>, AllocError>
 fn find_by<'a>(order: &[u64], properties: &'a [u8], key: u32) -> Option<PropertyView<'a>>
     requires order { (ps : Properties) → AreWritten ps properties.now → IsOrder ps properties.now order.now }
     requires ascending { IsNonDecreasingBy (λ x. x) order.now }
-    ensures found { (ps : Properties) → AreWritten ps properties.now → MatchOption result (found_at key ps ≡ None) (λ first. IsFound (found_at key ps) first.flags first.pod.now) }
-    ensures behind { IfSome result (λ first. (ps : Properties) → AreWritten ps properties.now → length first.rest.now ≡ length_behind key ps properties.now) }
+    ensures found { (ps : Properties) → AreWritten ps properties.now
+        → MatchOption result (offered_at key ps ≡ None)
+        (λ first. IsFound (offered_at key ps) first.flags first.pod.now) }
+    ensures behind { IfSome result (λ first. (ps : Properties) → AreWritten ps properties.now
+        → length first.rest.now ≡ length_behind key ps properties.now) }
     ensures words { IfSome result (λ first. (first.key < size_limit) × (first.flags < size_limit)) }
 {
     let Some(place) = place_by(order, key) else {

@@ -4,7 +4,8 @@ ghost use Rattle.spa_format.specs.Front.{HasFront};
 ghost use Rattle.spa_format.specs.Tree.{Properties};
 ghost use Rattle.spa_format.specs.Words.{header_size, size_limit};
 ghost use Rattle.spa_object_view.specs.KeyOrder.{length_behind};
-ghost use Rattle.spa_object_view.specs.Written.{AreWritten, HasFirst, IsFound, found_at};
+ghost use Rattle.spa_object_view.specs.Written.{AreWritten, HasFirst, IsFound};
+ghost use Rattle.spa_keyed_objects.specs.Keys.{offered_at};
 
 use spa_bytes::{HEADER_LEN, SECOND_WORD, extent_of, u32_at};
 
@@ -35,10 +36,12 @@ pub struct PropertyView<'a> {
 /// The property at the front of the bytes. None: there is no whole one.
 #[inline(always)]
 pub fn first_property(properties: &[u8]) -> Option<PropertyView<'_>>
-    ensures first { IfSome result (λ first. HasFirst properties.now first.key first.flags first.pod.now first.rest.now) }
+    ensures first { IfSome result
+        (λ first. HasFirst properties.now first.key first.flags first.pod.now first.rest.now) }
     ensures words { IfSome result (λ first. (first.key < size_limit) × (first.flags < size_limit)) }
     ensures shorter { IfSome result (λ first. length first.rest.now + 16 ≤ length properties.now) }
-    ensures none { IfNone result (header_size ≤ length properties.now → ¬ (HasFront (drop header_size properties.now))) }
+    ensures none { IfNone result (header_size ≤ length properties.now
+        → ¬ (HasFront (drop header_size properties.now))) }
 {
     if properties.len() < HEADER_LEN {
         return None;
@@ -63,8 +66,11 @@ pub fn first_property(properties: &[u8]) -> Option<PropertyView<'_>>
 /// The first property with this key, by a linear search. None: no property has it.
 #[inline(always)]
 pub fn find(properties: &[u8], key: u32) -> Option<PropertyView<'_>>
-    ensures found { (ps : Properties) → AreWritten ps properties.now → MatchOption result (found_at key ps ≡ None) (λ first. IsFound (found_at key ps) first.flags first.pod.now) }
-    ensures behind { IfSome result (λ first. (ps : Properties) → AreWritten ps properties.now → length first.rest.now ≡ length_behind key ps properties.now) }
+    ensures found { (ps : Properties) → AreWritten ps properties.now
+        → MatchOption result (offered_at key ps ≡ None)
+        (λ first. IsFound (offered_at key ps) first.flags first.pod.now) }
+    ensures behind { IfSome result (λ first. (ps : Properties) → AreWritten ps properties.now
+        → length first.rest.now ≡ length_behind key ps properties.now) }
     ensures words { IfSome result (λ first. (first.key < size_limit) × (first.flags < size_limit)) }
 {
     let mut left = properties;

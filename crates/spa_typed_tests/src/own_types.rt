@@ -68,7 +68,7 @@ impl PodSerialize for Counted {
     }
 }
 
-/// The same in an object, with its key and flags.
+/// An object of one property, whose key and flags the writer counts with its value: 24 bytes.
 struct CountedProperty;
 
 impl PodSerialize for CountedProperty {

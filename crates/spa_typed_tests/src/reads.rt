@@ -77,7 +77,7 @@ fn a_mode_comes_back(rt: HostRuntime) -> Result<(), Fail> {
 const QUIET: &str =
     "104 15 262146 2 65537 7 4 3 2 0 65539 0 4 6 1036831949 0 65540 0 4 2 1 0 65539 0 4 6 1063675494 0";
 
-/// The same properties with a volume of 1.
+/// `QUIET` with a volume of 1.
 const LOUD: &str =
     "104 15 262146 2 65537 7 4 3 2 0 65539 0 4 6 1065353216 0 65540 0 4 2 1 0 65539 0 4 6 1063675494 0";
 

@@ -66,7 +66,7 @@ impl PodSerialize for Refused {
     }
 }
 
-/// The same of an object.
+/// An object whose writer refuses a text, and then any call.
 struct RefusedProperty;
 
 impl PodSerialize for RefusedProperty {

@@ -195,7 +195,7 @@ mod by_value {
     use spa_value::{Object, object, property};
     use std::alloc::Global;
 
-    /// The same format as a value.
+    /// The video format as a value.
     pub fn format_object(alloc: Global) -> Result<Object, Errno> {
         object!(
             in alloc;

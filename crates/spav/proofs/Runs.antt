@@ -13,12 +13,12 @@ use Rattle.spa_builder.specs.State.{State, start}
 use Rattle.spa_builder.specs.Step as builder
 use Rattle.spa_builder.specs.Step.{Outcome, Accepts, Inval, Nospc, add, step}
 use Rattle.spa_builder.proofs.Bodies.{elements_of_bodies}
-use Rattle.spa_builder.specs.Held.{Held, IsAt}
+use Rattle.spa_builder.specs.Fields.{BuilderFields, IsAt}
 use Rattle.spa_builder.specs.Answers.{Makes}
 use Rattle.spa_builder.specs.Replay.{IsAnswered}
 use Rattle.spa_utils.specs.declared.errno.Errno.{Errno}
 use Rattle.spa_utils.specs.declared.errno.TheConstants.Errno.{NOMEM, INVAL, NOSPC}
-use Rattle.spav.specs.Building.{StopsAt, adds, array_in, elements_in, outcome_in, outcome_of, part_of, said_by, spelled_from, text_of}
+use Rattle.spav.specs.Building.{StopsAt, adds, array_in, elements_in, outcome_in, outcome_of, part_of, said_by, state_from, text_of}
 use Rattle.spav.specs.declared.building.Call.{Call}
 
 added_text : (p : Option (List ℕ)) → (elim (option_map string p) as (λ _. Option builder.Call) [ Some v ↦ Some (add v) | None ↦ None ]) ≡
@@ -27,7 +27,7 @@ added_text None = refl
 added_text (Some t) = refl
 
 -- what a call of a text says, by the part of the texts
-pub text_made : {A : Type 0} (texts : List ℕ) (c : Call) (s : State) (p : Option (List ℕ)) (old new : Held) (r : Result A Errno) →
+pub text_made : {A : Type 0} (texts : List ℕ) (c : Call) (s : State) (p : Option (List ℕ)) (old new : BuilderFields) (r : Result A Errno) →
     part_of texts c.bits c.second ≡ p → Makes (outcome_of s (option_map (λ t. add (string t)) (text_of p))) old new r →
     Makes (outcome_of s (said_by s string_type texts c)) old new r
 text_made texts c s p old new r e m =
@@ -35,7 +35,7 @@ text_made texts c s p old new r e m =
     (subst (λ q. Makes (outcome_of s (option_map (λ t. add (string t)) (text_of q))) old new r) (sym e) m)
 
 -- no part of the texts, no array
-pub no_part_made : {A : Type 0} (k : Kind) (texts : List ℕ) (c : Call) (s : State) (len : ℕ) (old new : Held) (r : Result A Errno) → len ≡ c.second * body_size k →
+pub no_part_made : {A : Type 0} (k : Kind) (texts : List ℕ) (c : Call) (s : State) (len : ℕ) (old new : BuilderFields) (r : Result A Errno) → len ≡ c.second * body_size k →
     part_of texts c.bits len ≡ None → Makes Inval old new r → Makes (outcome_of s (adds (array_in k texts c) None)) old new r
 no_part_made k texts c s len old new r e p m =
     let same = ap (part_of texts c.bits) (sym e) ∙ p in
@@ -55,7 +55,7 @@ small_product fraction_kind n l = omega arith
 small_product fd_kind n l = omega arith
 
 -- the array of a part of the texts
-pub part_made : {A : Type 0} (k : Kind) (texts : List ℕ) (c : Call) (s : State) (len : ℕ) (b : List ℕ) (old new : Held) (r : Result A Errno) → len ≡ c.second * body_size k →
+pub part_made : {A : Type 0} (k : Kind) (texts : List ℕ) (c : Call) (s : State) (len : ℕ) (b : List ℕ) (old new : BuilderFields) (r : Result A Errno) → len ≡ c.second * body_size k →
     part_of texts c.bits len ≡ Some b → ((xs : List Fixed) → AreElements k xs b → Makes (step s (add (array k xs))) old new r) →
     Makes (outcome_of s (adds (array_in k texts c) None)) old new r
 part_made k texts c s len b old new r e p f =
@@ -92,31 +92,31 @@ pub no_text : (t : List ℕ) → ¬ (IsUtf8 t) → is_utf8 t ≡ false
 no_text t n = decide (is_utf8 t) (λ e. n (IsUtf8-from_is_utf8 t e))
 
 -- a text is added where it is UTF-8, and refused where it isn't
-pub tested_made : {A : Type 0} (t : List ℕ) (b : Bool) (s : State) (old new : Held) (r : Result A Errno) → is_utf8 t ≡ b →
+pub tested_made : {A : Type 0} (t : List ℕ) (b : Bool) (s : State) (old new : BuilderFields) (r : Result A Errno) → is_utf8 t ≡ b →
     Makes (outcome_of s (option_map (λ u. add (string u)) (if b then Some t else None))) old new r →
     Makes (outcome_of s (option_map (λ u. add (string u)) (text_of (Some t)))) old new r
 tested_made t b s old new r e m =
     subst (λ d. Makes (outcome_of s (option_map (λ u. add (string u)) (if d then Some t else None))) old new r) (sym e) m
 
 -- what is accepted, and why what is refused is
-pub accepts : {A : Type 0} (o : Outcome) (old new : Held) (x : A) → Makes o old new (Ok x) → (t : State) × (o ≡ Accepts t) × IsAt new t
+pub accepts : {A : Type 0} (o : Outcome) (old new : BuilderFields) (x : A) → Makes o old new (Ok x) → (t : State) × (o ≡ Accepts t) × IsAt new t
 accepts (Accepts t) old new x m = (t, refl, m)
 accepts Inval old new x m = absurd m
 accepts Nospc old new x m = absurd m
 
-pub refuses : (A : Type 0) (o : Outcome) (old new : Held) (e : Errno) → Makes {A = A} o old new (Err e) → IsAnswered o (Err e)
+pub refuses : (A : Type 0) (o : Outcome) (old new : BuilderFields) (e : Errno) → Makes {A = A} o old new (Err e) → IsAnswered o (Err e)
 refuses A (Accepts t) old new e m = m.0
 refuses A Inval old new e m = m.0
 refuses A Nospc old new e m = m.0
 
 goes_on : (texts : List ℕ) (cs : List Call) (o : Outcome) (t : State) → o ≡ Accepts t →
-    (elim o as (λ _. Option State) [ Accepts u ↦ spelled_from texts u cs | Inval ↦ None | Nospc ↦ None ]) ≡ spelled_from texts t cs
-goes_on texts cs o t e = ap (λ p. elim p as (λ _. Option State) [ Accepts u ↦ spelled_from texts u cs | Inval ↦ None | Nospc ↦ None ]) e
+    (elim o as (λ _. Option State) [ Accepts u ↦ state_from texts u cs | Inval ↦ None | Nospc ↦ None ]) ≡ state_from texts t cs
+goes_on texts cs o t e = ap (λ p. elim p as (λ _. Option State) [ Accepts u ↦ state_from texts u cs | Inval ↦ None | Nospc ↦ None ]) e
 
 more_from : (texts : List ℕ) (o : Outcome) (cs : List Call) (c : Call) (s t : State)
-    (more : (u : State) → spelled_from texts u cs ≡ Some s → spelled_from texts u (cs ++ c ∷ []) ≡ Some t) →
-    (elim o as (λ _. Option State) [ Accepts u ↦ spelled_from texts u cs | Inval ↦ None | Nospc ↦ None ]) ≡ Some s →
-    (elim o as (λ _. Option State) [ Accepts u ↦ spelled_from texts u (cs ++ c ∷ []) | Inval ↦ None | Nospc ↦ None ]) ≡ Some t
+    (more : (u : State) → state_from texts u cs ≡ Some s → state_from texts u (cs ++ c ∷ []) ≡ Some t) →
+    (elim o as (λ _. Option State) [ Accepts u ↦ state_from texts u cs | Inval ↦ None | Nospc ↦ None ]) ≡ Some s →
+    (elim o as (λ _. Option State) [ Accepts u ↦ state_from texts u (cs ++ c ∷ []) | Inval ↦ None | Nospc ↦ None ]) ≡ Some t
 more_from texts (Accepts u) cs c s t more e = more u e
 more_from texts Inval cs c s t more e = absurd (cc)
 more_from texts Nospc cs c s t more e = absurd (cc)
@@ -125,8 +125,8 @@ same_state : {A : Type 0} (x y : A) → Some x ≡ Some y → x ≡ y
 same_state x y e = cc
 
 -- one call more is accepted
-pub one_more : (texts : List ℕ) (u : State) (cs : List Call) (c : Call) (s t : State) → spelled_from texts u cs ≡ Some s →
-    outcome_in texts s c ≡ Accepts t → spelled_from texts u (cs ++ c ∷ []) ≡ Some t
+pub one_more : (texts : List ℕ) (u : State) (cs : List Call) (c : Call) (s t : State) → state_from texts u cs ≡ Some s →
+    outcome_in texts s c ≡ Accepts t → state_from texts u (cs ++ c ∷ []) ≡ Some t
 one_more texts u [] c s t e a = goes_on texts [] (outcome_in texts u c) t (ap (λ v. outcome_in texts v c) (same_state u s e) ∙ a)
 one_more texts u (d ∷ cs) c s t e a = more_from texts (outcome_in texts u d) cs c s t (λ v f. one_more texts v cs c s t f a) e
 
@@ -162,18 +162,18 @@ stops_as texts calls at P Q f h = record {
 }
 
 -- the next call of a list is accepted
-pub goes_further : {A : Type 0} (texts : List ℕ) (calls : List Call) (at : ℕ) (d : Call) (old new : Held) (x : A) → at < length calls →
-    (s : State) × (spelled_from texts start (take at calls) ≡ Some s) × IsAt old s →
+pub goes_further : {A : Type 0} (texts : List ℕ) (calls : List Call) (at : ℕ) (d : Call) (old new : BuilderFields) (x : A) → at < length calls →
+    (s : State) × (state_from texts start (take at calls) ≡ Some s) × IsAt old s →
     ((s : State) → IsAt old s → Makes (outcome_in texts s (get_or calls at d)) old new (Ok x)) →
-    (s : State) × (spelled_from texts start (take (at + 1) calls) ≡ Some s) × IsAt new s
+    (s : State) × (state_from texts start (take (at + 1) calls) ≡ Some s) × IsAt new s
 goes_further texts calls at d old new x l h m =
     let c = get_or calls at d in
     let a = accepts (outcome_in texts h.0 c) old new x (m h.0 h.2) in
-    (a.0, ap (spelled_from texts start) (take_more calls at d l) ∙ one_more texts start (take at calls) c h.0 a.0 h.1 a.1, a.2)
+    (a.0, ap (state_from texts start) (take_more calls at d l) ∙ one_more texts start (take at calls) c h.0 a.0 h.1 a.1, a.2)
 
 -- the next call of a list isn't accepted
-pub stops_here : (A : Type 0) (texts : List ℕ) (calls : List Call) (at : ℕ) (d : Call) (old new : Held) (e : Errno) → at < length calls →
-    (s : State) × (spelled_from texts start (take at calls) ≡ Some s) × IsAt old s →
+pub stops_here : (A : Type 0) (texts : List ℕ) (calls : List Call) (at : ℕ) (d : Call) (old new : BuilderFields) (e : Errno) → at < length calls →
+    (s : State) × (state_from texts start (take at calls) ≡ Some s) × IsAt old s →
     ((s : State) → IsAt old s → Makes {A = A} (outcome_in texts s (get_or calls at d)) old new (Err e)) →
     StopsAt texts calls at (λ o. IsAnswered o (Err e))
 stops_here A texts calls at d old new e l h m = record {
@@ -185,10 +185,10 @@ stops_here A texts calls at d old new e l h m = record {
 }
 
 -- all calls of a list are accepted
-pub ends : (texts : List ℕ) (calls : List Call) (at : ℕ) (now : Held) → length calls ≤ at →
-    (s : State) × (spelled_from texts start (take at calls) ≡ Some s) × IsAt now s →
-    (s : State) × (spelled_from texts start calls ≡ Some s) × IsAt now s
-ends texts calls at now l h = (h.0, ap (spelled_from texts start) (sym (take_all at calls l)) ∙ h.1, h.2)
+pub ends : (texts : List ℕ) (calls : List Call) (at : ℕ) (now : BuilderFields) → length calls ≤ at →
+    (s : State) × (state_from texts start (take at calls) ≡ Some s) × IsAt now s →
+    (s : State) × (state_from texts start calls ≡ Some s) × IsAt now s
+ends texts calls at now l h = (h.0, ap (state_from texts start) (sym (take_all at calls l)) ∙ h.1, h.2)
 
 -- why a list stopped, by the error
 pub stopped_invalid : (texts : List ℕ) (calls : List Call) (at : ℕ) (e : Errno) → StopsAt texts calls at (λ o. IsAnswered o (Err e)) → e ≡ INVAL →

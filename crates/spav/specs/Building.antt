@@ -12,13 +12,15 @@ use Rattle.spa_builder.specs.Step as builder
 use Rattle.spa_builder.specs.Step.{Outcome, Accepts, Inval, Nospc, add, add_prop, pop, push_array, push_choice, push_object, push_struct, step}
 use Rattle.spav.specs.declared.building.Call.{Call}
 
--- the numbers of the calls that aren't type numbers
+-- the number of a call that adds a key; those of calls that add a value or open a container are the numbers of its type
 abbrev pub key_number : ℕ
 key_number = 256
 
+-- the number of a call that closes a container
 abbrev pub pop_number : ℕ
 pop_number = 257
 
+-- the number of a call that adds a whole array
 abbrev pub array_number : ℕ
 array_number = 258
 
@@ -101,25 +103,26 @@ abbrev pub outcome_of : State → Option builder.Call → Outcome
 outcome_of s None = Inval
 outcome_of s (Some call) = step s call
 
+-- the outcome of a call over these texts
 abbrev pub outcome_in : List ℕ → State → Call → Outcome
 outcome_in texts s c = outcome_of s (said_by s c.what texts c)
 
 -- the state after these calls; None where one isn't accepted
-abbrev pub spelled_from : List ℕ → State → List Call → Option State
-spelled_from texts s [] = Some s
-spelled_from texts s (c ∷ cs) = elim (outcome_in texts s c) as (λ _. Option State) [ Accepts t ↦ spelled_from texts t cs | Inval ↦ None | Nospc ↦ None ]
+abbrev pub state_from : List ℕ → State → List Call → Option State
+state_from texts s [] = Some s
+state_from texts s (c ∷ cs) = elim (outcome_in texts s c) as (λ _. Option State) [ Accepts t ↦ state_from texts t cs | Inval ↦ None | Nospc ↦ None ]
 
 -- each call is accepted, no pod is open at the end, and these bytes are the encodings of the trees
 pub record Builds (texts : List ℕ) (calls : List Call) (bytes : List ℕ) : Type 0 where
   pub state : State
-  pub spelled : spelled_from texts start calls ≡ Some state
+  pub spelled : state_from texts start calls ≡ Some state
   pub all_closed : state.opened ≡ []
   pub encodings : bytes ≡ member_encodings state.closed
 
 -- the calls before the one at the index `at` are accepted, and the outcome of that one is such
 pub record StopsAt (texts : List ℕ) (calls : List Call) (at : ℕ) (IsOutcome : Outcome → Type 0) : Type 0 where
   pub state : State
-  pub before : spelled_from texts start (take at calls) ≡ Some state
+  pub before : state_from texts start (take at calls) ≡ Some state
   pub call : Call
   pub here : take (at + 1) calls ≡ take at calls ++ call ∷ []
   pub comes : IsOutcome (outcome_in texts state call)
@@ -127,6 +130,6 @@ pub record StopsAt (texts : List ℕ) (calls : List Call) (at : ℕ) (IsOutcome 
 -- each call is accepted, and a pod is still open after the last
 pub record LeavesOpen (texts : List ℕ) (calls : List Call) (at : ℕ) : Type 0 where
   pub state : State
-  pub spelled : spelled_from texts start calls ≡ Some state
+  pub spelled : state_from texts start calls ≡ Some state
   pub left : state.opened ≢ []
   pub last : at ≡ length calls

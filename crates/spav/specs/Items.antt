@@ -50,6 +50,7 @@ pub record HasNoValue (key : ℕ) (input : List ℕ) : Type 0 where
   pub object : BeginsObject input
   pub none : bytes_before_key key input ≡ None
 
+-- a struct is at the front
 pub record BeginsStruct (input : List ℕ) : Type 0 where
   pub front : HasFront input
   pub struct : IsStructPod (front_of input)
@@ -94,9 +95,11 @@ pub record AreOfChoice (pod : List ℕ) (e : Elements) : Type 0 where
   pub headed : AreHeaded (choice_values (body_of pod)) e
   pub begins : e.at ≡ header_size + header_size + header_size
 
+-- these are the elements of the array, or the values of the choice, that is the pod
 abbrev pub HasElements : List ℕ → Elements → Type 0
 HasElements pod e = AreOfArray pod e ⊎ AreOfChoice pod e
 
+-- the pod is neither an array nor a choice
 abbrev pub HasNoElements : List ℕ → Type 0
 HasNoElements pod = (¬ (IsArrayPod pod)) × (¬ (IsChoicePod pod))
 

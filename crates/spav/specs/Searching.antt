@@ -30,6 +30,7 @@ abbrev pub Enters : Bool → List ℕ → List ℕ → ℕ → Type 0
 Enters true b pods before = (word_at b 4 ≡ object_type) × (header_size ≤ length (body_of b)) × (pods ≡ drop header_size (body_of b)) × (before ≡ header_size + header_size)
 Enters false b pods before = (word_at b 4 ≡ struct_type) × (pods ≡ body_of b) × (before ≡ header_size)
 
+-- a struct or an object is at the front of the bytes, and `inside` has its members or properties
 pub record IsEntered (b : List ℕ) (inside : Inside) : Type 0 where
   pub there : HasFront b
   pub enters : Enters inside.keyed b inside.pods.now inside.before

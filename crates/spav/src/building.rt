@@ -2,13 +2,13 @@
 ghost use Rattle.std.specs.Prelude.{◌≡◌, ◌≢◌, ◌<◌, ◌⊎◌, Err, IfErr, IfNone, IfOk, IfSome, List, None, Option, Some, length, ℕ};
 ghost use Rattle.spa_format.specs.Tree.{bytes_type, string_type};
 ghost use Rattle.spa_builder.specs.Answers.{Makes};
-ghost use Rattle.spa_builder.specs.Held.{IsAt};
+ghost use Rattle.spa_builder.specs.Fields.{IsAt};
 ghost use Rattle.spa_builder.specs.Replay.{IsAnswered};
 ghost use Rattle.spa_builder.specs.State.{State, start};
 ghost use Rattle.spa_builder.specs.Step.{Accepts, Inval, Nospc, pop, step};
 ghost use Rattle.spa_utils.specs.declared.errno.TheConstants.Errno.{INVAL, NOSPC};
 ghost use Rattle.spav.specs.Answers.{IsBuilt, IsDone, IsInvalid, IsNoMemory, IsNoRoom, IsPast, IsStopped};
-ghost use Rattle.spav.specs.Building.{Builds, LeavesOpen, StopsAt, adds, array_in, array_number, begun_by, frame_of, outcome_in, outcome_of, part_of, said_by, spelled_from};
+ghost use Rattle.spav.specs.Building.{Builds, LeavesOpen, StopsAt, adds, array_in, array_number, begun_by, frame_of, outcome_in, outcome_of, part_of, said_by, state_from};
 ghost use Rattle.spav.specs.Lists.{IsWritten};
 
 use crate::answers::{INVALID, NO_MEMORY, PAST};
@@ -64,12 +64,16 @@ pub extern "C" fn spav_build(
     written: &mut usize,
     at: &mut usize,
 ) -> i32
-    ensures done { IsDone result → (bytes : List ℕ) × Builds texts.now calls.now bytes × IsWritten bytes written.new out.old out.new }
-    ensures room { IsNoRoom result → (bytes : List ℕ) × Builds texts.now calls.now bytes × (written.new ≡ length bytes) × (length out.old < length bytes) }
-    ensures refused { IsInvalid result → StopsAt texts.now calls.now at.new (λ o. o ≡ Inval) ⊎ LeavesOpen texts.now calls.now at.new }
+    ensures done { IsDone result → (bytes : List ℕ) × Builds texts.now calls.now bytes
+        × IsWritten bytes written.new out.old out.new }
+    ensures room { IsNoRoom result → (bytes : List ℕ) × Builds texts.now calls.now bytes
+        × (written.new ≡ length bytes) × (length out.old < length bytes) }
+    ensures refused { IsInvalid result → StopsAt texts.now calls.now at.new (λ o. o ≡ Inval)
+        ⊎ LeavesOpen texts.now calls.now at.new }
     ensures past { IsPast result → StopsAt texts.now calls.now at.new (λ o. o ≡ Nospc) }
     // Memory runs out only at a call that would otherwise be accepted.
-    ensures memory { IsNoMemory result → (place : ℕ) × StopsAt texts.now calls.now place (λ o. (s : State) × (o ≡ Accepts s)) }
+    ensures memory { IsNoMemory result → (place : ℕ)
+        × StopsAt texts.now calls.now place (λ o. (s : State) × (o ≡ Accepts s)) }
     ensures answers { IsBuilt result }
     ensures unchanged { ¬ (IsDone result) → out.new ≡ out.old }
 {
@@ -106,7 +110,8 @@ fn answer_of(cause: Errno) -> i32
 /// Makes the calls. Refused at the first that isn't accepted, with its index and the cause.
 fn run(builder: &mut Builder, texts: &[u8], calls: &[Call]) -> Result<(), (usize, Errno)>
     requires { IsAt builder.old start }
-    ensures all { IfOk result (λ _. (s : State) × (spelled_from texts.now start calls.now ≡ Some s) × IsAt builder.new s) }
+    ensures all { IfOk result (λ _. (s : State) × (state_from texts.now start calls.now ≡ Some s)
+        × IsAt builder.new s) }
     ensures stops { IfErr result (λ r. StopsAt texts.now calls.now r.0 (λ o. IsAnswered o (Err r.1))) }
 {
     let mut at = 0;
@@ -121,7 +126,8 @@ fn run(builder: &mut Builder, texts: &[u8], calls: &[Call]) -> Result<(), (usize
 
 /// Makes one call.
 fn make(builder: &mut Builder, texts: &[u8], call: &Call) -> Result<(), Errno>
-    ensures { (s : State) → IsAt builder.old s → Makes (outcome_in texts.now s call.now) builder.old builder.new result }
+    ensures { (s : State) → IsAt builder.old s
+        → Makes (outcome_in texts.now s call.now) builder.old builder.new result }
 {
     match SpaTypes(call.what) {
         SpaTypes::None => builder.add_none(),
@@ -150,7 +156,8 @@ fn make(builder: &mut Builder, texts: &[u8], call: &Call) -> Result<(), Errno>
 
 /// Makes a call that opens or closes a pod, or gives a key.
 fn begin_or_close_pod(builder: &mut Builder, call: &Call) -> Result<(), Errno>
-    ensures { (s : State) → IsAt builder.old s → Makes (outcome_of s (begun_by s call.now.what call.now)) builder.old builder.new result }
+    ensures { (s : State) → IsAt builder.old s
+        → Makes (outcome_of s (begun_by s call.now.what call.now)) builder.old builder.new result }
 {
     match SpaTypes(call.what) {
         SpaTypes::Array => {
@@ -174,7 +181,8 @@ fn begin_or_close_pod(builder: &mut Builder, call: &Call) -> Result<(), Errno>
 
 /// Closes the innermost open pod, which has to be the call's frame, unless that is 0.
 fn close_pod(builder: &mut Builder, call: &Call) -> Result<(), Errno>
-    ensures { (s : State) → IsAt builder.old s → Makes (step s (pop (frame_of s call.now))) builder.old builder.new result }
+    ensures { (s : State) → IsAt builder.old s
+        → Makes (step s (pop (frame_of s call.now))) builder.old builder.new result }
 {
     let frame = if call.bits == 0 {
         builder.open_frames()
@@ -197,7 +205,8 @@ fn part(texts: &[u8], from: usize, len: usize) -> Option<&[u8]>
 
 /// Adds the bytes whose offset and length in the texts a call gives.
 fn add_part(builder: &mut Builder, texts: &[u8], call: &Call) -> Result<(), Errno>
-    ensures { (s : State) → IsAt builder.old s → Makes (outcome_of s (said_by s bytes_type texts.now call.now)) builder.old builder.new result }
+    ensures { (s : State) → IsAt builder.old s
+        → Makes (outcome_of s (said_by s bytes_type texts.now call.now)) builder.old builder.new result }
 {
     match part(texts, call.bits as usize, call.second as usize) {
         Some(bytes) => builder.add_bytes(bytes),
@@ -207,7 +216,8 @@ fn add_part(builder: &mut Builder, texts: &[u8], call: &Call) -> Result<(), Errn
 
 /// Adds the array whose element type, offset in the texts and number of elements a call gives.
 fn add_array(builder: &mut Builder, texts: &[u8], call: &Call) -> Result<(), Errno>
-    ensures { (s : State) → IsAt builder.old s → Makes (outcome_of s (said_by s array_number texts.now call.now)) builder.old builder.new result }
+    ensures { (s : State) → IsAt builder.old s
+        → Makes (outcome_of s (said_by s array_number texts.now call.now)) builder.old builder.new result }
 {
     match SpaTypes(call.first) {
         SpaTypes::None => add_array_of::<()>(builder, texts, call),
@@ -230,7 +240,8 @@ fn add_array_of<T: CanonicalFixedSizedPod>(
     texts: &[u8],
     call: &Call,
 ) -> Result<(), Errno>
-    ensures { (s : State) → IsAt builder.old s → Makes (outcome_of s (adds (array_in T.kind texts.now call.now) None)) builder.old builder.new result }
+    ensures { (s : State) → IsAt builder.old s
+        → Makes (outcome_of s (adds (array_in T.kind texts.now call.now) None)) builder.old builder.new result }
 {
     let len = (call.second as usize).saturating_mul(T::SIZE);
     match part(texts, call.bits as usize, len) {
@@ -241,7 +252,8 @@ fn add_array_of<T: CanonicalFixedSizedPod>(
 
 /// Adds the text whose offset and length in the texts a call gives.
 fn add_text(builder: &mut Builder, texts: &[u8], call: &Call) -> Result<(), Errno>
-    ensures { (s : State) → IsAt builder.old s → Makes (outcome_of s (said_by s string_type texts.now call.now)) builder.old builder.new result }
+    ensures { (s : State) → IsAt builder.old s
+        → Makes (outcome_of s (said_by s string_type texts.now call.now)) builder.old builder.new result }
 {
     let Some(bytes) = part(texts, call.bits as usize, call.second as usize) else {
         return Err(Errno::INVAL);

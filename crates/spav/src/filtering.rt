@@ -18,7 +18,7 @@ use std::alloc::Global;
 /// both admit, and may still have choices. The bytes behind the two fronts don't count.
 ///
 /// 0: `written` is the length of the outcome in bytes, and `out` is unchanged behind it. -ENOSPC: that length, `written`, is more than `out` has.
-/// -EINVAL: no object is at the front of the first input, where `told` is 0, or of the second, where it is 1. On a mismatch `told` is the first
+/// -EINVAL: no object is at the front of the first input, where `key_or_side` is 0, or of the second, where it is 1. On a mismatch `key_or_side` is the first
 /// conflicting key: -EPROTO, the objects are of two types, and there is no key; -ENOENT, one has the key as MANDATORY, and the other lacks it;
 /// -ENOTSUP, the key has a choice for which no common value is sought; -ENODATA, no value is admitted by both. -EOVERFLOW: the outcome is too large
 /// for a pod. -ENOMEM: memory was asked for and refused. Where the answer isn't 0, `out` is unchanged.
@@ -29,17 +29,20 @@ pub extern "C" fn spav_filter(
     b: &[u8],
     out: &mut [u8],
     written: &mut usize,
-    told: &mut u32,
+    key_or_side: &mut u32,
 ) -> i32
-    ensures done { IsDone result → (bytes : List ℕ) × BeginBoth a.now b.now (FilterIn bytes) × IsWritten bytes written.new out.old out.new }
-    ensures room { IsNoRoom result → (bytes : List ℕ) × BeginBoth a.now b.now (FilterIn bytes) × (written.new ≡ length bytes) × (length out.old < length bytes) }
+    ensures done { IsDone result → (bytes : List ℕ) × BeginBoth a.now b.now (FilterIn bytes)
+        × IsWritten bytes written.new out.old out.new }
+    ensures room { IsNoRoom result → (bytes : List ℕ) × BeginBoth a.now b.now (FilterIn bytes)
+        × (written.new ≡ length bytes) × (length out.old < length bytes) }
     // Memory and too large outcomes aside, the two can't be filtered exactly where one of these is answered, and the answer is right.
     ensures apart { IsUnfiltered result → ¬ (BeginBoth a.now b.now CanFilter) }
-    ensures front { IsInvalid result → HasNoObject a.now b.now told.new }
+    ensures front { IsInvalid result → HasNoObject a.now b.now key_or_side.new }
     ensures types { IsOther result → BeginBoth a.now b.now (λ v w. AreRefused v w TypeMismatch) }
-    ensures missing { IsMissing result → BeginBoth a.now b.now (λ v w. AreRefused v w (Missing told.new)) }
-    ensures unsupported { IsUnsupported result → BeginBoth a.now b.now (λ v w. AreRefused v w (Unsupported told.new)) }
-    ensures disjoint { IsDisjoint result → BeginBoth a.now b.now (λ v w. AreRefused v w (Disjoint told.new)) }
+    ensures missing { IsMissing result → BeginBoth a.now b.now (λ v w. AreRefused v w (Missing key_or_side.new)) }
+    ensures unsupported { IsUnsupported result
+        → BeginBoth a.now b.now (λ v w. AreRefused v w (Unsupported key_or_side.new)) }
+    ensures disjoint { IsDisjoint result → BeginBoth a.now b.now (λ v w. AreRefused v w (Disjoint key_or_side.new)) }
     ensures past { IsPast result → BeginBoth a.now b.now FilterTooLarge }
     ensures memory { IsNoMemory result → AreFrontsRefused a.now b.now OutOfMemory }
     ensures answers { IsFiltered result }
@@ -49,23 +52,23 @@ pub extern "C" fn spav_filter(
         Ok(met) => put_front(met.as_slice(), out, written),
         Err(FilterError::TypeMismatch) => OTHER,
         Err(FilterError::Missing(key)) => {
-            *told = key;
+            *key_or_side = key;
             MISSING
         }
         Err(FilterError::Unsupported(key)) => {
-            *told = key;
+            *key_or_side = key;
             UNSUPPORTED
         }
         Err(FilterError::Disjoint(key)) => {
-            *told = key;
+            *key_or_side = key;
             DISJOINT
         }
         Err(FilterError::Unread(side)) => {
-            *told = number_of(side);
+            *key_or_side = number_of(side);
             INVALID
         }
         Err(FilterError::NotObject(side)) => {
-            *told = number_of(side);
+            *key_or_side = number_of(side);
             INVALID
         }
         Err(FilterError::TooLarge) => PAST,

@@ -64,7 +64,8 @@ pub extern "C" fn spav_read(
 ) -> i32
     ensures done { IsDone result → AreRead input.now count.new out.old out.new }
     ensures room { IsNoRoom result → ArePast input.now count.new out.new }
-    ensures pods { IsPut result → (values : Trees) × AreMembers values input.now × (member_depth values ≤ levels_looked_into) }
+    ensures pods { IsPut result → (values : Trees) × AreMembers values input.now
+        × (member_depth values ≤ levels_looked_into) }
     ensures refused { IsInvalid result → (top : ℕ) × FaultStands input.now kind.new top at.new }
     ensures deep { IsTooDeep result → NestsTooDeep input.now }
     ensures answers { IsListRead result }

@@ -29,7 +29,8 @@ pub extern "C" fn spav_rewrite_leniently(
     ensures done { IsDone result → ConveyedIsWritten input.now written.new out.old out.new }
     ensures refused { IsInvalid result → NoneAreConveyed input.now at.new }
     ensures room { IsNoRoom result → ConveyedLacksRoom input.now written.new out.old }
-    ensures across { IsNoMemory result → length input.now ≤ length out.old → ¬ (ArePodsWithin levels_looked_into input.now) }
+    ensures across { IsNoMemory result → length input.now ≤ length out.old
+        → ¬ (ArePodsWithin levels_looked_into input.now) }
     ensures answers { IsRewritten result }
     ensures unchanged { ¬ (IsDone result) → out.new ≡ out.old }
 {

@@ -32,7 +32,8 @@ pub extern "C" fn spav_rewrite(
     ensures refused { IsInvalid result → ListIsRefused input.now at.new }
     ensures room { IsNoRoom result → ListLacksRoom input.now written.new out.old }
     ensures memory { IsNoMemory result → ¬ (AreShallow levels_looked_into input.now) }
-    ensures across { IsNoMemory result → length input.now ≤ length out.old → ¬ (ArePodsWithin levels_looked_into input.now) }
+    ensures across { IsNoMemory result → length input.now ≤ length out.old
+        → ¬ (ArePodsWithin levels_looked_into input.now) }
     ensures answers { IsRewritten result }
     ensures unchanged { ¬ (IsDone result) → out.new ≡ out.old }
 {
@@ -61,7 +62,8 @@ fn put_into(input: &[u8], out: &mut [u8], written: &mut usize) -> Option<i32>
     ensures answers { IfSome result (λ answer. IsPut answer) }
     ensures unchanged { IfSome result (λ answer. ¬ (IsDone answer) → out.new ≡ out.old) }
     ensures nothing { IfNone result (out.new ≡ out.old) }
-    ensures missed { IfNone result (length input.now ≤ length out.old → ¬ (ArePodsWithin levels_looked_into input.now)) }
+    ensures missed { IfNone result (length input.now ≤ length out.old
+        → ¬ (ArePodsWithin levels_looked_into input.now)) }
 {
     let Some(taken) = rewrite_into(input, out) else {
         if put_across(input, out, written) {

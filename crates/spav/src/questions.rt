@@ -43,7 +43,7 @@ pub extern "C" fn spav_nests_within(input: &[u8], levels: u32) -> i32
     // On any bytes 0 only where the depth is above `levels`, and 1 only where it isn't.
     ensures deeper { IsDone result → NestsDeeper levels input.now }
     ensures within { IsYes result → ¬ (NestsDeeper levels input.now) }
-    ensures untold { IsTooDeep result → (levels_looked_into < levels) × NestsDeeper levels_looked_into input.now }
+    ensures too_deep { IsTooDeep result → (levels_looked_into < levels) × NestsDeeper levels_looked_into input.now }
     ensures answers { IsNested result }
 {
     if levels > LEVELS {

@@ -2,7 +2,7 @@
 ghost use Rattle.std.specs.Prelude.{⊤, IfOk};
 ghost use Rattle.spa_bodies.specs.Reading.{IsRead};
 
-use crate::reading::visitors::{Answer, answered, told};
+use crate::reading::visitors::{Answer, answered, as_answer};
 use spa_fixed_sized::DeserializeError;
 use spa_typed_read::{DeserializeSuccess, PodDeserializer};
 use spa_visitors::{
@@ -23,12 +23,12 @@ pub(crate) fn number_visitor<'de, const CALL: u8>(
     ensures { IfOk result (λ it. IsRead deserializer.entry it.1 (λ _. ⊤)) }
 {
     match CALL {
-        60 => told(alloc, deserializer.deserialize_struct(NoneVisitor)),
-        61 => told(alloc, deserializer.deserialize_struct(BoolVisitor)),
-        62 => told(alloc, deserializer.deserialize_struct(IdVisitor)),
-        63 => told(alloc, deserializer.deserialize_struct(IntVisitor)),
-        64 => told(alloc, deserializer.deserialize_struct(LongVisitor)),
-        65 => told(alloc, deserializer.deserialize_struct(FloatVisitor)),
+        60 => as_answer(alloc, deserializer.deserialize_struct(NoneVisitor)),
+        61 => as_answer(alloc, deserializer.deserialize_struct(BoolVisitor)),
+        62 => as_answer(alloc, deserializer.deserialize_struct(IdVisitor)),
+        63 => as_answer(alloc, deserializer.deserialize_struct(IntVisitor)),
+        64 => as_answer(alloc, deserializer.deserialize_struct(LongVisitor)),
+        65 => as_answer(alloc, deserializer.deserialize_struct(FloatVisitor)),
         _ => other_visitor::<CALL>(alloc, deserializer),
     }
 }
@@ -42,12 +42,12 @@ fn other_visitor<'de, const CALL: u8>(
     ensures { IfOk result (λ it. IsRead deserializer.entry it.1 (λ _. ⊤)) }
 {
     match CALL {
-        66 => told(alloc, deserializer.deserialize_struct(DoubleVisitor)),
-        67 => told(alloc, deserializer.deserialize_struct(RectangleVisitor)),
-        68 => told(alloc, deserializer.deserialize_struct(FractionVisitor)),
-        69 => told(alloc, deserializer.deserialize_struct(FdVisitor)),
-        70 => told(alloc, deserializer.deserialize_struct(StringVisitor)),
-        71 => told(alloc, deserializer.deserialize_struct(BytesVisitor)),
+        66 => as_answer(alloc, deserializer.deserialize_struct(DoubleVisitor)),
+        67 => as_answer(alloc, deserializer.deserialize_struct(RectangleVisitor)),
+        68 => as_answer(alloc, deserializer.deserialize_struct(FractionVisitor)),
+        69 => as_answer(alloc, deserializer.deserialize_struct(FdVisitor)),
+        70 => as_answer(alloc, deserializer.deserialize_struct(StringVisitor)),
+        71 => as_answer(alloc, deserializer.deserialize_struct(BytesVisitor)),
         _ => content_visitor::<CALL>(alloc, deserializer),
     }
 }
@@ -61,15 +61,15 @@ fn content_visitor<'de, const CALL: u8>(
     ensures { IfOk result (λ it. IsRead deserializer.entry it.1 (λ _. ⊤)) }
 {
     match CALL {
-        72 => told(alloc, deserializer.deserialize_struct(BitmapVisitor)),
-        73 => told(alloc, deserializer.deserialize_struct(PointerVisitor)),
-        74 => told(
+        72 => as_answer(alloc, deserializer.deserialize_struct(BitmapVisitor)),
+        73 => as_answer(alloc, deserializer.deserialize_struct(PointerVisitor)),
+        74 => as_answer(
             alloc,
             deserializer.deserialize_struct(VecVisitor::<i32>::default()),
         ),
-        75 => told(alloc, deserializer.deserialize_struct(ChoiceBoolVisitor)),
-        76 => told(alloc, deserializer.deserialize_struct(ChoiceIdVisitor)),
-        77 => told(alloc, deserializer.deserialize_struct(ChoiceIntVisitor)),
+        75 => as_answer(alloc, deserializer.deserialize_struct(ChoiceBoolVisitor)),
+        76 => as_answer(alloc, deserializer.deserialize_struct(ChoiceIdVisitor)),
+        77 => as_answer(alloc, deserializer.deserialize_struct(ChoiceIntVisitor)),
         _ => choice_visitor::<CALL>(alloc, deserializer),
     }
 }
@@ -83,23 +83,23 @@ fn choice_visitor<'de, const CALL: u8>(
     ensures { IfOk result (λ it. IsRead deserializer.entry it.1 (λ _. ⊤)) }
 {
     match CALL {
-        78 => told(alloc, deserializer.deserialize_struct(ChoiceLongVisitor)),
-        79 => told(alloc, deserializer.deserialize_struct(ChoiceFloatVisitor)),
-        80 => told(alloc, deserializer.deserialize_struct(ChoiceDoubleVisitor)),
-        81 => told(
+        78 => as_answer(alloc, deserializer.deserialize_struct(ChoiceLongVisitor)),
+        79 => as_answer(alloc, deserializer.deserialize_struct(ChoiceFloatVisitor)),
+        80 => as_answer(alloc, deserializer.deserialize_struct(ChoiceDoubleVisitor)),
+        81 => as_answer(
             alloc,
             deserializer.deserialize_struct(ChoiceRectangleVisitor),
         ),
-        82 => told(
+        82 => as_answer(
             alloc,
             deserializer.deserialize_struct(ChoiceFractionVisitor),
         ),
-        83 => told(alloc, deserializer.deserialize_struct(ChoiceFdVisitor)),
+        83 => as_answer(alloc, deserializer.deserialize_struct(ChoiceFdVisitor)),
         _ => object_visitor::<CALL>(alloc, deserializer),
     }
 }
 
-/// Some of each sort, which are lent an object.
+/// Calls of four visitors that decline an object.
 #[tactic(auto, using(spa_typed_read::proofs::Stepping::visited_any, spa_typed_read::proofs::Stepping::read_any))]
 fn object_visitor<'de, const CALL: u8>(
     alloc: Global,
@@ -108,13 +108,13 @@ fn object_visitor<'de, const CALL: u8>(
     ensures { IfOk result (λ it. IsRead deserializer.entry it.1 (λ _. ⊤)) }
 {
     match CALL {
-        84 => told(alloc, deserializer.deserialize_object(IntVisitor)),
-        85 => told(alloc, deserializer.deserialize_object(StringVisitor)),
-        86 => told(
+        84 => as_answer(alloc, deserializer.deserialize_object(IntVisitor)),
+        85 => as_answer(alloc, deserializer.deserialize_object(StringVisitor)),
+        86 => as_answer(
             alloc,
             deserializer.deserialize_object(VecVisitor::<i32>::default()),
         ),
-        _ => told(alloc, deserializer.deserialize_object(ChoiceIntVisitor)),
+        _ => as_answer(alloc, deserializer.deserialize_object(ChoiceIntVisitor)),
     }
 }
 

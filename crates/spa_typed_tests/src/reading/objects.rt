@@ -82,12 +82,12 @@ pub(crate) fn device_said(alloc: Global, input: &[u8]) -> Result<String, AllocEr
         alloc, input,
     );
     match read {
-        Ok((_, device)) => told(alloc, device.name, device.volume),
+        Ok((_, device)) => device_text(alloc, device.name, device.volume),
         Err(error) => refused(alloc, error),
     }
 }
 
-fn told(alloc: Global, name: &str, volume: Float32) -> Result<String, AllocError> {
+fn device_text(alloc: Global, name: &str, volume: Float32) -> Result<String, AllocError> {
     format!(in alloc; "{name} {}", volume.0)
 }
 

@@ -26,7 +26,7 @@ use test_bytes::bytes_of;
 pub(crate) struct Answer<const CALL: u8>(String);
 
 /// What a call's visitor made, as a text, and the rest that the call leaves; or the call's refusal.
-pub(crate) fn told<'de, T: Debug + Drop, const CALL: u8>(
+pub(crate) fn as_answer<'de, T: Debug + Drop, const CALL: u8>(
     alloc: Global,
     read: Result<(T, DeserializeSuccess<'de>), DeserializeError<&'de [u8]>>,
 ) -> Result<(Answer<CALL>, DeserializeSuccess<'de>), DeserializeError<&'de [u8]>>
@@ -49,11 +49,11 @@ fn number_call<'de, const CALL: u8>(
     ensures { IfOk result (λ it. IsRead deserializer.entry it.1 (λ _. ⊤)) }
 {
     match CALL {
-        1 => told(alloc, deserializer.deserialize_none(NoneVisitor)),
-        2 => told(alloc, deserializer.deserialize_bool(BoolVisitor)),
-        3 => told(alloc, deserializer.deserialize_id(IdVisitor)),
-        4 => told(alloc, deserializer.deserialize_int(IntVisitor)),
-        5 => told(alloc, deserializer.deserialize_long(LongVisitor)),
+        1 => as_answer(alloc, deserializer.deserialize_none(NoneVisitor)),
+        2 => as_answer(alloc, deserializer.deserialize_bool(BoolVisitor)),
+        3 => as_answer(alloc, deserializer.deserialize_id(IdVisitor)),
+        4 => as_answer(alloc, deserializer.deserialize_int(IntVisitor)),
+        5 => as_answer(alloc, deserializer.deserialize_long(LongVisitor)),
         _ => pair_call::<CALL>(alloc, deserializer),
     }
 }
@@ -67,11 +67,11 @@ fn pair_call<'de, const CALL: u8>(
     ensures { IfOk result (λ it. IsRead deserializer.entry it.1 (λ _. ⊤)) }
 {
     match CALL {
-        6 => told(alloc, deserializer.deserialize_float(FloatVisitor)),
-        7 => told(alloc, deserializer.deserialize_double(DoubleVisitor)),
-        10 => told(alloc, deserializer.deserialize_rectangle(RectangleVisitor)),
-        11 => told(alloc, deserializer.deserialize_fraction(FractionVisitor)),
-        18 => told(alloc, deserializer.deserialize_fd(FdVisitor)),
+        6 => as_answer(alloc, deserializer.deserialize_float(FloatVisitor)),
+        7 => as_answer(alloc, deserializer.deserialize_double(DoubleVisitor)),
+        10 => as_answer(alloc, deserializer.deserialize_rectangle(RectangleVisitor)),
+        11 => as_answer(alloc, deserializer.deserialize_fraction(FractionVisitor)),
+        18 => as_answer(alloc, deserializer.deserialize_fd(FdVisitor)),
         _ => plain_call::<CALL>(alloc, deserializer),
     }
 }
@@ -85,15 +85,15 @@ fn plain_call<'de, const CALL: u8>(
     ensures { IfOk result (λ it. IsRead deserializer.entry it.1 (λ _. ⊤)) }
 {
     match CALL {
-        8 => told(alloc, deserializer.deserialize_str(StringVisitor)),
-        9 => told(alloc, deserializer.deserialize_bytes(BytesVisitor)),
-        12 => told(alloc, deserializer.deserialize_bitmap(BitmapVisitor)),
-        13 => told(
+        8 => as_answer(alloc, deserializer.deserialize_str(StringVisitor)),
+        9 => as_answer(alloc, deserializer.deserialize_bytes(BytesVisitor)),
+        12 => as_answer(alloc, deserializer.deserialize_bitmap(BitmapVisitor)),
+        13 => as_answer(
             alloc,
             deserializer.deserialize_array(VecVisitor::<i32>::default()),
         ),
-        17 => told(alloc, deserializer.deserialize_pointer(PointerVisitor)),
-        19 => told(alloc, deserializer.deserialize_choice(ChoiceIntVisitor)),
+        17 => as_answer(alloc, deserializer.deserialize_pointer(PointerVisitor)),
+        19 => as_answer(alloc, deserializer.deserialize_choice(ChoiceIntVisitor)),
         _ => value_call::<CALL>(alloc, deserializer),
     }
 }
@@ -107,21 +107,21 @@ fn value_call<'de, const CALL: u8>(
     ensures { IfOk result (λ it. IsRead deserializer.entry it.1 (λ _. ⊤)) }
 {
     match CALL {
-        14 => told(
+        14 => as_answer(
             alloc,
             deserializer.deserialize_struct(ValueVisitor { alloc }),
         ),
-        15 => told(
+        15 => as_answer(
             alloc,
             deserializer.deserialize_object(ValueVisitor { alloc }),
         ),
-        20 => told(
+        20 => as_answer(
             alloc,
             deserializer.deserialize_choice(ValueVisitor { alloc }),
         ),
-        21 => told(alloc, deserializer.deserialize_int(BoolVisitor)),
-        22 => told(alloc, deserializer.deserialize_struct(TellingVisitor)),
-        23 => told(alloc, deserializer.deserialize_object(TellingVisitor)),
+        21 => as_answer(alloc, deserializer.deserialize_int(BoolVisitor)),
+        22 => as_answer(alloc, deserializer.deserialize_struct(TellingVisitor)),
+        23 => as_answer(alloc, deserializer.deserialize_object(TellingVisitor)),
         _ => choice_call::<CALL>(alloc, deserializer),
     }
 }
@@ -135,16 +135,16 @@ fn choice_call<'de, const CALL: u8>(
     ensures { IfOk result (λ it. IsRead deserializer.entry it.1 (λ _. ⊤)) }
 {
     match CALL {
-        42 => told(alloc, deserializer.deserialize_choice(ChoiceBoolVisitor)),
-        43 => told(alloc, deserializer.deserialize_choice(ChoiceIdVisitor)),
-        45 => told(alloc, deserializer.deserialize_choice(ChoiceLongVisitor)),
-        46 => told(alloc, deserializer.deserialize_choice(ChoiceFloatVisitor)),
-        47 => told(alloc, deserializer.deserialize_choice(ChoiceDoubleVisitor)),
+        42 => as_answer(alloc, deserializer.deserialize_choice(ChoiceBoolVisitor)),
+        43 => as_answer(alloc, deserializer.deserialize_choice(ChoiceIdVisitor)),
+        45 => as_answer(alloc, deserializer.deserialize_choice(ChoiceLongVisitor)),
+        46 => as_answer(alloc, deserializer.deserialize_choice(ChoiceFloatVisitor)),
+        47 => as_answer(alloc, deserializer.deserialize_choice(ChoiceDoubleVisitor)),
         _ => paired_call::<CALL>(alloc, deserializer),
     }
 }
 
-/// The same for pairs of numbers and file descriptors.
+/// The calls for choices over pairs of numbers and over file descriptors.
 #[tactic(auto, using(spa_typed_read::proofs::Stepping::visited_any, spa_typed_read::proofs::Stepping::read_any))]
 fn paired_call<'de, const CALL: u8>(
     alloc: Global,
@@ -153,15 +153,15 @@ fn paired_call<'de, const CALL: u8>(
     ensures { IfOk result (λ it. IsRead deserializer.entry it.1 (λ _. ⊤)) }
 {
     match CALL {
-        50 => told(
+        50 => as_answer(
             alloc,
             deserializer.deserialize_choice(ChoiceRectangleVisitor),
         ),
-        51 => told(
+        51 => as_answer(
             alloc,
             deserializer.deserialize_choice(ChoiceFractionVisitor),
         ),
-        58 => told(alloc, deserializer.deserialize_choice(ChoiceFdVisitor)),
+        58 => as_answer(alloc, deserializer.deserialize_choice(ChoiceFdVisitor)),
         _ => number_visitor::<CALL>(alloc, deserializer),
     }
 }
@@ -187,7 +187,7 @@ pub(crate) fn answered<const CALL: u8>(alloc: Global, input: &[u8]) -> Result<St
     }
 }
 
-/// The same, for a number that is known when it runs.
+/// What the call of a number answers that is known only when the test runs, or its refusal's name.
 pub(crate) fn called(alloc: Global, call: u8, input: &[u8]) -> Result<String, AllocError> {
     match call {
         1 => answered::<1>(alloc, input),

@@ -1,8 +1,8 @@
 use Rattle.std.proofs.Common.{◌≡◌, ◌-◌, ◌∷◌, ◌++◌, false, true, length, ap, sym, ◌∙◌, arith, subst, length-append}
 use Rattle.spa_format.specs.Encoding.{member_encodings}
 use Rattle.spa_format.specs.Tree.{fixed}
-use Rattle.spa_builder.specs.Step.{placed}
-use Rattle.spa_builder.specs.Held.{Held, held, IsNested, frames_of, all_so_far, so_far}
+use Rattle.spa_builder.specs.Step.{state_with_value}
+use Rattle.spa_builder.specs.Fields.{BuilderFields, fields_of, IsNested, frames_of, all_so_far, so_far}
 use Rattle.spa_builder.specs.Innermost.{has_room_for, has_elements, takes_elements, takes_element, with_element}
 use Rattle.spa_builder.proofs.Steps.{sized_goes, sized_nomem, sized_nospc, sized_inval, has_its_room, base_and_more, is_nomem, closing, and_false}
 use Rattle.spa_builder.proofs.Lengths.{length-fixed}
@@ -12,12 +12,12 @@ use Rattle.spa_builder.proofs.building.add_element.Goals as goal
 pub has_room-requires-clause-within : goal.has_room-requires-clause-within
 has_room-requires-clause-within c =
     let h = c.requires.holds in
-    let r = has_its_room (held c.args.bytes.now c.args.frames.now) h.0 h.1 in
+    let r = has_its_room (fields_of c.args.bytes.now c.args.frames.now) h.0 h.1 in
     (r.0, r.1, r.2, c.len.ensures ∙ r.3, r.4)
 
 pub returns-then-not-takes_element : goal.returns-then-not-takes_element
 returns-then-not-takes_element c s x at ty b el =
-    let old : Held = held c.args.bytes.now c.args.frames.now in
+    let old : BuilderFields = fields_of c.args.bytes.now c.args.frames.now in
     let base = length (member_encodings s.closed) in
     let z = closing old s.closed s.opened c.in-Some.open at
     (c.in-Some.ensures.last base s.opened (at.frames)) in
@@ -30,12 +30,12 @@ returns-then-not-takes_element c s x at ty b el =
     let one = small_body x _ len c.requires.body in
     let t : takes_element p x ≡ false = sym (c.takes_element.ensures p x k.what (sym ty))
     ∙ c.if-not-takes_element.true in
-    sized_inval _ _ _ old (ap (λ l. placed s.closed l (fixed x)) k.opened
+    sized_inval _ _ _ old (ap (λ l. state_with_value s.closed l (fixed x)) k.opened
     ∙ element_not s.closed p ps x h t)
 
 pub returns-then-not-has_room : goal.returns-then-not-has_room
 returns-then-not-has_room c s x at ty b el =
-    let old : Held = held c.args.bytes.now c.args.frames.now in
+    let old : BuilderFields = fields_of c.args.bytes.now c.args.frames.now in
     let base = length (member_encodings s.closed) in
     let z = closing old s.closed s.opened c.in-Some.open at
     (c.in-Some.ensures.last base s.opened (at.frames)) in
@@ -48,7 +48,7 @@ returns-then-not-has_room c s x at ty b el =
     let one = small_body x _ len c.requires.body in
     let t : takes_element p x ≡ true = sym (c.takes_element.ensures p x k.what (sym ty))
     ∙ c.if-not-takes_element.false in
-    let is = ap (λ l. placed s.closed l (fixed x)) k.opened ∙ element_placed s.closed p ps x h t in
+    let is = ap (λ l. state_with_value s.closed l (fixed x)) k.opened ∙ element_placed s.closed p ps x h t in
     let room = sym (c.has_room.ensures base s.opened (at.frames)
     (c.len.ensures ∙ base_and_more old s at)) ∙ c.if-not-has_room.true in
     let fit = element_fit p ps x _ (sym len) h t nested
@@ -58,7 +58,7 @@ returns-then-not-has_room c s x at ty b el =
 
 pub returns-in_err-append : goal.returns-in_err-append
 returns-in_err-append c s x at ty b el =
-    let old : Held = held c.args.bytes.now c.args.frames.now in
+    let old : BuilderFields = fields_of c.args.bytes.now c.args.frames.now in
     let base = length (member_encodings s.closed) in
     let z = closing old s.closed s.opened c.in-Some.open at
     (c.in-Some.ensures.last base s.opened (at.frames)) in
@@ -71,7 +71,7 @@ returns-in_err-append c s x at ty b el =
     let one = small_body x _ len c.requires.body in
     let t : takes_element p x ≡ true = sym (c.takes_element.ensures p x k.what (sym ty))
     ∙ c.if-not-takes_element.false in
-    let is = ap (λ l. placed s.closed l (fixed x)) k.opened ∙ element_placed s.closed p ps x h t in
+    let is = ap (λ l. state_with_value s.closed l (fixed x)) k.opened ∙ element_placed s.closed p ps x h t in
     let room = sym (c.has_room.ensures base s.opened (at.frames)
     (c.len.ensures ∙ base_and_more old s at)) ∙ c.if-not-has_room.false in
     let fit = element_fit p ps x _ (sym len) h t nested
@@ -79,11 +79,11 @@ returns-in_err-append c s x at ty b el =
     sized_nomem _ _ (record { closed = s.closed; opened = with_element p x ∷ ps }) old _ _ one is
     fit (is_nomem c.from_residual.result _ c.from_residual.ensures.1
     c.in_err-append.ensures.memory)
-    (ap (λ l. held l c.args.frames.now) c.in_err-append.ensures.unchanged)
+    (ap (λ l. fields_of l c.args.frames.now) c.in_err-append.ensures.unchanged)
 
 pub overflow_sub-had : goal.overflow_sub-had
 overflow_sub-had c =
-    let old : Held = held c.args.bytes.now c.args.frames.now in
+    let old : BuilderFields = fields_of c.args.bytes.now c.args.frames.now in
     let s = c.requires.holds.0 in
     let at = c.requires.holds.1 in
     let k = closing old s.closed s.opened c.in-Some.open at
@@ -94,7 +94,7 @@ overflow_sub-had c =
 
 pub set_child-requires : goal.set_child-requires
 set_child-requires c =
-    let old : Held = held c.args.bytes.now c.args.frames.now in
+    let old : BuilderFields = fields_of c.args.bytes.now c.args.frames.now in
     let s = c.requires.holds.0 in
     let at = c.requires.holds.1 in
     let k = closing old s.closed s.opened c.in-Some.open at
@@ -106,7 +106,7 @@ set_child-requires c =
 
 pub returns : goal.returns
 returns c s x at ty b el =
-    let old : Held = held c.args.bytes.now c.args.frames.now in
+    let old : BuilderFields = fields_of c.args.bytes.now c.args.frames.now in
     let base = length (member_encodings s.closed) in
     let z = closing old s.closed s.opened c.in-Some.open at
     (c.in-Some.ensures.last base s.opened (at.frames)) in
@@ -119,13 +119,13 @@ returns c s x at ty b el =
     let one = small_body x _ len c.requires.body in
     let t : takes_element p x ≡ true = sym (c.takes_element.ensures p x k.what (sym ty))
     ∙ c.if-not-takes_element.false in
-    let is = ap (λ l. placed s.closed l (fixed x)) k.opened ∙ element_placed s.closed p ps x h t in
+    let is = ap (λ l. state_with_value s.closed l (fixed x)) k.opened ∙ element_placed s.closed p ps x h t in
     let room = sym (c.has_room.ensures base s.opened (at.frames)
     (c.len.ensures ∙ base_and_more old s at)) ∙ c.if-not-has_room.false in
     let fit = element_fit p ps x _ (sym len) h t nested
     ∙ ap (has_room_for (length c.args.body.now)) (sym k.opened) ∙ room in
     let front = member_encodings s.closed ++ all_so_far ps in
-    let new : Held = held c.set_child.new.bytes c.set_innermost.new.self in
+    let new : BuilderFields = fields_of c.set_child.new.bytes c.set_innermost.new.self in
     let had : c.len-had.result ≡ length c.args.bytes.now = c.len-had.ensures in
     let mid = c.in_ok-append.ensures.ok ∙ ap (λ l. l ++ c.args.body.now) k.bytes
     ∙ ap (λ l. (front ++ so_far p) ++ l) (sym b) in

@@ -3,7 +3,7 @@ use Rattle.spa_format.specs.Kind.{body_size, fixed_body, type_number}
 use Rattle.spa_format.specs.Encoding.{framed, member_encodings}
 use Rattle.spa_format.specs.Tree.{fixed}
 use Rattle.spa_format.specs.Words.{size_limit}
-use Rattle.spa_builder.specs.Held.{Held, held}
+use Rattle.spa_builder.specs.Fields.{BuilderFields, fields_of}
 use Rattle.spa_builder.proofs.Lengths.{length-fixed}
 use Rattle.spa_builder.proofs.Members.{no_place}
 use Rattle.spa_builder.proofs.Steps.{has_its_room, base_and_more}
@@ -13,12 +13,12 @@ use Rattle.spa_builder.proofs.building.add_fixed.Goals as goal
 pub admit-requires : goal.admit-requires
 admit-requires g c =
     let h = c.requires.holds in
-    let r = has_its_room (held c.args.bytes.now c.args.frames.now) h.0 h.1 in
+    let r = has_its_room (fields_of c.args.bytes.now c.args.frames.now) h.0 h.1 in
     (r.0, r.1, r.2, c.len.ensures ∙ r.3, r.4)
 
 pub returns-in_err-admit : goal.returns-in_err-admit
 returns-in_err-admit g c s at =
-    let old : Held = held c.args.bytes.now c.args.frames.now in
+    let old : BuilderFields = fields_of c.args.bytes.now c.args.frames.now in
     let x = g.T.CanonicalFixedSizedPod.fixed c.args.value.now in
     let v = fixed x in
     let k = g.met.T.CanonicalFixedSizedPod.its_kind c.args.value.now in
@@ -40,7 +40,7 @@ returns-in_err-admit g c s at =
 
 pub returns-in_err-put_fixed_pod : goal.returns-in_err-put_fixed_pod
 returns-in_err-put_fixed_pod g c s at =
-    let old : Held = held c.args.bytes.now c.args.frames.now in
+    let old : BuilderFields = fields_of c.args.bytes.now c.args.frames.now in
     let x = g.T.CanonicalFixedSizedPod.fixed c.args.value.now in
     let v = fixed x in
     let k = g.met.T.CanonicalFixedSizedPod.its_kind c.args.value.now in
@@ -57,11 +57,11 @@ returns-in_err-put_fixed_pod g c s at =
     (c.len.ensures ∙ base_and_more old s at))
     (passed _ _ c.from_residual-in_err-put_fixed_pod.ensures.1
     ∙ ap (λ e. Err e) c.in_err-put_fixed_pod.ensures.memory)
-    (ap (λ l. held l c.args.frames.now) c.in_err-put_fixed_pod.ensures.unchanged)
+    (ap (λ l. fields_of l c.args.frames.now) c.in_err-put_fixed_pod.ensures.unchanged)
 
 pub returns : goal.returns
 returns g c s at =
-    let old : Held = held c.args.bytes.now c.args.frames.now in
+    let old : BuilderFields = fields_of c.args.bytes.now c.args.frames.now in
     let x = g.T.CanonicalFixedSizedPod.fixed c.args.value.now in
     let v = fixed x in
     let k = g.met.T.CanonicalFixedSizedPod.its_kind c.args.value.now in
@@ -73,7 +73,7 @@ returns g c s at =
       large =
           λ y. subst (λ m. size_limit ≤ m) (c.SIZE-2.ensures ∙ l) y;
     } in
-    admitted s v old (held c.put_fixed_pod.new.bytes c.fill.new.frames) _ _ _ at size
+    admitted s v old (fields_of c.put_fixed_pod.new.bytes c.fill.new.frames) _ _ _ at size
     (c.in_ok-admit.ensures (length (member_encodings s.closed)) s.opened (at.frames)
     (c.len.ensures ∙ base_and_more old s at))
     (c.in_ok-put_fixed_pod.ensures.ok ∙ ap (λ t. c.args.bytes.now ++ framed t (fixed_body x))

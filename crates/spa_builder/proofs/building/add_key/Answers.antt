@@ -1,8 +1,8 @@
 use Rattle.std.proofs.Common.{◌∷◌, ◌++◌, true, length, ap, sym, refl, ◌∙◌, subst}
 use Rattle.spa_format.specs.Encoding.{member_encodings}
 use Rattle.spa_builder.specs.State.{open_object, open_property}
-use Rattle.spa_builder.specs.Step.{keyed}
-use Rattle.spa_builder.specs.Held.{Held, held, IsNested, frames_of, all_so_far}
+use Rattle.spa_builder.specs.Step.{state_with_key}
+use Rattle.spa_builder.specs.Fields.{BuilderFields, fields_of, IsNested, frames_of, all_so_far}
 use Rattle.spa_builder.specs.Innermost.{has_room_for}
 use Rattle.spa_builder.proofs.Steps.{sized_goes, sized_nomem, sized_nospc, sized_inval, takes_key_is, keyed_not, keyed_fit, is_keyed, has_its_room, base_and_more, is_nomem}
 use Rattle.spa_builder.proofs.building.add_key.Goals as goal
@@ -10,12 +10,12 @@ use Rattle.spa_builder.proofs.building.add_key.Goals as goal
 pub has_room-requires-clause-within : goal.has_room-requires-clause-within
 has_room-requires-clause-within c =
     let h = c.requires in
-    let r = has_its_room (held c.args.bytes.now c.args.frames.now) h.0 h.1 in
+    let r = has_its_room (fields_of c.args.bytes.now c.args.frames.now) h.0 h.1 in
     (r.0, r.1, r.2, c.len.ensures ∙ r.3, r.4)
 
 pub returns-then-not-has_room : goal.returns-then-not-has_room
 returns-then-not-has_room c s at =
-    let old : Held = held c.args.bytes.now c.args.frames.now in
+    let old : BuilderFields = fields_of c.args.bytes.now c.args.frames.now in
     let base = length (member_encodings s.closed) in
     let key = c.args.key in
     let flags = c.args.flags in
@@ -28,11 +28,11 @@ returns-then-not-has_room c s at =
     ∙ ap (has_room_for 8) (sym t.4) ∙ room in
     sized_nospc _ true _ (record
     { closed = s.closed; opened = open_property t.0 t.1 t.2 key flags ∷ t.3 }) old
-    (ap (λ l. keyed s.closed l key flags) t.4) fit
+    (ap (λ l. state_with_key s.closed l key flags) t.4) fit
 
 pub returns-in_err-append_array : goal.returns-in_err-append_array
 returns-in_err-append_array c s at =
-    let old : Held = held c.args.bytes.now c.args.frames.now in
+    let old : BuilderFields = fields_of c.args.bytes.now c.args.frames.now in
     let base = length (member_encodings s.closed) in
     let key = c.args.key in
     let flags = c.args.flags in
@@ -45,14 +45,14 @@ returns-in_err-append_array c s at =
     ∙ ap (has_room_for 8) (sym t.4) ∙ room in
     sized_nomem true _ (record
     { closed = s.closed; opened = open_property t.0 t.1 t.2 key flags ∷ t.3 }) old _ _ refl
-    (ap (λ l. keyed s.closed l key flags) t.4) fit
+    (ap (λ l. state_with_key s.closed l key flags) t.4) fit
     (is_nomem c.from_residual.result _ c.from_residual.ensures.1
     c.in_err-append_array.ensures.memory)
-    (ap (λ l. held l c.args.frames.now) c.in_err-append_array.ensures.unchanged)
+    (ap (λ l. fields_of l c.args.frames.now) c.in_err-append_array.ensures.unchanged)
 
 pub returns : goal.returns
 returns c s at =
-    let old : Held = held c.args.bytes.now c.args.frames.now in
+    let old : BuilderFields = fields_of c.args.bytes.now c.args.frames.now in
     let base = length (member_encodings s.closed) in
     let key = c.args.key in
     let flags = c.args.flags in
@@ -67,16 +67,16 @@ returns c s at =
     (open_property t.0 t.1 t.2 key flags) t.3 (at.frames ∙ ap (frames_of base) t.4) refl in
     sized_goes true _ (record
     { closed = s.closed; opened = open_property t.0 t.1 t.2 key flags ∷ t.3 }) old
-    (held c.append_array.new.self c.set_stage.new.self) _ refl
-    (ap (λ l. keyed s.closed l key flags) t.4) fit
-    (is_keyed (held c.append_array.new.self c.set_stage.new.self) s.closed t.0 t.1 t.2 key flags
+    (fields_of c.append_array.new.self c.set_stage.new.self) _ refl
+    (ap (λ l. state_with_key s.closed l key flags) t.4) fit
+    (is_keyed (fields_of c.append_array.new.self c.set_stage.new.self) s.closed t.0 t.1 t.2 key flags
     t.3 old.bytes (at.bytes ∙ ap (λ l. member_encodings s.closed ++ all_so_far l) t.4)
     (subst IsNested t.4 at.nested) (c.in_ok-append_array.ensures.ok
     ∙ ap (λ l. c.args.bytes.now ++ l) c.two_words.ensures) frames fit)
 
 pub returns-then-not-takes_key : goal.returns-then-not-takes_key
 returns-then-not-takes_key c s at =
-    let old : Held = held c.args.bytes.now c.args.frames.now in
+    let old : BuilderFields = fields_of c.args.bytes.now c.args.frames.now in
     let base = length (member_encodings s.closed) in
     sized_inval _ true _ old (keyed_not s.closed s.opened c.args.key c.args.flags
     (sym (c.takes_key.ensures base s.opened

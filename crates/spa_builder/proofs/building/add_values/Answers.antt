@@ -2,7 +2,7 @@ use Rattle.std.proofs.Common.{◌≤◌, refl, length, map, take, ap, sym, ◌�
 use Rattle.spa_format.specs.Encoding.{member_encodings}
 use Rattle.spa_format.specs.Tree.{array}
 use Rattle.spa_format.specs.Words.{size_limit}
-use Rattle.spa_builder.specs.Held.{Held, held}
+use Rattle.spa_builder.specs.Fields.{BuilderFields, fields_of}
 use Rattle.spa_builder.proofs.Lengths.{length-elements}
 use Rattle.spa_builder.proofs.Steps.{has_its_room, base_and_more, no_element}
 use Rattle.spa_builder.proofs.Placing.{IsSizeOf, not_admitted, admitted_nomem, admitted}
@@ -12,12 +12,12 @@ use Rattle.spa_builder.proofs.building.add_values.Goals as goal
 pub admit-requires : goal.admit-requires
 admit-requires g c =
     let h = c.requires.holds in
-    let r = has_its_room (held c.args.bytes.now c.args.frames.now) h.0 h.1 in
+    let r = has_its_room (fields_of c.args.bytes.now c.args.frames.now) h.0 h.1 in
     (r.0, r.1, r.2, c.len-had.ensures ∙ r.3, r.4)
 
 pub returns-in_err-admit : goal.returns-in_err-admit
 returns-in_err-admit g c s at =
-    let old : Held = held c.args.bytes.now c.args.frames.now in
+    let old : BuilderFields = fields_of c.args.bytes.now c.args.frames.now in
     let xs = map g.T.CanonicalFixedSizedPod.fixed c.args.values.now in
     let v = array g.T.CanonicalFixedSizedPod.kind xs in
     let l = length-elements g.T.CanonicalFixedSizedPod.kind g.T.CanonicalFixedSizedPod.fixed
@@ -43,7 +43,7 @@ truncate-requires g c =
 
 pub returns-in-Err : goal.returns-in-Err
 returns-in-Err g c s at =
-    let old : Held = held c.args.bytes.now c.args.frames.now in
+    let old : BuilderFields = fields_of c.args.bytes.now c.args.frames.now in
     let xs = map g.T.CanonicalFixedSizedPod.fixed c.args.values.now in
     let v = array g.T.CanonicalFixedSizedPod.kind xs in
     let l = length-elements g.T.CanonicalFixedSizedPod.kind g.T.CanonicalFixedSizedPod.fixed
@@ -56,15 +56,15 @@ returns-in-Err g c s at =
           λ y. subst (λ m. size_limit ≤ m) (sym l) (c.array_size.ensures.large y);
     } in
     let b = begun_back c.args.bytes.now _ c.put_array.new.sink c.in-Err.ensures.begun in
-    admitted_nomem s v old (held c.truncate.new.self c.args.frames.now) _ _ _ at size
+    admitted_nomem s v old (fields_of c.truncate.new.self c.args.frames.now) _ _ _ at size
     (c.in_ok-admit.ensures (length (member_encodings s.closed)) s.opened (at.frames)
     (c.len-had.ensures ∙ base_and_more old s at)) refl
-    (ap (λ k. held k c.args.frames.now) (c.truncate.ensures
+    (ap (λ k. fields_of k c.args.frames.now) (c.truncate.ensures
     ∙ ap (λ n. take n c.put_array.new.sink) c.len-had.ensures ∙ b.0))
 
 pub returns-in-Ok : goal.returns-in-Ok
 returns-in-Ok g c s at =
-    let old : Held = held c.args.bytes.now c.args.frames.now in
+    let old : BuilderFields = fields_of c.args.bytes.now c.args.frames.now in
     let xs = map g.T.CanonicalFixedSizedPod.fixed c.args.values.now in
     let v = array g.T.CanonicalFixedSizedPod.kind xs in
     let l = length-elements g.T.CanonicalFixedSizedPod.kind g.T.CanonicalFixedSizedPod.fixed
@@ -76,7 +76,7 @@ returns-in-Ok g c s at =
       large =
           λ y. subst (λ m. size_limit ≤ m) (sym l) (c.array_size.ensures.large y);
     } in
-    admitted s v old (held c.put_array.new.sink c.fill.new.frames) _ _ _ at size
+    admitted s v old (fields_of c.put_array.new.sink c.fill.new.frames) _ _ _ at size
     (c.in_ok-admit.ensures (length (member_encodings s.closed)) s.opened (at.frames)
     (c.len-had.ensures ∙ base_and_more old s at)) c.in-Ok.ensures.ok
     (λ t. c.fill.ensures (length (member_encodings s.closed)) s.opened v t at.frames

@@ -1,7 +1,7 @@
 use Rattle.std.proofs.Common.{◌≡◌, ◌+◌, ◌*◌, ◌++◌, ◌∷◌, [], Err, false, true, length, ap, sym, refl, ◌∙◌, arith, length-append}
 use Rattle.spa_format.specs.Encoding.{member_encodings}
 use Rattle.spa_builder.specs.Step.{takes_trees, all_fit}
-use Rattle.spa_builder.specs.Held.{Held, held, so_far}
+use Rattle.spa_builder.specs.Fields.{BuilderFields, fields_of, so_far}
 use Rattle.spa_builder.proofs.FrameLists.{length-frames_of}
 use Rattle.spa_builder.proofs.Steps.{sized_goes, sized_nomem, sized_nospc, begun_is, begun_fit, is_begun, has_its_room, base_and_more}
 use Rattle.spa_builder.proofs.Placing.{passed}
@@ -10,12 +10,12 @@ use Rattle.spa_builder.proofs.building.begin_tree.Goals as goal
 pub has_room-requires-clause-within : goal.has_room-requires-clause-within
 has_room-requires-clause-within g c =
     let h = c.requires.holds in
-    let r = has_its_room (held c.args.bytes.now c.args.frames.now) h.0 h.1 in
+    let r = has_its_room (fields_of c.args.bytes.now c.args.frames.now) h.0 h.1 in
     (r.0, r.1, r.2, c.place-start.ensures.at ∙ r.3, r.4)
 
 pub returns-then-not-has_room-clause-step : goal.returns-then-not-has_room-clause-step
 returns-then-not-has_room-clause-step g c s p at w b f =
-    let old : Held = held c.args.bytes.now c.args.frames.now in
+    let old : BuilderFields = fields_of c.args.bytes.now c.args.frames.now in
     let base = length (member_encodings s.closed) in
     let takes : takes_trees s.opened ≡ true =
     sym (c.takes_trees.ensures base s.opened (c.innermost.ensures.last base s.opened at.frames))
@@ -31,7 +31,7 @@ returns-then-not-has_room-clause-step g c s p at w b f =
 
 pub returns-in_err-push-clause-step : goal.returns-in_err-push-clause-step
 returns-in_err-push-clause-step g c s p at w b f =
-    let old : Held = held c.args.bytes.now c.args.frames.now in
+    let old : BuilderFields = fields_of c.args.bytes.now c.args.frames.now in
     let base = length (member_encodings s.closed) in
     let takes : takes_trees s.opened ≡ true =
     sym (c.takes_trees.ensures base s.opened (c.innermost.ensures.last base s.opened at.frames))
@@ -45,12 +45,12 @@ returns-in_err-push-clause-step g c s p at w b f =
     ∙ c.if-not-has_room.false in
     sized_nomem true _ _ old _ _ refl (begun_is s p takes) fit
     (passed _ _ c.from_residual.ensures.1 ∙ ap (λ e. Err e) c.in_err-push.ensures.memory)
-    (ap (λ l. held l c.push.new.self) c.in_err-push.ensures.unchanged.1
-    ∙ ap (λ l. held c.args.bytes.now l) c.in_err-push.ensures.unchanged.0)
+    (ap (λ l. fields_of l c.push.new.self) c.in_err-push.ensures.unchanged.1
+    ∙ ap (λ l. fields_of c.args.bytes.now l) c.in_err-push.ensures.unchanged.0)
 
 pub returns-clause-step : goal.returns-clause-step
 returns-clause-step g c s p at w b f =
-    let old : Held = held c.args.bytes.now c.args.frames.now in
+    let old : BuilderFields = fields_of c.args.bytes.now c.args.frames.now in
     let base = length (member_encodings s.closed) in
     let takes : takes_trees s.opened ≡ true =
     sym (c.takes_trees.ensures base s.opened (c.innermost.ensures.last base s.opened at.frames))
@@ -62,7 +62,7 @@ returns-clause-step g c s p at w b f =
     ∙ sym (c.has_room.ensures base s.opened at.frames
     (c.place-start.ensures.at ∙ base_and_more old s at))
     ∙ c.if-not-has_room.false in
-    let new : Held = held c.push.new.bytes c.push.new.self in
+    let new : BuilderFields = fields_of c.push.new.bytes c.push.new.self in
     let written = c.in_ok-push.ensures.appended ∙ ap (λ l. c.args.bytes.now ++ l) b in
     let pushed =
     c.in_ok-push.ensures.ok

@@ -2,8 +2,8 @@ use Rattle.std.proofs.Common.{◌≡◌, ◌+◌, ◌-◌, ◌++◌, ℕ, false,
 use Rattle.std.proofs.lemmas.Bool.Decides.{nat_tests}
 use Rattle.spa_format.specs.Words.{padding}
 use Rattle.spa_format.specs.Encoding.{member_encodings, framed}
-use Rattle.spa_builder.specs.Step.{finished}
-use Rattle.spa_builder.specs.Held.{Held, held, all_so_far, body_so_far, frames_of, type_of_partial}
+use Rattle.spa_builder.specs.Step.{closed_value}
+use Rattle.spa_builder.specs.Fields.{BuilderFields, fields_of, all_so_far, body_so_far, frames_of, type_of_partial}
 use Rattle.spa_builder.proofs.FrameLists.{length-frames_of}
 use Rattle.spa_builder.proofs.Steps.{goes_ok, goes_nomem, goes_inval, closing, closes_is, closes_not, closes_other, is_value, is_no_value, is_closed, patched, is_nomem}
 use Rattle.spa_builder.proofs.building.close.Goals as goal
@@ -13,7 +13,7 @@ other_number a b h = grind (arith, nat_tests)
 
 pub returns-then-frame-len : goal.returns-then-frame-len
 returns-then-frame-len c s at =
-    let old : Held = held c.args.bytes.now c.args.frames.now in
+    let old : BuilderFields = fields_of c.args.bytes.now c.args.frames.now in
     let n : c.len.result ≡ length s.opened = c.len.ensures ∙ ap length at.frames
     ∙ length-frames_of (length (member_encodings s.closed)) s.opened in
     goes_inval _ _ old (closes_other s.closed s.opened c.args.frame
@@ -21,16 +21,16 @@ returns-then-frame-len c s at =
 
 pub returns-then-not-is_finished : goal.returns-then-not-is_finished
 returns-then-not-is_finished c s at =
-    let old : Held = held c.args.bytes.now c.args.frames.now in
+    let old : BuilderFields = fields_of c.args.bytes.now c.args.frames.now in
     let k = closing old s.closed s.opened c.in-Some.open at
     (c.in-Some.ensures.last (length (member_encodings s.closed)) s.opened (at.frames)) in
-    let none = is_no_value (finished k.0) (sym (c.is_finished.ensures k.0 k.2.what)
+    let none = is_no_value (closed_value k.0) (sym (c.is_finished.ensures k.0 k.2.what)
     ∙ c.if-not-is_finished.true) in
     goes_inval _ _ old (closes_not s.closed s.opened k.0 k.1 c.args.frame k.2.opened none)
 
 pub overflow_add-size : goal.overflow_add-size
 overflow_add-size c =
-    let old : Held = held c.args.bytes.now c.args.frames.now in
+    let old : BuilderFields = fields_of c.args.bytes.now c.args.frames.now in
     let s = c.requires.0 in
     let at = c.requires.1 in
     let k = closing old s.closed s.opened c.in-Some.open at
@@ -42,7 +42,7 @@ overflow_add-size c =
 
 pub overflow_sub-size : goal.overflow_sub-size
 overflow_sub-size c =
-    let old : Held = held c.args.bytes.now c.args.frames.now in
+    let old : BuilderFields = fields_of c.args.bytes.now c.args.frames.now in
     let s = c.requires.0 in
     let at = c.requires.1 in
     let k = closing old s.closed s.opened c.in-Some.open at
@@ -53,7 +53,7 @@ overflow_sub-size c =
 
 pub overflow_cast-size : goal.overflow_cast-size
 overflow_cast-size c =
-    let old : Held = held c.args.bytes.now c.args.frames.now in
+    let old : BuilderFields = fields_of c.args.bytes.now c.args.frames.now in
     let s = c.requires.0 in
     let at = c.requires.1 in
     let k = closing old s.closed s.opened c.in-Some.open at
@@ -65,7 +65,7 @@ overflow_cast-size c =
 
 pub patch-requires : goal.patch-requires
 patch-requires c =
-    let old : Held = held c.args.bytes.now c.args.frames.now in
+    let old : BuilderFields = fields_of c.args.bytes.now c.args.frames.now in
     let s = c.requires.0 in
     let at = c.requires.1 in
     let k = closing old s.closed s.opened c.in-Some.open at
@@ -77,7 +77,7 @@ patch-requires c =
 
 pub pop-requires : goal.pop-requires
 pop-requires c =
-    let old : Held = held c.args.bytes.now c.args.frames.now in
+    let old : BuilderFields = fields_of c.args.bytes.now c.args.frames.now in
     let s = c.requires.0 in
     let at = c.requires.1 in
     let base = length (member_encodings s.closed) in
@@ -87,28 +87,28 @@ pop-requires c =
 
 pub returns-in_err-put_padding : goal.returns-in_err-put_padding
 returns-in_err-put_padding c s at =
-    let old : Held = held c.args.bytes.now c.args.frames.now in
+    let old : BuilderFields = fields_of c.args.bytes.now c.args.frames.now in
     let n : c.len.result ≡ length s.opened = c.len.ensures ∙ ap length at.frames
     ∙ length-frames_of (length (member_encodings s.closed)) s.opened in
     let k = closing old s.closed s.opened c.in-Some.open at
     (c.in-Some.ensures.last (length (member_encodings s.closed)) s.opened (at.frames)) in
-    let v = is_value (finished k.0) (sym (c.is_finished.ensures k.0 k.2.what)
+    let v = is_value (closed_value k.0) (sym (c.is_finished.ensures k.0 k.2.what)
     ∙ c.if-not-is_finished.false) in
     goes_nomem _ _ old _ c.from_residual.result
     (closes_is s.closed s.opened k.0 k.1 c.args.frame v.0 k.2.opened (c.if-frame-len.false ∙ n)
     v.1 k.2.takes) (is_nomem c.from_residual.result _ c.from_residual.ensures.1
     c.in_err-put_padding.ensures.memory)
-    (ap (λ l. held l c.args.frames.now) c.in_err-put_padding.ensures.unchanged)
+    (ap (λ l. fields_of l c.args.frames.now) c.in_err-put_padding.ensures.unchanged)
 
 pub returns : goal.returns
 returns c s at =
-    let old : Held = held c.args.bytes.now c.args.frames.now in
-    let new : Held = held c.patch.new.self c.fill.new.frames in
+    let old : BuilderFields = fields_of c.args.bytes.now c.args.frames.now in
+    let new : BuilderFields = fields_of c.patch.new.self c.fill.new.frames in
     let n : c.len.result ≡ length s.opened = c.len.ensures ∙ ap length at.frames
     ∙ length-frames_of (length (member_encodings s.closed)) s.opened in
     let k = closing old s.closed s.opened c.in-Some.open at
     (c.in-Some.ensures.last (length (member_encodings s.closed)) s.opened (at.frames)) in
-    let v = is_value (finished k.0) (sym (c.is_finished.ensures k.0 k.2.what)
+    let v = is_value (closed_value k.0) (sym (c.is_finished.ensures k.0 k.2.what)
     ∙ c.if-not-is_finished.false) in
     let front = member_encodings s.closed ++ all_so_far k.1 in
     let e : c.len-2.result ≡ length c.args.bytes.now = c.len-2.ensures in

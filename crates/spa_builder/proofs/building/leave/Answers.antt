@@ -1,6 +1,6 @@
 use Rattle.std.proofs.Common.{◌≡◌, length, ap, sym, ◌∙◌, arith}
 use Rattle.spa_format.specs.Encoding.{member_encodings}
-use Rattle.spa_builder.specs.Held.{Held, held, frames_of}
+use Rattle.spa_builder.specs.Fields.{BuilderFields, fields_of, frames_of}
 use Rattle.spa_builder.proofs.FrameLists.{length-frames_of}
 use Rattle.spa_builder.proofs.Leaving.{abandoned_is, abandoned_other, is_without, other_number}
 use Rattle.spa_builder.proofs.Steps.{closing, goes_inval, goes_ok}
@@ -8,7 +8,7 @@ use Rattle.spa_builder.proofs.building.leave.Goals as goal
 
 pub returns-then-len-frame : goal.returns-then-len-frame
 returns-then-len-frame c s at =
-    let old : Held = held c.args.bytes.now c.args.frames.now in
+    let old : BuilderFields = fields_of c.args.bytes.now c.args.frames.now in
     let n : c.len.result ≡ length s.opened = c.len.ensures ∙ ap length at.frames
     ∙ length-frames_of (length (member_encodings s.closed)) s.opened in
     goes_inval _ _ old (abandoned_other s.closed s.opened c.args.frame
@@ -16,7 +16,7 @@ returns-then-len-frame c s at =
 
 pub truncate-requires : goal.truncate-requires
 truncate-requires c =
-    let old : Held = held c.args.bytes.now c.args.frames.now in
+    let old : BuilderFields = fields_of c.args.bytes.now c.args.frames.now in
     let s = c.requires.0 in
     let at = c.requires.1 in
     let k = closing old s.closed s.opened c.in-Some.open at
@@ -26,7 +26,7 @@ truncate-requires c =
 
 pub pop-requires : goal.pop-requires
 pop-requires c =
-    let old : Held = held c.args.bytes.now c.args.frames.now in
+    let old : BuilderFields = fields_of c.args.bytes.now c.args.frames.now in
     let s = c.requires.0 in
     let at = c.requires.1 in
     let base = length (member_encodings s.closed) in
@@ -36,8 +36,8 @@ pop-requires c =
 
 pub returns : goal.returns
 returns c s at =
-    let old : Held = held c.args.bytes.now c.args.frames.now in
-    let new : Held = held c.truncate.new.self c.pop.new.self in
+    let old : BuilderFields = fields_of c.args.bytes.now c.args.frames.now in
+    let new : BuilderFields = fields_of c.truncate.new.self c.pop.new.self in
     let base = length (member_encodings s.closed) in
     let n : c.len.result ≡ length s.opened = c.len.ensures ∙ ap length at.frames
     ∙ length-frames_of base s.opened in

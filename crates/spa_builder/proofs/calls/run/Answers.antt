@@ -3,7 +3,7 @@ use Rattle.std.proofs.lemmas.List.{length-take-le}
 use Rattle.std.specs.Prelude.{is_ok, cond}
 use Rattle.spa_builder.specs.State.{State}
 use Rattle.spa_builder.specs.Step.{step}
-use Rattle.spa_builder.specs.Held.{IsAt}
+use Rattle.spa_builder.specs.Fields.{IsAt}
 use Rattle.spa_builder.specs.Answers.{Makes}
 use Rattle.spa_builder.specs.Replay.{call_of}
 use Rattle.spa_builder.proofs.Runs.{so_far_more, so_far_length, so_far_all}

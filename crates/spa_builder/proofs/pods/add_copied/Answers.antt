@@ -2,7 +2,7 @@ use Rattle.std.proofs.Common.{sym, ◌∙◌, subst, arith}
 use Rattle.std.proofs.lemmas.Bool.{false≢true}
 use Rattle.spa_format.specs.Typed.{IsBytes}
 use Rattle.spa_format.proofs.Unique.{one_value}
-use Rattle.spa_builder.specs.Held.{Held, held}
+use Rattle.spa_builder.specs.Fields.{BuilderFields, fields_of}
 use Rattle.spa_builder.specs.Step.{add, step}
 use Rattle.spa_builder.specs.Answers.{Makes}
 use Rattle.spa_builder.proofs.AtHand.{copied_step, found_bytes, found_size, own_pod}
@@ -11,8 +11,8 @@ use Rattle.spa_builder.proofs.pods.add_copied.Goals as goal
 
 pub returns-clause-makes : goal.returns-clause-makes
 returns-clause-makes c s v at p =
-    let old : Held = held c.args.bytes.now c.args.frames.now in
-    let new : Held = held c.add_encoding.new.bytes c.add_encoding.new.frames in
+    let old : BuilderFields = fields_of c.args.bytes.now c.args.frames.now in
+    let new : BuilderFields = fields_of c.add_encoding.new.bytes c.add_encoding.new.frames in
     let r = c.add_encoding.result in
     let b = c.args.pod.now in
     let l = c.requires.whole in
@@ -28,8 +28,8 @@ returns-clause-makes c s v at p =
 
 pub returns-clause-holds : goal.returns-clause-holds
 returns-clause-holds c =
-    let old : Held = held c.args.bytes.now c.args.frames.now in
-    let new : Held = held c.add_encoding.new.bytes c.add_encoding.new.frames in
+    let old : BuilderFields = fields_of c.args.bytes.now c.args.frames.now in
+    let new : BuilderFields = fields_of c.add_encoding.new.bytes c.add_encoding.new.frames in
     let r = c.add_encoding.result in
     let b = c.args.pod.now in
     let l = c.requires.whole in

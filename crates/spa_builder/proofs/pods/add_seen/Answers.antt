@@ -3,7 +3,7 @@ use Rattle.spa_format.specs.Encoding.{member_encodings}
 use Rattle.spa_format.specs.Pod.{IsPod}
 use Rattle.spa_format.specs.Words.{word_at}
 use Rattle.spa_view.specs.View.{pod_bytes}
-use Rattle.spa_builder.specs.Held.{Held, held}
+use Rattle.spa_builder.specs.Fields.{BuilderFields, fields_of}
 use Rattle.spa_builder.specs.Answers.{IsCopied}
 use Rattle.spa_builder.proofs.AtHand.{added_value, is_nowhere, is_somewhere, looked_into, out_of_place, own_pod}
 use Rattle.spa_builder.proofs.Valued.{made_value, misplaced}
@@ -13,7 +13,7 @@ pub returns-then-not-takes_type-clause-makes : goal.returns-then-not-takes_type-
 returns-then-not-takes_type-clause-makes c s at =
     let base = length (member_encodings s.closed) in
     let inner = c.innermost-innermost.ensures.last base s.opened at.frames in
-    out_of_place s (pod_bytes c.args.pod.now) (held c.args.bytes.now c.args.frames.now)
+    out_of_place s (pod_bytes c.args.pod.now) (fields_of c.args.bytes.now c.args.frames.now)
     (λ v t. is_nowhere _ (sym c.if-not-takes_type.true
     ∙ c.takes_type.ensures base s.closed s.opened v inner (sym (c.type_.ensures ∙ t))))
 
@@ -21,7 +21,7 @@ pub returns-then-not-takes_type-clause-copied : goal.returns-then-not-takes_type
 returns-then-not-takes_type-clause-copied c s v at k =
     let base = length (member_encodings s.closed) in
     let inner = c.innermost-innermost.ensures.last base s.opened at.frames in
-    misplaced s v (held c.args.bytes.now c.args.frames.now) (is_nowhere _
+    misplaced s v (fields_of c.args.bytes.now c.args.frames.now) (is_nowhere _
     (sym c.if-not-takes_type.true ∙ c.takes_type.ensures base s.closed s.opened v inner
     (sym (c.type_.ensures ∙ k.pod.its_type))))
 
@@ -42,8 +42,8 @@ add_copied-requires-clause-place c s at =
 
 pub returns-in_default-clause-makes : goal.returns-in_default-clause-makes
 returns-in_default-clause-makes c s at =
-    let old : Held = held c.args.bytes.now c.args.frames.now in
-    let new : Held = held c.add_copied.new.bytes c.add_copied.new.frames in
+    let old : BuilderFields = fields_of c.args.bytes.now c.args.frames.now in
+    let new : BuilderFields = fields_of c.add_copied.new.bytes c.add_copied.new.frames in
     let r = c.add_copied.result in
     let b = c.whole_bytes-whole.result.now in
     let k = c.in_default.ensures.taken in

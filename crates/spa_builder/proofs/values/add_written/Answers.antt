@@ -4,7 +4,7 @@ use Rattle.spa_format.specs.Tree.{type_of}
 use Rattle.spa_format.proofs.Back.{body_fits}
 use Rattle.spa_format.specs.Encoding.{encoded_body, encoding_of, member_encodings}
 use Rattle.spa_value.specs.View.{view}
-use Rattle.spa_builder.specs.Held.{Held, held}
+use Rattle.spa_builder.specs.Fields.{BuilderFields, fields_of}
 use Rattle.spa_builder.specs.Step.{takes_trees}
 use Rattle.spa_builder.specs.Innermost.{has_room_for}
 use Rattle.spa_builder.proofs.Lengths.{length-framed}
@@ -16,12 +16,12 @@ use Rattle.spa_builder.proofs.values.add_written.Goals as goal
 pub has_room-requires-clause-within : goal.has_room-requires-clause-within
 has_room-requires-clause-within c =
     let h = c.requires.holds in
-    let r = has_its_room (held c.args.bytes.now c.args.frames.now) h.0 h.1 in
+    let r = has_its_room (fields_of c.args.bytes.now c.args.frames.now) h.0 h.1 in
     (r.0, r.1, r.2, c.len-had.ensures ∙ r.3, r.4)
 
 pub returns-then-not-takes_trees : goal.returns-then-not-takes_trees
 returns-then-not-takes_trees c s at =
-    let old : Held = held c.args.bytes.now c.args.frames.now in
+    let old : BuilderFields = fields_of c.args.bytes.now c.args.frames.now in
     let v = view c.args.value.now in
     let t : takes_trees s.opened ≡ false = sym (c.takes_trees.ensures
     (length (member_encodings s.closed)) s.opened
@@ -32,15 +32,15 @@ returns-then-not-takes_trees c s at =
 
 pub returns-in_err-len : goal.returns-in_err-len
 returns-in_err-len c s at =
-    let old : Held = held c.args.bytes.now c.args.frames.now in
+    let old : BuilderFields = fields_of c.args.bytes.now c.args.frames.now in
     let v = view c.args.value.now in
     let base = length (member_encodings s.closed) in
     let inner = c.innermost-innermost.ensures.last base s.opened at.frames in
     let t : takes_trees s.opened ≡ true = sym (c.takes_trees.ensures base s.opened inner)
     ∙ c.if-not-takes_trees.false in
-    value_refused s v old (held c.put_value.new.bytes c.args.frames.now) c.from_residual.result _ t
+    value_refused s v old (fields_of c.put_value.new.bytes c.args.frames.now) c.from_residual.result _ t
     (passed _ _ c.from_residual.ensures.1)
-    (ap (λ l. held l c.args.frames.now) c.in_err-len.ensures.unchanged) c.in_err-len.ensures.refused
+    (ap (λ l. fields_of l c.args.frames.now) c.in_err-len.ensures.unchanged) c.in_err-len.ensures.refused
 
 pub has_room-requires-clause-more : goal.has_room-requires-clause-more
 has_room-requires-clause-more c =
@@ -52,8 +52,8 @@ has_room-requires-clause-more c =
 
 pub returns-then-not-has_room : goal.returns-then-not-has_room
 returns-then-not-has_room c s at =
-    let old : Held = held c.args.bytes.now c.args.frames.now in
-    let new : Held = held c.truncate.new.self c.args.frames.now in
+    let old : BuilderFields = fields_of c.args.bytes.now c.args.frames.now in
+    let new : BuilderFields = fields_of c.truncate.new.self c.args.frames.now in
     let v = view c.args.value.now in
     let base = length (member_encodings s.closed) in
     let inner = c.innermost-innermost.ensures.last base s.opened at.frames in
@@ -67,12 +67,12 @@ returns-then-not-has_room c s at =
     ∙ ap (take (length c.args.bytes.now)) c.in_ok-len.ensures.put
     ∙ take_at c.args.bytes.now (encoding_of v) (length c.args.bytes.now) refl in
     made_value s v old new _
-    (value_beyond s v old new at t w room (ap (λ l. held l c.args.frames.now) same))
+    (value_beyond s v old new at t w room (ap (λ l. fields_of l c.args.frames.now) same))
 
 pub returns : goal.returns
 returns c s at =
-    let old : Held = held c.args.bytes.now c.args.frames.now in
-    let new : Held = held c.put_value.new.bytes c.fill.new.frames in
+    let old : BuilderFields = fields_of c.args.bytes.now c.args.frames.now in
+    let new : BuilderFields = fields_of c.put_value.new.bytes c.fill.new.frames in
     let v = view c.args.value.now in
     let base = length (member_encodings s.closed) in
     let inner = c.innermost-innermost.ensures.last base s.opened at.frames in

@@ -55,7 +55,7 @@ fn inside(event: Event, index: usize) -> Level {
     }
 }
 
-/// Whether pods lie inside: it is a struct, or an object whose size has room for its type and id.
+/// Whether the pod holds pods: it is a struct, or an object whose size has room for its type and id.
 fn holds_pods(event: Event) -> bool {
     match SpaTypes(event.type_) {
         SpaTypes::Struct => true,

@@ -1,4 +1,4 @@
-//! The pods of objects at the fronts of inputs, as they are written.
+//! The canonical pods of objects at the fronts of inputs.
 
 use crate::shims::prelude::*;
 use crate::parts::spa_object_view::object_view::ObjectView;
@@ -7,11 +7,11 @@ use crate::parts::spa_fixed_sized::DeserializeError;
 use crate::parts::spa_rewrite::{Rejected, canonical_front, look_at_pod, rewrite};
 use crate::parts::spa_utils::SpaTypes;
 
-/// The pod of an object at the front of an input, as it is written.
+/// The canonical pod of the object at the front of an input.
 pub enum ObjectPod<'a> {
-    /// The front is canonical, and lies here.
-    Lying(&'a [u8]),
-    /// It isn't, or nests too deep to be looked into: this is its rewriting.
+    /// The front itself, which is canonical.
+    Borrowed(&'a [u8]),
+    /// The rewriting of the front, which isn't canonical or nests too deep to be looked into.
     Rewritten(Vec<u8>),
 }
 
@@ -19,7 +19,7 @@ impl ObjectPod<'_> {
     /// The bytes of the pod.
     pub fn bytes(&self) -> &[u8] {
         match self {
-            ObjectPod::Lying(pod) => pod,
+            ObjectPod::Borrowed(pod) => pod,
             ObjectPod::Rewritten(bytes) => bytes.as_slice(),
         }
     }
@@ -36,8 +36,8 @@ pub enum NoObject {
     OutOfMemory,
 }
 
-/// The pod of the object at the front of the input, as it is written. Memory is asked for only where the front isn't canonical,
-/// or structs and objects stand more than 1000 deep in one another.
+/// The canonical pod of the object at the front of the input. Memory is asked for only where the front isn't canonical, or structs and objects
+/// nest more than 1000 deep.
 pub fn object_pod(input: &[u8]) -> Result<ObjectPod<'_>, NoObject> {
     let Some(front) = open(input) else {
         return Err(NoObject::Unread);
@@ -47,7 +47,7 @@ pub fn object_pod(input: &[u8]) -> Result<ObjectPod<'_>, NoObject> {
     }
     if let Some(rest) = canonical_front(input) {
         let (pod, _) = input.split_at(input.len() - rest.len());
-        return Ok(ObjectPod::Lying(pod));
+        return Ok(ObjectPod::Borrowed(pod));
     }
     let bytes = rewritten(input)?;
     Ok(ObjectPod::Rewritten(bytes))
@@ -62,8 +62,8 @@ fn rewritten(input: &[u8]) -> Result<Vec<u8>, NoObject> {
     }
 }
 
-/// What a front of another type than an object's is. Memory is asked for only where structs stand more than 1000 deep in one another, not counting
-/// those that end where the one around them does.
+/// Why a front of another type than an object's is refused. Memory is asked for only where structs nest more than 1000 deep, not counting those in
+/// tail position.
 #[inline(never)]
 fn no_object(input: &[u8]) -> NoObject {
     match look_at_pod(input) {

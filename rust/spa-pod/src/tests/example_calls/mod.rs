@@ -5,6 +5,6 @@ mod agreeing;
 mod meeting;
 mod video;
 
-pub use agreeing::agreed;
+pub use agreeing::{agreed, agreed_rate};
 pub use meeting::negotiate_by_values;
 pub use video::{VideoFormat, format_pod, read_format, sent};

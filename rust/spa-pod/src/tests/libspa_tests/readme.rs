@@ -6,7 +6,7 @@ use crate::tests::libspa_tests::readme::fixate::settle;
 use crate::tests::libspa_tests::readme::look::sample_rate;
 use crate::tests::libspa_tests::readme::look_up::channels;
 use crate::tests::libspa_tests::readme::read::count;
-use crate::tests::libspa_tests::readme::result_codes::told;
+use crate::tests::libspa_tests::readme::result_codes::outcome_of;
 use crate::tests::libspa_tests::readme::rewrite::{all_rewritten, say_the_same};
 use crate::tests::libspa_tests::readme::write::{encoded_int, encoded_pair};
 use crate::shims::memory::AllocError;
@@ -115,7 +115,7 @@ mod result_codes {
     use crate::parts::libspa::utils::result::{SpaResult, SpaSuccess};
 
     /// What a result code says.
-    pub fn told(code: i32) -> &'static str {
+    pub fn outcome_of(code: i32) -> &'static str {
         match SpaResult::from_c(code).into_result() {
             Ok(SpaSuccess::Sync(_)) => "done",
             Ok(SpaSuccess::Async(_)) => "done later",
@@ -327,6 +327,6 @@ fn codes() -> &'static [(i32, &'static str)] {
 #[test]
 fn tells() {
     for (code, wanted) in codes() {
-        assert_holds(told(*code) == *wanted, wanted);
+        assert_holds(outcome_of(*code) == *wanted, wanted);
     }
 }

@@ -4,10 +4,11 @@
 //! - `negotiate`: what they meet in, in two lines: by `negotiate_pods`, and by way of values;
 //! - `filter_pods` and `filter`: what they are filtered to, from bytes to bytes, and by way of values;
 //! - `agree`: that on which they agree, with what is left to choose fixated;
+//! - `rate`: the sample rate on which they agree by `negotiate_pods`;
 //! - `settle`: what the one pod settles to;
 //! - `format`: behind the rows, each such pod is filtered with each, and what comes is settled.
 use crate::shims::prelude::*;
-use crate::tests::example_calls::{agreed, negotiate_by_values};
+use crate::tests::example_calls::{agreed, agreed_rate, negotiate_by_values};
 use crate::parts::spa_filter::{Side, filter, settle};
 use crate::parts::spa_filter_pods::{FilterError, filter_pods};
 use crate::parts::spa_fixed_sized::Refusal;
@@ -47,6 +48,7 @@ fn answer_row(row: &str, answers: &mut String) -> io::Result<()> {
         "filter_pods" => push_both(answers, label, through_pods(a, b))?,
         "filter" => push_both(answers, label, through_values(a, b))?,
         "agree" => push_both(answers, label, agreement(a, b))?,
+        "rate" => push_rates(answers, label, rates(a, b))?,
         "settle" => push_settled(answers, label, settled(a))?,
         _ => (),
     }
@@ -126,6 +128,35 @@ fn push_met(
     }
 }
 
+/// A sample rate in the one order and in the other.
+type Rates = (
+    Result<Option<i32>, NegotiateError>,
+    Result<Option<i32>, NegotiateError>,
+);
+
+/// Appends the line of a sample rate.
+fn push_rates(answers: &mut String, label: &str, rates: Rates) -> Result<(), AllocError> {
+    let (there, back) = rates;
+    write!(answers, "{label}:")?;
+    push_rate(answers, there)?;
+    answers.try_push_str(" |")?;
+    push_rate(answers, back)?;
+    answers.try_push_str("\n")
+}
+
+/// Appends a sample rate, the word `none`, or the refusal.
+fn push_rate(
+    answers: &mut String,
+    answer: Result<Option<i32>, NegotiateError>,
+) -> Result<(), AllocError> {
+    match answer {
+        Ok(Some(rate)) => write!(answers, " {rate}"),
+        Ok(None) => answers.try_push_str(" none"),
+        Err(NegotiateError::OutOfMemory) => Err(AllocError),
+        Err(refusal) => write!(answers, " {refusal:?}"),
+    }
+}
+
 /// Appends the line of two pods that are filtered.
 fn push_both(answers: &mut String, label: &str, both: Both<FilterError>) -> Result<(), AllocError> {
     let (there, back) = both;
@@ -180,6 +211,11 @@ fn through_pods(a: &[u8], b: &[u8]) -> Both<FilterError> {
 /// That on which two pods agree.
 fn agreement(a: &[u8], b: &[u8]) -> Both<FilterError> {
     (agreed(a, b), agreed(b, a))
+}
+
+/// The sample rate on which two pods agree.
+fn rates(a: &[u8], b: &[u8]) -> Rates {
+    (agreed_rate(a, b), agreed_rate(b, a))
 }
 
 /// What two pods are filtered to, by way of values.

@@ -194,7 +194,7 @@ mod by_value {
     use crate::parts::spa_value::Object;
     use crate::{object, property};
 
-    /// The same format as a value.
+    /// The video format as a value.
     pub fn format_object() -> Result<Object, Errno> {
         object!(
             SpaTypes(types::OBJECT_FORMAT),

@@ -60,7 +60,7 @@ fn answer<'de, P: PodDeserialize<'de> + PodSerialize + Debug>(
     }
 }
 
-/// The same of a list, which is written as a slice.
+/// The answer of a read of a list, which is written again as a slice.
 fn list_answer<'de, T: ArrayElement + WrittenElement + Debug>(
     input: &'de [u8],
 ) -> Result<String, AllocError> {
@@ -74,7 +74,7 @@ fn list_answer<'de, T: ArrayElement + WrittenElement + Debug>(
     }
 }
 
-/// The same of a type of fixed size that has bytes, of a list of it and of a choice over it.
+/// The answer of a read of a type of fixed size that has bytes, of a list of it, or of a choice over it.
 fn kind_answer<'de, T: PodDeserialize<'de> + ArrayElement + WrittenElement + ChoiceElement + Debug>(
     form: Form,
     input: &'de [u8],

@@ -1,7 +1,7 @@
 //! What the library's visitors answer to a struct and to an object. They are calls from number 60 on.
 
 use crate::shims::prelude::*;
-use crate::tests::spa_typed_tests::reading::visitors::{Answer, answered, told};
+use crate::tests::spa_typed_tests::reading::visitors::{Answer, answered, as_answer};
 use crate::parts::spa_fixed_sized::DeserializeError;
 use crate::parts::spa_typed_read::{DeserializeSuccess, PodDeserializer};
 use crate::parts::spa_visitors::{
@@ -18,12 +18,12 @@ pub(crate) fn number_visitor<'de, const CALL: u8>(
     deserializer: PodDeserializer<'de>,
 ) -> Result<(Answer<CALL>, DeserializeSuccess<'de>), DeserializeError<&'de [u8]>> {
     match CALL {
-        60 => told(deserializer.deserialize_struct(NoneVisitor)),
-        61 => told(deserializer.deserialize_struct(BoolVisitor)),
-        62 => told(deserializer.deserialize_struct(IdVisitor)),
-        63 => told(deserializer.deserialize_struct(IntVisitor)),
-        64 => told(deserializer.deserialize_struct(LongVisitor)),
-        65 => told(deserializer.deserialize_struct(FloatVisitor)),
+        60 => as_answer(deserializer.deserialize_struct(NoneVisitor)),
+        61 => as_answer(deserializer.deserialize_struct(BoolVisitor)),
+        62 => as_answer(deserializer.deserialize_struct(IdVisitor)),
+        63 => as_answer(deserializer.deserialize_struct(IntVisitor)),
+        64 => as_answer(deserializer.deserialize_struct(LongVisitor)),
+        65 => as_answer(deserializer.deserialize_struct(FloatVisitor)),
         _ => other_visitor::<CALL>(deserializer),
     }
 }
@@ -33,12 +33,12 @@ fn other_visitor<'de, const CALL: u8>(
     deserializer: PodDeserializer<'de>,
 ) -> Result<(Answer<CALL>, DeserializeSuccess<'de>), DeserializeError<&'de [u8]>> {
     match CALL {
-        66 => told(deserializer.deserialize_struct(DoubleVisitor)),
-        67 => told(deserializer.deserialize_struct(RectangleVisitor)),
-        68 => told(deserializer.deserialize_struct(FractionVisitor)),
-        69 => told(deserializer.deserialize_struct(FdVisitor)),
-        70 => told(deserializer.deserialize_struct(StringVisitor)),
-        71 => told(deserializer.deserialize_struct(BytesVisitor)),
+        66 => as_answer(deserializer.deserialize_struct(DoubleVisitor)),
+        67 => as_answer(deserializer.deserialize_struct(RectangleVisitor)),
+        68 => as_answer(deserializer.deserialize_struct(FractionVisitor)),
+        69 => as_answer(deserializer.deserialize_struct(FdVisitor)),
+        70 => as_answer(deserializer.deserialize_struct(StringVisitor)),
+        71 => as_answer(deserializer.deserialize_struct(BytesVisitor)),
         _ => content_visitor::<CALL>(deserializer),
     }
 }
@@ -48,14 +48,14 @@ fn content_visitor<'de, const CALL: u8>(
     deserializer: PodDeserializer<'de>,
 ) -> Result<(Answer<CALL>, DeserializeSuccess<'de>), DeserializeError<&'de [u8]>> {
     match CALL {
-        72 => told(deserializer.deserialize_struct(BitmapVisitor)),
-        73 => told(deserializer.deserialize_struct(PointerVisitor)),
-        74 => told(
+        72 => as_answer(deserializer.deserialize_struct(BitmapVisitor)),
+        73 => as_answer(deserializer.deserialize_struct(PointerVisitor)),
+        74 => as_answer(
             deserializer.deserialize_struct(VecVisitor::<i32>::default()),
         ),
-        75 => told(deserializer.deserialize_struct(ChoiceBoolVisitor)),
-        76 => told(deserializer.deserialize_struct(ChoiceIdVisitor)),
-        77 => told(deserializer.deserialize_struct(ChoiceIntVisitor)),
+        75 => as_answer(deserializer.deserialize_struct(ChoiceBoolVisitor)),
+        76 => as_answer(deserializer.deserialize_struct(ChoiceIdVisitor)),
+        77 => as_answer(deserializer.deserialize_struct(ChoiceIntVisitor)),
         _ => choice_visitor::<CALL>(deserializer),
     }
 }
@@ -65,31 +65,31 @@ fn choice_visitor<'de, const CALL: u8>(
     deserializer: PodDeserializer<'de>,
 ) -> Result<(Answer<CALL>, DeserializeSuccess<'de>), DeserializeError<&'de [u8]>> {
     match CALL {
-        78 => told(deserializer.deserialize_struct(ChoiceLongVisitor)),
-        79 => told(deserializer.deserialize_struct(ChoiceFloatVisitor)),
-        80 => told(deserializer.deserialize_struct(ChoiceDoubleVisitor)),
-        81 => told(
+        78 => as_answer(deserializer.deserialize_struct(ChoiceLongVisitor)),
+        79 => as_answer(deserializer.deserialize_struct(ChoiceFloatVisitor)),
+        80 => as_answer(deserializer.deserialize_struct(ChoiceDoubleVisitor)),
+        81 => as_answer(
             deserializer.deserialize_struct(ChoiceRectangleVisitor),
         ),
-        82 => told(
+        82 => as_answer(
             deserializer.deserialize_struct(ChoiceFractionVisitor),
         ),
-        83 => told(deserializer.deserialize_struct(ChoiceFdVisitor)),
+        83 => as_answer(deserializer.deserialize_struct(ChoiceFdVisitor)),
         _ => object_visitor::<CALL>(deserializer),
     }
 }
 
-/// Some of each sort, which are lent an object.
+/// Calls of four visitors that decline an object.
 fn object_visitor<'de, const CALL: u8>(
     deserializer: PodDeserializer<'de>,
 ) -> Result<(Answer<CALL>, DeserializeSuccess<'de>), DeserializeError<&'de [u8]>> {
     match CALL {
-        84 => told(deserializer.deserialize_object(IntVisitor)),
-        85 => told(deserializer.deserialize_object(StringVisitor)),
-        86 => told(
+        84 => as_answer(deserializer.deserialize_object(IntVisitor)),
+        85 => as_answer(deserializer.deserialize_object(StringVisitor)),
+        86 => as_answer(
             deserializer.deserialize_object(VecVisitor::<i32>::default()),
         ),
-        _ => told(deserializer.deserialize_object(ChoiceIntVisitor)),
+        _ => as_answer(deserializer.deserialize_object(ChoiceIntVisitor)),
     }
 }
 

@@ -65,12 +65,12 @@ pub(crate) fn device_said(input: &[u8]) -> Result<String, AllocError> {
         input,
     );
     match read {
-        Ok((_, device)) => told(device.name, device.volume),
+        Ok((_, device)) => device_text(device.name, device.volume),
         Err(error) => refused(error),
     }
 }
 
-fn told(name: &str, volume: Float32) -> Result<String, AllocError> {
+fn device_text(name: &str, volume: Float32) -> Result<String, AllocError> {
     crate::try_format!("{name} {}", volume.0)
 }
 

@@ -23,7 +23,7 @@ use crate::tests::test_bytes::bytes_of;
 pub(crate) struct Answer<const CALL: u8>(String);
 
 /// What a call's visitor made, as a text, and the rest that the call leaves; or the call's refusal.
-pub(crate) fn told<'de, T: Debug, const CALL: u8>(
+pub(crate) fn as_answer<'de, T: Debug, const CALL: u8>(
     read: Result<(T, DeserializeSuccess<'de>), DeserializeError<&'de [u8]>>,
 ) -> Result<(Answer<CALL>, DeserializeSuccess<'de>), DeserializeError<&'de [u8]>> {
     let (made, success) = read?;
@@ -38,11 +38,11 @@ fn number_call<'de, const CALL: u8>(
     deserializer: PodDeserializer<'de>,
 ) -> Result<(Answer<CALL>, DeserializeSuccess<'de>), DeserializeError<&'de [u8]>> {
     match CALL {
-        1 => told(deserializer.deserialize_none(NoneVisitor)),
-        2 => told(deserializer.deserialize_bool(BoolVisitor)),
-        3 => told(deserializer.deserialize_id(IdVisitor)),
-        4 => told(deserializer.deserialize_int(IntVisitor)),
-        5 => told(deserializer.deserialize_long(LongVisitor)),
+        1 => as_answer(deserializer.deserialize_none(NoneVisitor)),
+        2 => as_answer(deserializer.deserialize_bool(BoolVisitor)),
+        3 => as_answer(deserializer.deserialize_id(IdVisitor)),
+        4 => as_answer(deserializer.deserialize_int(IntVisitor)),
+        5 => as_answer(deserializer.deserialize_long(LongVisitor)),
         _ => pair_call::<CALL>(deserializer),
     }
 }
@@ -52,11 +52,11 @@ fn pair_call<'de, const CALL: u8>(
     deserializer: PodDeserializer<'de>,
 ) -> Result<(Answer<CALL>, DeserializeSuccess<'de>), DeserializeError<&'de [u8]>> {
     match CALL {
-        6 => told(deserializer.deserialize_float(FloatVisitor)),
-        7 => told(deserializer.deserialize_double(DoubleVisitor)),
-        10 => told(deserializer.deserialize_rectangle(RectangleVisitor)),
-        11 => told(deserializer.deserialize_fraction(FractionVisitor)),
-        18 => told(deserializer.deserialize_fd(FdVisitor)),
+        6 => as_answer(deserializer.deserialize_float(FloatVisitor)),
+        7 => as_answer(deserializer.deserialize_double(DoubleVisitor)),
+        10 => as_answer(deserializer.deserialize_rectangle(RectangleVisitor)),
+        11 => as_answer(deserializer.deserialize_fraction(FractionVisitor)),
+        18 => as_answer(deserializer.deserialize_fd(FdVisitor)),
         _ => plain_call::<CALL>(deserializer),
     }
 }
@@ -66,14 +66,14 @@ fn plain_call<'de, const CALL: u8>(
     deserializer: PodDeserializer<'de>,
 ) -> Result<(Answer<CALL>, DeserializeSuccess<'de>), DeserializeError<&'de [u8]>> {
     match CALL {
-        8 => told(deserializer.deserialize_str(StringVisitor)),
-        9 => told(deserializer.deserialize_bytes(BytesVisitor)),
-        12 => told(deserializer.deserialize_bitmap(BitmapVisitor)),
-        13 => told(
+        8 => as_answer(deserializer.deserialize_str(StringVisitor)),
+        9 => as_answer(deserializer.deserialize_bytes(BytesVisitor)),
+        12 => as_answer(deserializer.deserialize_bitmap(BitmapVisitor)),
+        13 => as_answer(
             deserializer.deserialize_array(VecVisitor::<i32>::default()),
         ),
-        17 => told(deserializer.deserialize_pointer(PointerVisitor)),
-        19 => told(deserializer.deserialize_choice(ChoiceIntVisitor)),
+        17 => as_answer(deserializer.deserialize_pointer(PointerVisitor)),
+        19 => as_answer(deserializer.deserialize_choice(ChoiceIntVisitor)),
         _ => value_call::<CALL>(deserializer),
     }
 }
@@ -83,18 +83,18 @@ fn value_call<'de, const CALL: u8>(
     deserializer: PodDeserializer<'de>,
 ) -> Result<(Answer<CALL>, DeserializeSuccess<'de>), DeserializeError<&'de [u8]>> {
     match CALL {
-        14 => told(
+        14 => as_answer(
             deserializer.deserialize_struct(ValueVisitor {}),
         ),
-        15 => told(
+        15 => as_answer(
             deserializer.deserialize_object(ValueVisitor {}),
         ),
-        20 => told(
+        20 => as_answer(
             deserializer.deserialize_choice(ValueVisitor {}),
         ),
-        21 => told(deserializer.deserialize_int(BoolVisitor)),
-        22 => told(deserializer.deserialize_struct(TellingVisitor)),
-        23 => told(deserializer.deserialize_object(TellingVisitor)),
+        21 => as_answer(deserializer.deserialize_int(BoolVisitor)),
+        22 => as_answer(deserializer.deserialize_struct(TellingVisitor)),
+        23 => as_answer(deserializer.deserialize_object(TellingVisitor)),
         _ => choice_call::<CALL>(deserializer),
     }
 }
@@ -104,27 +104,27 @@ fn choice_call<'de, const CALL: u8>(
     deserializer: PodDeserializer<'de>,
 ) -> Result<(Answer<CALL>, DeserializeSuccess<'de>), DeserializeError<&'de [u8]>> {
     match CALL {
-        42 => told(deserializer.deserialize_choice(ChoiceBoolVisitor)),
-        43 => told(deserializer.deserialize_choice(ChoiceIdVisitor)),
-        45 => told(deserializer.deserialize_choice(ChoiceLongVisitor)),
-        46 => told(deserializer.deserialize_choice(ChoiceFloatVisitor)),
-        47 => told(deserializer.deserialize_choice(ChoiceDoubleVisitor)),
+        42 => as_answer(deserializer.deserialize_choice(ChoiceBoolVisitor)),
+        43 => as_answer(deserializer.deserialize_choice(ChoiceIdVisitor)),
+        45 => as_answer(deserializer.deserialize_choice(ChoiceLongVisitor)),
+        46 => as_answer(deserializer.deserialize_choice(ChoiceFloatVisitor)),
+        47 => as_answer(deserializer.deserialize_choice(ChoiceDoubleVisitor)),
         _ => paired_call::<CALL>(deserializer),
     }
 }
 
-/// The same for pairs of numbers and file descriptors.
+/// The calls for choices over pairs of numbers and over file descriptors.
 fn paired_call<'de, const CALL: u8>(
     deserializer: PodDeserializer<'de>,
 ) -> Result<(Answer<CALL>, DeserializeSuccess<'de>), DeserializeError<&'de [u8]>> {
     match CALL {
-        50 => told(
+        50 => as_answer(
             deserializer.deserialize_choice(ChoiceRectangleVisitor),
         ),
-        51 => told(
+        51 => as_answer(
             deserializer.deserialize_choice(ChoiceFractionVisitor),
         ),
-        58 => told(deserializer.deserialize_choice(ChoiceFdVisitor)),
+        58 => as_answer(deserializer.deserialize_choice(ChoiceFdVisitor)),
         _ => number_visitor::<CALL>(deserializer),
     }
 }
@@ -147,7 +147,7 @@ pub(crate) fn answered<const CALL: u8>(input: &[u8]) -> Result<String, AllocErro
     }
 }
 
-/// The same, for a number that is known when it runs.
+/// What the call of a number answers that is known only when the test runs, or its refusal's name.
 pub(crate) fn called(call: u8, input: &[u8]) -> Result<String, AllocError> {
     match call {
         1 => answered::<1>(input),

@@ -12,12 +12,13 @@ use Rattle.spa_builder.specs.declared.begun.Elements.{Elements}
 use Rattle.spa_builder.specs.declared.begun.Stage.TheVariants.{Struct, Property, Object, Array, Choice}
 
 -- the fields of a builder: its bytes and its frames
-pub record Held : Type 0 where
+pub record BuilderFields : Type 0 where
   pub bytes : List ℕ
   pub frames : List BegunPod
 
-abbrev pub held : List ℕ → List BegunPod → Held
-held bytes frames = record { bytes = bytes; frames = frames }
+-- the fields of a builder of these bytes and frames
+abbrev pub fields_of : List ℕ → List BegunPod → BuilderFields
+fields_of bytes frames = record { bytes = bytes; frames = frames }
 
 -- the type number of the first element
 abbrev pub first_type : List Fixed → Option ℕ
@@ -36,6 +37,7 @@ what_of (open_property t i ps k f) = record { stage = Property; elements = no_el
 what_of (open_array xs) = record { stage = Array; elements = record { shape = 0; first = first_type xs; count = 0 } }
 what_of (open_choice h f xs) = record { stage = Choice; elements = record { shape = shape_number h; first = first_type xs; count = min 4 (length xs) } }
 
+-- the type number of an open tree
 abbrev pub type_of_partial : Partial → ℕ
 type_of_partial (open_struct vs) = struct_type
 type_of_partial (open_object t i ps) = object_type
@@ -55,6 +57,7 @@ body_so_far (open_choice h f xs) = word_bytes (shape_number h) ++ (word_bytes f 
 abbrev pub so_far : Partial → List ℕ
 so_far p = word_bytes 0 ++ (word_bytes (type_of_partial p) ++ body_so_far p)
 
+-- the bytes of these open trees so far, the outermost first
 abbrev pub all_so_far : List Partial → List ℕ
 all_so_far [] = []
 all_so_far (p ∷ ps) = all_so_far ps ++ so_far p
@@ -64,7 +67,7 @@ abbrev pub frames_of : ℕ → List Partial → List BegunPod
 frames_of base [] = []
 frames_of base (p ∷ ps) = frames_of base ps ++ (record { start = base + length (all_so_far ps); what = what_of p }) ∷ []
 
--- elements of kind None have no bytes
+-- an open array of None has no bytes of elements
 abbrev pub IsFair : Partial → Type 0
 IsFair (open_array xs) = child_kind xs ≡ none_kind → fixed_bodies xs ≡ []
 IsFair p = Unit {0}
@@ -76,11 +79,12 @@ IsNested (p ∷ ps) = IsFair p × IsTrue (takes_trees ps) × IsNested ps
 
 -- The builder is at this state: its bytes are the encodings of the closed values and the bytes of each open tree so far, and the frames are those
 -- of the open trees.
-pub record IsAt (held : Held) (s : State) : Type 0 where
-  pub bytes : held.bytes ≡ member_encodings s.closed ++ all_so_far s.opened
-  pub frames : held.frames ≡ frames_of (length (member_encodings s.closed)) s.opened
+pub record IsAt (builder : BuilderFields) (s : State) : Type 0 where
+  pub bytes : builder.bytes ≡ member_encodings s.closed ++ all_so_far s.opened
+  pub frames : builder.frames ≡ frames_of (length (member_encodings s.closed)) s.opened
   pub nested : IsNested s.opened
   pub fit : IsTrue (all_fit 0 s.opened)
 
-abbrev pub IsHeld : Held → Type 0
-IsHeld held = (s : State) × IsAt held s
+-- the builder is at one of the states
+abbrev pub HasState : BuilderFields → Type 0
+HasState builder = (s : State) × IsAt builder s

@@ -1,6 +1,8 @@
 -- What a numeral says.
-use Rattle.std.proofs.Common.{◌≡◌, ℕ, ◌<◌, ◌^◌, List, length, Bool, true, false, refl, arith, subst}
+use Rattle.std.proofs.Common.{◌≡◌, ℕ, ◌<◌, ◌==◌, ◌^◌, List, ◌∷◌, length, Bool, true, false, refl, arith, subst}
 use Rattle.std.specs.Prelude.{ℤ, Some, None, nat_lt}
+use Rattle.std.specs.Char.{is_ascii_digit}
+use Rattle.std.proofs.lemmas.Bool.Decides.{nat_tests}
 use Rattle.std.specs.Int.Signed.{mag}
 use Rattle.std.specs.Str.{all_ascii_digits}
 use Rattle.std.specs.Str.Parse.{IsNumeral, digits_value, signed_digits_value, without_leading_plus, without_leading_sign}
@@ -39,6 +41,14 @@ pub unsigned_none : (s : List ℕ) → (IsNumeral 10 (without_leading_plus s) �
 unfolding unsigned
 unsigned_none s h =
     where_not _ _ (λ b. h (are_digits-numeral _ (first_so _ _ b)) (below _ _ (second_so (are_digits (without_leading_plus s)) _ b)))
+
+-- a text that begins with a byte above the digits is no number
+pub no_number : (x : ℕ) (xs : List ℕ) → 57 < x → unsigned (x ∷ xs) ≡ None
+unfolding unsigned
+no_number x xs above =
+    let p : (x == 43) ≡ false = grind (arith, nat_tests, above) in
+    let d : is_ascii_digit x ≡ false = grind (arith, nat_tests, above) in
+    rw (p, d) refl
 
 pub signed_some : (k : ℕ) (s : List ℕ) (z : ℤ) → IsNumeral 10 (without_leading_sign s) → z ≡ signed_digits_value 10 s → mag z < 2 ^ k → signed k s ≡ Some z
 unfolding signed

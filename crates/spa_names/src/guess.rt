@@ -1,12 +1,14 @@
 //! A guess of where a table has a name, by a hash of the name. Nothing rests on guesses but time: each is compared with its table.
 use crate::guesses::{DISPLACEMENTS, GUESSES};
 
-/// What a name's word, its length, and how many names its table has are multiplied by; tables/generate.py has the same.
-const MULTIPLIER: u64 = 0xd82c07cd;
+/// What a name's word, its length, how many names its table has, and the name's second byte are multiplied by; tables/generate.py has the same.
+const MULTIPLIER: u64 = 0x3ceb3ffd;
 
 const OF_LENGTH: u64 = 0x9e37;
 
 const OF_COUNT: u64 = 0x79b9;
+
+const OF_SECOND: u64 = 0x5bd1;
 
 /// Where a table of so many names is likely to have this one: the index among the names, and that among the entries.
 pub(crate) fn guess_of(name: &str, count: usize) -> (usize, usize) {
@@ -22,20 +24,23 @@ pub(crate) fn guess_of(name: &str, count: usize) -> (usize, usize) {
     }
 }
 
-/// A number whose lowest 32 bits are made of four bytes of a name, of its length, and of how many names its table has.
+/// A number whose lowest 32 bits are made of five bytes of a name, of its length, and of how many names its table has.
 fn hash_of(name: &[u8], count: usize) -> u64 {
     let len = name.len();
-    let (Some(first), Some(middle), Some(last)) = (name.first(), name.get(len / 2), name.last())
-    else {
-        return 0;
-    };
-    let before_last = match name.get(len.wrapping_sub(2)) {
-        Some(byte) => *byte,
-        None => 0,
-    };
-    let word = u32::from_le_bytes([*first, *middle, before_last, *last]) as u64;
+    let before_last = byte_at(name, len.wrapping_sub(2));
+    let last = byte_at(name, len.wrapping_sub(1));
+    let bytes = [byte_at(name, 0), byte_at(name, len / 2), before_last, last];
     let sizes = (len as u64)
         .wrapping_mul(OF_LENGTH)
         .wrapping_add((count as u64).wrapping_mul(OF_COUNT));
-    (word ^ sizes).wrapping_mul(MULTIPLIER)
+    let others = sizes.wrapping_add(byte_at(name, 1) as u64 * OF_SECOND);
+    (u32::from_le_bytes(bytes) as u64 ^ others).wrapping_mul(MULTIPLIER)
+}
+
+/// A byte of a name, or 0 where it has none.
+fn byte_at(name: &[u8], at: usize) -> u8 {
+    match name.get(at) {
+        Some(byte) => *byte,
+        None => 0,
+    }
 }

@@ -93,15 +93,16 @@ def entries_in(table, place_of):
 
 MASK = 0xFFFFFFFF
 # By how much a word of a name is multiplied; with this, SLOTS and DISPLACEMENTS places are found for all guesses.
-MULTIPLIER, OF_LENGTH, OF_COUNT = 0xD82C07CD, 0x9E37, 0x79B9
+MULTIPLIER, OF_LENGTH, OF_COUNT, OF_SECOND = 0x3CEB3FFD, 0x9E37, 0x79B9, 0x5BD1
 SLOTS, DISPLACEMENTS = 1024, 256
 
 
 def hash_of(name, count):
-    """As src/guess.rt has it: a number made of four bytes of a name, of its length, and of how many names its table has."""
-    before_last = name[-2] if len(name) > 1 else 0
+    """As src/guess.rt has it: a number made of five bytes of a name, of its length, and of how many names its table has."""
+    second, before_last = (name[1], name[-2]) if len(name) > 1 else (0, 0)
     word = name[0] | name[len(name) // 2] << 8 | before_last << 16 | name[-1] << 24
-    return (word ^ (len(name) * OF_LENGTH + count * OF_COUNT & MASK)) * MULTIPLIER & MASK
+    others = len(name) * OF_LENGTH + count * OF_COUNT + second * OF_SECOND
+    return (word ^ others) * MULTIPLIER & MASK
 
 
 def slot_of(hash_, displacement):

@@ -29,7 +29,7 @@ enum Unread {
 }
 
 /// The pods of the values of which the bytes are texts; read strictly, of no value with another type than the one that belongs under a key.
-#[tactic(auto, using(crate::proofs::ReadTexts::ends, crate::proofs::ReadTexts::counted, crate::proofs::ReadTexts::not_read))]
+#[tactic(auto, using(crate::proofs::ReadTexts::ends, crate::proofs::ReadTexts::left_fits, crate::proofs::ReadTexts::counted))]
 pub fn read_all(alloc: Global, strictness: Strictness, bytes: &[u8]) -> Result<Vec<u8>, Failure>
     ensures read { IfOk result (λ pods. Reads strictness bytes.now pods.items) }
     ensures refused { IfErr result (RefusesTexts strictness bytes.now) }
@@ -37,16 +37,15 @@ pub fn read_all(alloc: Global, strictness: Strictness, bytes: &[u8]) -> Result<V
     let mut reader = TextReader::new(alloc);
     let mut pods = Vec::new(alloc);
     let mut left = bytes;
-    let mut line = 1;
     while !left.is_empty() {
         let (text, behind) = split_text(left);
         match add_pod(alloc, &mut reader, strictness, text, &mut pods) {
-            Ok(()) => {
-                let (last, _) = position_behind(text, line);
-                line = last + 1;
-                left = behind;
+            Ok(()) => left = behind,
+            Err(why) => {
+                let before = &bytes[..bytes.len() - left.len()];
+                let (line, _) = position_behind(before, 1);
+                return Err(failure_at(why, text, line));
             }
-            Err(why) => return Err(failure_at(why, text, line)),
         }
     }
     Ok(pods)

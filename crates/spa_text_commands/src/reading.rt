@@ -84,10 +84,13 @@ fn split_line(bytes: &[u8]) -> Option<(&[u8], &[u8])>
             };
             left = rest;
         } else {
-            if byte == b'{' || byte == b'[' {
-                count += 1;
-            } else if byte == b'}' || byte == b']' {
-                count = count.saturating_sub(1);
+            // The brackets stand behind digits and other marks in ASCII.
+            if byte >= b'[' {
+                if byte == b'{' || byte == b'[' {
+                    count += 1;
+                } else if byte == b'}' || byte == b']' {
+                    count = count.saturating_sub(1);
+                }
             }
             left = behind;
         }

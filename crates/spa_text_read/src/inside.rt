@@ -27,6 +27,9 @@ use spa_names::{Expected, Table};
 use spa_utils::SpaTypes;
 use spa_value::{Object, Property, PropertyFlags, Value, ValueArray, discard};
 
+/// For how many properties room is made at first: most objects have as many at most.
+const FIRST_ROOM: usize = 8;
+
 /// An object that is begun.
 #[derive(Drop)]
 pub(crate) struct OpenObject {
@@ -251,7 +254,12 @@ impl OpenObject {
             discard(value);
             return Err(Cause::Token);
         };
-        let Ok(()) = self.properties.reserve(1) else {
+        let room = if self.properties.is_empty() {
+            FIRST_ROOM
+        } else {
+            1
+        };
+        let Ok(()) = self.properties.reserve(room) else {
             discard(value);
             return Err(Cause::OutOfMemory);
         };

@@ -5,7 +5,8 @@ use Rattle.std.specs.List.Sorted.{IsSearchInRange, IsBinarySearchResult}
 use Rattle.std.specs.Str.{bytes_eq}
 use Rattle.std.specs.Cmp.Lexicographic.{slice_cmp}
 use Rattle.std.specs.Ordering.{is_eq, nat_cmp}
-use Rattle.std.specs.declared.cmp.Ordering.TheVariants.{Equal}
+use Rattle.std.specs.declared.cmp.Ordering.{Ordering}
+use Rattle.std.specs.declared.cmp.Ordering.TheVariants.{Less, Equal, Greater}
 use Rattle.std.proofs.lemmas.Bool.Decides.{nat_tests}
 use Rattle.std.proofs.lemmas.Cmp.{nat_cmp_total, nat_list_cmp_total}
 use Rattle.std.proofs.lemmas.Map.Text.{is_eq-slice_cmp}
@@ -22,6 +23,11 @@ is_eq-nat_cmp x y = grind (arith, nat_tests)
 
 nat_cmp-same : (x : ℕ) → nat_cmp x x ≡ Equal
 nat_cmp-same x = grind (arith, nat_tests)
+
+equal_from : (r : Ordering) → is_eq r ≡ true → r ≡ Equal
+equal_from Less is = search
+equal_from Equal is = refl
+equal_from Greater is = search
 
 module _ (table : Table) (number : ℕ) (entries : List (ℕ × Bor (List ℕ) × ℕ × ℕ)) (same : map row_of entries ≡ rows_of table) where
   entries_rise : rises nat_cmp (λ entry. entry.0) entries ≡ true
@@ -60,6 +66,13 @@ module _ (table : Table) (name : List ℕ) (namings : List (Bor (List ℕ) × �
   number_found (Err at) in_range is =
       let found = searched nat_list_cmp_total (λ naming. naming.0.now) name (λ naming. bytes_eq naming.0.now name) (λ naming. sym (is_eq-slice_cmp naming.0.now name)) namings namings_rise (Err at) in_range is in
       sym (number_of-namings ∙ ap (λ naming. option_map (λ naming. naming.1) (option_map naming_of naming)) found)
+
+  -- a naming that has the name is the table's
+  pub naming_there : (at : ℕ) (naming : Bor (List ℕ) × ℕ) → at < length namings → HoldsAt (λ other. naming ≡ other) namings at → bytes_eq naming.0.now name ≡ true →
+      Some naming.1 ≡ number_of table name
+  naming_there at naming in_range there is =
+      let equal = equal_from (slice_cmp nat_cmp naming.0.now name) (is_eq-slice_cmp naming.0.now name ∙ is) in
+      ap (λ e. Some e.1) (there naming) ∙ number_found (Ok at) in_range (λ d. ap (λ e. slice_cmp nat_cmp e.0.now name) (sym (there d)) ∙ equal) naming
 
 module _ (type : ℕ) (r : Result ℕ ℕ) (in_range : IsSearchInRange r (length OBJECTS)) (is : IsBinarySearchResult (λ object. nat_cmp object.0 type) OBJECTS r) where
   pub object_found : MatchResult r (λ at. (d : ℕ × Table × Table) → Some (get_or OBJECTS at d) ≡ object_at type) (λ at. None ≡ object_at type)

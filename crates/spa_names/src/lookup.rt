@@ -1,5 +1,5 @@
 //! Looks names up by numbers, and numbers by names.
-ghost use Rattle.std.specs.Prelude.{◌≡◌, get_or};
+ghost use Rattle.std.specs.Prelude.{◌≡◌, MatchOption, None, Some, get_or};
 ghost use Rattle.std.specs.Option.{option_map};
 ghost use Rattle.spa_names.specs.declared.entry.TheConstants.Expected.{NOTHING};
 ghost use Rattle.spa_names.specs.declared.key_entries.TheConstants.{EXPECTED};
@@ -8,6 +8,7 @@ ghost use Rattle.spa_names.specs.Lookup.{expected_under, ids_of, keys_of, name_o
 
 use crate::contents::{entries_of, namings_of};
 use crate::entry::{Entry, Expected};
+use crate::guess::guess_of;
 use crate::key_entries::EXPECTED;
 use crate::table::{OBJECTS, Table};
 use spa_utils::SpaTypes;
@@ -58,9 +59,38 @@ fn expected_at(place: usize) -> Expected
 pub fn number_of(table: Table, name: &str) -> Option<u32>
     ensures { result ≡ number_of table name.now }
 {
+    match number_at(table, name) {
+        Some((number, _)) => Some(number),
+        None => None,
+    }
+}
+
+/// The number of a key by its name, and what is expected of the value under it. None: the table of its object's keys doesn't have the name.
+pub fn key_named(keys: Table, name: &str) -> Option<(u32, Expected)>
+    ensures { MatchOption result (number_of keys name.now ≡ None) (λ key. (number_of keys name.now ≡ Some key.0) × (key.1 ≡ expected_under keys key.0)) }
+{
+    match number_at(keys, name) {
+        Some((number, place)) => match entry_near(keys, number, place) {
+            Some(entry) => Some((number, expected_at(entry.3))),
+            None => Some((number, Expected::NOTHING)),
+        },
+        None => None,
+    }
+}
+
+/// The number of a name, with a guess at which index the table has the entry of this number. None: the table doesn't have the name.
+fn number_at(table: Table, name: &str) -> Option<(u32, usize)>
+    ensures { option_map (λ found. found.0) result ≡ number_of table name.now }
+{
     let namings = namings_of(table);
+    let (at, place) = guess_of(name, namings.len());
+    if let Some(naming) = namings.get(at) {
+        if naming.0 == name {
+            return Some((naming.1, place));
+        }
+    }
     match namings.binary_search_by(|naming| naming.0.cmp(&name)) {
-        Ok(at) => Some(namings[at].1),
+        Ok(at) => Some((namings[at].1, place)),
         Err(_) => None,
     }
 }
@@ -94,6 +124,18 @@ fn object_of(type_: SpaTypes) -> Option<(u32, Table, Table)>
         Ok(at) => Some(objects[at]),
         Err(_) => None,
     }
+}
+
+/// A table's entry of a number, which is likely to be at this index. None: it has none.
+fn entry_near(table: Table, number: u32, place: usize) -> Option<Entry>
+    ensures { option_map row_of result ≡ row_at table number }
+{
+    if let Some(entry) = entries_of(table).get(place) {
+        if entry.0 == number {
+            return Some(*entry);
+        }
+    }
+    entry_of(table, number)
 }
 
 /// A table's entry of a number. None: it has none.

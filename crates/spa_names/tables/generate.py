@@ -91,6 +91,52 @@ def entries_in(table, place_of):
     return [rows[it] for it in sorted(rows)]
 
 
+MASK = 0xFFFFFFFF
+# By how much a word of a name is multiplied; with this, SLOTS and DISPLACEMENTS places are found for all guesses.
+MULTIPLIER, OF_LENGTH, OF_COUNT, OF_SECOND = 0x3CEB3FFD, 0x9E37, 0x79B9, 0x5BD1
+SLOTS, DISPLACEMENTS = 1024, 256
+
+
+def hash_of(name, count):
+    """As src/guess.rt has it: a number made of five bytes of a name, of its length, and of how many names its table has."""
+    second, before_last = (name[1], name[-2]) if len(name) > 1 else (0, 0)
+    word = name[0] | name[len(name) // 2] << 8 | before_last << 16 | name[-1] << 24
+    others = len(name) * OF_LENGTH + count * OF_COUNT + second * OF_SECOND
+    return (word ^ others) * MULTIPLIER & MASK
+
+
+def slot_of(hash_, displacement):
+    return (hash_ >> 12 ^ displacement * 4) % SLOTS
+
+
+def guesses_of(tables):
+    """For each name the index in its table, and that of the entry of its number, at slots that no other has. Names of one hash share a slot."""
+    guesses, slots, displacements = {}, {}, [0] * DISPLACEMENTS
+    for table in tables:
+        names = sorted((name.encode(), number) for number, name, _, _, _ in named(table))
+        numbers = sorted({number for _, number in names})
+        for at, (name, number) in enumerate(names):
+            guesses.setdefault(hash_of(name, len(names)), (at, numbers.index(number)))
+    buckets = {}
+    for hash_ in guesses:
+        buckets.setdefault(hash_ >> 24, []).append(hash_)
+    for bucket, hashes in sorted(buckets.items(), key=lambda it: -len(it[1])):
+        for displacement in range(256):
+            ours = {slot_of(hash_, displacement): guesses[hash_] for hash_ in hashes}
+            if len(ours) == len(hashes) and not ours.keys() & slots.keys():
+                break
+        else:
+            sys.exit("generate.py: another MULTIPLIER is needed")
+        displacements[bucket] = displacement
+        slots.update(ours)
+    return displacements, [slots.get(at, (0, 0)) for at in range(SLOTS)]
+
+
+def rows_of(items, count):
+    """The items in lines of so many."""
+    return [f"    {', '.join(str(it) for it in items[at : at + count])}," for at in range(0, len(items), count)]
+
+
 def read_identifiers(path):
     """C's identifiers, by number and PipeWire's name."""
     lines = (line.split("\t") for line in Path(path).read_text(encoding="utf-8").splitlines())
@@ -182,6 +228,14 @@ def main():
     out += ["    ensures { IsOfIds table → map naming_of result.now ≡ namings_of table }", "{", "    match table {"]
     out += arms(others, names) + ["        _ => &[],", "    }", "}"]
     write("src/contents.rt", out)
+
+    displacements, guesses = guesses_of([tables[at] for at in kept])
+    out = [f"// Written {OF_C}", "//! Where the tables are likely to have a name."]
+    out += ["", "/// What is added to the slots of names, by the highest byte of their hash.", "#[rattlefmt::skip]"]
+    out += ["pub(crate) const DISPLACEMENTS: &[u8] = &["] + rows_of(displacements, 32) + ["];"]
+    out += ["", "/// For a slot the index of a name in its table, and that of the entry of its number.", "#[rattlefmt::skip]"]
+    out += ["pub(crate) const GUESSES: &[(u8, u8)] = &["] + rows_of(guesses, 16) + ["];"]
+    write("src/guesses.rt", out)
 
     identifiers = read_identifiers(sys.argv[1])
     objects = [entry for entry in tables[0] if entry[3] >= 0]

@@ -13,7 +13,7 @@ use Rattle.spa_value.specs.Views.{property_views, views}
 use Rattle.spa_names.specs.declared.entry.Expected.{Expected}
 use Rattle.spa_names.specs.declared.table.Table.{Table}
 use Rattle.spa_names.specs.declared.table.Table.TheVariants.{Types}
-use Rattle.spa_text_read.specs.Grammar.{AreMembers, AreProperties, Opened, Reads, ReadsAs, an_object, close, flagged_at, is_flags, key_number, nothing, opens, or_else, tag_named, tagged_at}
+use Rattle.spa_text_read.specs.Grammar.{AreMembers, AreProperties, Opened, ReadsValue, ReadsAs, an_object, close, flagged_at, is_flags, key_number, nothing, opens, or_else, tag_named, tagged_at}
 use Rattle.spa_text_read.specs.Names.{expected_under, ids_of, keys_of, number_of}
 use Rattle.spa_text_read.specs.Numerals.{unsigned}
 use Rattle.spa_text_read.specs.Options.{◌>>=◌}
@@ -77,7 +77,7 @@ property_braced t k f o p q r s l some w e d g = record {
 }
 
 -- what begins a value opens something, and is no key of flags
-reads_opens : (c : Expected) (v : Tree) (h : Token) (us rest : List Token) → Reads c v h us rest → (p : Opened × List Token) × (opens c h us ≡ Some p)
+reads_opens : (c : Expected) (v : Tree) (h : Token) (us rest : List Token) → ReadsValue c v h us rest → (p : Opened × List Token) × (opens c h us ≡ Some p)
 reads_opens c (array k xs) h us rest r = (_, r.3)
 reads_opens c (choice s f k x xs) h us rest r = (_, r.3)
 reads_opens c (struct vs) h us rest r = (_, r.3)

@@ -3,6 +3,7 @@ mod Dumped
 mod Values
 pub mod PrintedPods
 pub mod Extents
+pub mod Splitting
 pub mod ReadTexts
 pub mod Differing
 pub mod Compared

@@ -1,11 +1,12 @@
 -- Texts that are read, one by one.
-use Rattle.std.proofs.Common.{◌≡◌, ◌≢◌, ◌≤◌, ℕ, ◌+◌, List, [], ◌∷◌, ◌++◌, refl, sym, inl, inr, arith, length, take, drop, ◌∙◌, ap, subst, length-append, append_assoc, append-nil}
+use Rattle.std.proofs.Common.{◌≡◌, ◌≢◌, ◌≤◌, ℕ, ◌+◌, ◌-◌, List, [], ◌∷◌, ◌++◌, refl, sym, inl, inr, arith, length, take, drop, ◌∙◌, ap, subst, length-append, append_assoc, append-nil}
 use Rattle.std.specs.Prelude.{◌⊎◌}
 use Rattle.std.specs.Str.{IsUtf8}
 use Rattle.spa_format.specs.Encoding.{encoding_of, member_encodings}
 use Rattle.spa_format.specs.Tree.{Tree, Trees, no_trees, member, join_members}
 use Rattle.spa_format.specs.Writable.{HasNul, IsTooLarge}
-use Rattle.std.proofs.lemmas.List.{take-append-drop}
+use Rattle.std.proofs.Math.Seq.{take-append_seam}
+use Rattle.std.proofs.lemmas.List.{length-take-le, take-append-drop}
 use Rattle.spa_text_commands.specs.Extent.{BeginsText, column_behind, line_behind}
 use Rattle.spa_text_commands.specs.Texts.{BeginTexts, HasNoPod, IsRefusedAt, IsText, IsTextFor, Reads, RefusesTexts}
 use Rattle.spa_text_commands.specs.Unread.{IsFor, IsNoPod, IsNoText}
@@ -17,23 +18,21 @@ use Rattle.spa_text_read.specs.Fitting.{Admits}
 use Rattle.spa_text_read.specs.declared.cause.Cause.{Cause}
 use Rattle.spa_text_read.specs.declared.cause.Cause.TheVariants as cause
 use Rattle.spa_text_read.specs.declared.fitting.Strictness.{Strictness}
-use Rattle.spa_text_commands.proofs.Extents.{line_bound, lines_append, some_item, text_fits, whole_of}
+use Rattle.spa_text_commands.proofs.Extents.{some_item, text_fits, whole_of}
 use Rattle.spa_text_commands.proofs.PrintedPods.{empty}
 
 -- ---- Values
 
--- how far the loop over texts is: the values of some first ones are encoded, and this is left, which begins with this line
-pub record ReadSoFar (s : Strictness) (input left pods : List ℕ) (line : ℕ) : Type 0 where
+-- how far the loop over texts is: the values of some first ones are encoded, and this is left
+pub record ReadSoFar (s : Strictness) (input left pods : List ℕ) : Type 0 where
   pub values : Trees
   pub before : List ℕ
   pub whole : input ≡ before ++ left
   pub texts : BeginTexts s values input left
   pub made : pods ≡ member_encodings values
-  pub placed : left ≢ [] → (line ≡ line_behind 1 before) × (line + length left ≤ length input + 1)
 
-pub begins : (s : Strictness) (input pods : List ℕ) → pods ≡ [] → ReadSoFar s input input pods 1
-begins s input pods e =
-    record { values = no_trees; before = []; whole = refl; texts = refl; made = e; placed = λ _. (refl, omega arith) }
+pub begins : (s : Strictness) (input pods : List ℕ) → pods ≡ [] → ReadSoFar s input input pods
+begins s input pods e = record { values = no_trees; before = []; whole = refl; texts = refl; made = e }
 
 encodings_push : (vs : Trees) (v : Tree) → member_encodings (join_members vs (member v no_trees)) ≡ member_encodings vs ++ encoding_of v
 encodings_push no_trees v = append-nil (encoding_of v)
@@ -49,53 +48,50 @@ more_made : (vs : Trees) (v : Tree) (pods more : List ℕ) → pods ≡ member_e
     more ≡ member_encodings (join_members vs (member v no_trees))
 more_made vs v pods more e m = m ∙ ap (λ l. l ++ encoding_of v) e ∙ sym (encodings_push vs v)
 
--- the line behind a text and its end
-next_line : (before text : List ℕ) (line last next : ℕ) → line ≡ line_behind 1 before → last ≡ line_behind line text → next ≡ last + 1 →
-    next ≡ line_behind 1 (before ++ (text ++ 10 ∷ []))
-next_line before text line last next e is n =
-    n
-    ∙ ap (λ k. k + 1) (is ∙ ap (λ k. line_behind k text) e)
-    ∙ sym (lines_append 1 before (text ++ 10 ∷ []) ∙ lines_append (line_behind 1 before) text (10 ∷ []))
-
-pub goes_on : (s : Strictness) (input left text behind pods more : List ℕ) (line last next : ℕ) (v : Tree) → ReadSoFar s input left pods line →
-    BeginsText left text behind → IsTextFor s v text → more ≡ pods ++ encoding_of v → last ≡ line_behind line text → next ≡ last + 1 →
-    ReadSoFar s input behind more next
-goes_on s input left text [] pods more line last next v so b t m is n = record {
+pub goes_on : (s : Strictness) (input left text behind pods more : List ℕ) (v : Tree) → ReadSoFar s input left pods → BeginsText left text behind → IsTextFor s v text →
+    more ≡ pods ++ encoding_of v → ReadSoFar s input behind more
+goes_on s input left text [] pods more v so b t m = record {
   values = join_members so.values (member v no_trees);
   before = input;
   whole = sym (append-nil input);
   texts = texts_push s so.values v input left text [] so.texts b t;
   made = more_made so.values v pods more so.made m;
-  placed = λ some. absurd (some refl);
 }
-goes_on s input left text (y ∷ ys) pods more line last next v so b t m is n =
-    let e : left ≡ text ++ 10 ∷ y ∷ ys = whole_of left text (y ∷ ys) b (some_item y ys) in
-    let l = ap length e ∙ length-append text (10 ∷ y ∷ ys) in
-    let p = so.placed b.some in
-    let r = p.1 in
-    let k = line_bound line text in
-    record {
-      values = join_members so.values (member v no_trees);
-      before = so.before ++ (text ++ 10 ∷ []);
-      whole =
-          so.whole
-          ∙ ap (λ l. so.before ++ l) (e ∙ sym (append_assoc text (10 ∷ []) (y ∷ ys)))
-          ∙ sym (append_assoc so.before (text ++ 10 ∷ []) (y ∷ ys));
-      texts = texts_push s so.values v input left text (y ∷ ys) so.texts b t;
-      made = more_made so.values v pods more so.made m;
-      placed = λ _. (next_line so.before text line last next p.0 is n, omega (arith, is, n, l, r, k));
-    }
+goes_on s input left text (y ∷ ys) pods more v so b t m = record {
+  values = join_members so.values (member v no_trees);
+  before = so.before ++ (text ++ 10 ∷ []);
+  whole =
+      so.whole
+      ∙ ap (λ l. so.before ++ l) (whole_of left text (y ∷ ys) b (some_item y ys) ∙ sym (append_assoc text (10 ∷ []) (y ∷ ys)))
+      ∙ sym (append_assoc so.before (text ++ 10 ∷ []) (y ∷ ys));
+  texts = texts_push s so.values v input left text (y ∷ ys) so.texts b t;
+  made = more_made so.values v pods more so.made m;
+}
+
+whole_length : (s : Strictness) (input left pods : List ℕ) (so : ReadSoFar s input left pods) → length input ≡ length so.before + length left
+whole_length s input left pods so = ap length so.whole ∙ length-append so.before left
+
+pub left_fits : (s : Strictness) (input left pods : List ℕ) → ReadSoFar s input left pods → length left ≤ length input
+left_fits s input left pods so = let l = whole_length s input left pods so in omega (arith, l)
 
 -- lines can be counted
-pub counted : (s : Strictness) (input left text behind pods : List ℕ) (line : ℕ) → ReadSoFar s input left pods line → BeginsText left text behind →
-    line + length text ≤ length input + 1
-counted s input left text behind pods line so b =
-    let p = so.placed b.some in
-    let r = p.1 in
-    let f = text_fits left text behind b in omega (arith, r, f)
+pub counted : (s : Strictness) (input left text behind pods : List ℕ) (line : ℕ) → ReadSoFar s input left pods → BeginsText left text behind →
+    line ≤ 1 + length (take (length input - length left) input) → line + length text ≤ length input + 1
+counted s input left text behind pods line so b bound =
+    let l = left_fits s input left pods so in
+    let f = text_fits left text behind b in
+    let k = length-take-le (length input - length left) input (omega arith) in
+    omega (arith, l, f, k, bound)
 
-pub ends : (s : Strictness) (input left pods : List ℕ) (line : ℕ) → ReadSoFar s input left pods line → length left ≡ 0 → Reads s input pods
-ends s input left pods line so e = (so.values, subst (BeginTexts s so.values input) (empty left e) so.texts, so.made)
+-- what stands before what is left
+before_is : (s : Strictness) (input left pods : List ℕ) (so : ReadSoFar s input left pods) → take (length input - length left) input ≡ so.before
+before_is s input left pods so =
+    let l = whole_length s input left pods so in
+    let n : length input - length left ≡ length so.before = omega (arith, l) in
+    ap (λ k. take k input) n ∙ ap (λ l. take (length so.before) l) so.whole ∙ take-append_seam so.before left
+
+pub ends : (s : Strictness) (input left pods : List ℕ) → ReadSoFar s input left pods → length left ≡ 0 → Reads s input pods
+ends s input left pods so e = (so.values, subst (BeginTexts s so.values input) (empty left e) so.texts, so.made)
 
 -- ---- Refusals
 
@@ -110,10 +106,10 @@ refused_at s text part k first line column none cut l c = record {
   its_column = c;
 }
 
-pub not_read : (s : Strictness) (input left text behind pods : List ℕ) (line : ℕ) (why : Failure) → ReadSoFar s input left pods line → BeginsText left text behind →
-    IsNoText s text line why → RefusesTexts s input why
-not_read s input left text behind pods line NoPods so b h = absurd h
-not_read s input left text behind pods line (Line l c k p m) so b h = record {
+pub not_read : (s : Strictness) (input left text behind pods : List ℕ) (line : ℕ) (why : Failure) → ReadSoFar s input left pods → BeginsText left text behind →
+    line ≡ line_behind 1 (take (length input - length left) input) → IsNoText s text line why → RefusesTexts s input why
+not_read s input left text behind pods line NoPods so b is h = absurd h
+not_read s input left text behind pods line (Line l c k p m) so b is h = record {
   values = so.values;
   before = so.before;
   left = left;
@@ -122,10 +118,10 @@ not_read s input left text behind pods line (Line l c k p m) so b h = record {
   text = text;
   others = behind;
   begins = b;
-  refused = subst (λ f. IsRefusedAt s text f l c) (so.placed b.some).0 h;
+  refused = subst (λ f. IsRefusedAt s text f l c) (is ∙ ap (line_behind 1) (before_is s input left pods so)) h;
 }
-not_read s input left text behind pods line OutOfMemory so b h = tt
-not_read s input left text behind pods line WriteFailed so b h = absurd h
+not_read s input left text behind pods line OutOfMemory so b is h = tt
+not_read s input left text behind pods line WriteFailed so b is h = absurd h
 
 -- ---- Why a text has no pod
 

@@ -5,5 +5,6 @@ pub mod Extent
 pub mod Lines
 pub mod Parts
 pub mod Selection
+pub mod Splitting
 pub mod Texts
 pub mod Unread

@@ -12,7 +12,7 @@ use Rattle.spa_names.specs.declared.table.Table.{Table}
 use Rattle.spa_text_read.specs.Names.{keys_of, expected_under}
 use Rattle.spa_text_read.specs.Options.{◌>>=◌, and_then}
 use Rattle.spa_text_read.specs.Tokens.{after_end_object}
-use Rattle.spa_text_read.specs.Grammar.{opens, close, element, nothing, property_at, Reads, ReadsAs, AreElements, AreMembers, AreProperties}
+use Rattle.spa_text_read.specs.Grammar.{opens, close, element, nothing, property_at, ReadsValue, ReadsAs, AreElements, AreMembers, AreProperties}
 use Rattle.spa_text_read.specs.Steps.{Frame, in_struct, in_array, in_choice, in_object, Runs, stops, finishes, goes_on, Step, refused, done, goes, Follows, step, Next, ended, wants, expects, ends, value_of, next, next_item, next_property, give, give_ended, after_next, after_opening, after_put, put, started, ComesTo}
 
 -- one list of members behind another
@@ -118,7 +118,7 @@ object_next t i ps k f b ts o e = ap (λ x. x >>= next_property t i ps) e
 
 mutual
   complete : (v : Tree) (c : Expected) (h : Token) (ts rest : List Token) (k : List Frame) (r : Option (Tree × List Token)) →
-      Reads c v h ts rest → Follows (give v k rest) r → Follows (after_opening k (opens c h ts)) r
+      ReadsValue c v h ts rest → Follows (give v k rest) r → Follows (after_opening k (opens c h ts)) r
   complete (array q xs) c h ts rest k r e d =
       subst (λ o. Follows (after_opening k o) r) (sym e.3)
       (elements (in_array e.0 q) e.0 q (holds_array e.0 q) xs [] k e.1 e.2 rest r e.4 e.5 d)

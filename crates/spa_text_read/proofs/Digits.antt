@@ -1,11 +1,11 @@
 -- What a numeral says.
-use Rattle.std.proofs.Common.{◌≡◌, ℕ, ◌<◌, ◌^◌, List, length, Bool, true, false, refl, arith, subst}
+use Rattle.std.proofs.Common.{◌≡◌, ℕ, ◌<◌, ◌≤◌, ◌^◌, List, [], ◌∷◌, get_or, length, Bool, true, false, refl, arith, subst}
 use Rattle.std.specs.Prelude.{ℤ, Some, None, nat_lt}
 use Rattle.std.specs.Int.Signed.{mag}
 use Rattle.std.specs.Str.{all_ascii_digits}
 use Rattle.std.specs.Str.Parse.{IsNumeral, digits_value, signed_digits_value, without_leading_plus, without_leading_sign}
 use Rattle.std.specs.Cmp.{first_so, second_so}
-use Rattle.std.proofs.lemmas.Str.Parse.{IsNumeralModel, numerals_by_value, tells_all_ascii_digits}
+use Rattle.std.proofs.lemmas.Str.Parse.{IsNumeralModel, numerals_by_value, tells_all_ascii_digits, without_leading_plus_none}
 use Rattle.spa_text_read.specs.Numerals.{are_digits, number_where, unsigned, signed}
 
 own : IsNumeralModel (λ ds. all_ascii_digits ds ≡ true) (digits_value 10)
@@ -39,6 +39,18 @@ pub unsigned_none : (s : List ℕ) → (IsNumeral 10 (without_leading_plus s) �
 unfolding unsigned
 unsigned_none s h =
     where_not _ _ (λ b. h (are_digits-numeral _ (first_so _ _ b)) (below _ _ (second_so (are_digits (without_leading_plus s)) _ b)))
+
+above_digits : (x : ℕ) (xs : List ℕ) → 57 < x → IsNumeral 10 (x ∷ xs) → ⊥
+above_digits x xs above h =
+    let p = tells_all_ascii_digits.parts x xs (own.from (x ∷ xs) h.1) in
+    let below = p.0.1 in omega (arith, above, below)
+
+-- a text that begins with a byte above the digits is no number
+pub no_number : (s : List ℕ) → 1 ≤ length s → 57 < get_or s 0 0 → unsigned s ≡ None
+no_number [] some above = absurd (omega (arith, some))
+no_number (x ∷ xs) some above =
+    let w = without_leading_plus_none (x ∷ xs) (λ e. omega (arith, above, e)) in
+    unsigned_none (x ∷ xs) (λ h l. above_digits x xs above (subst (IsNumeral 10) w h))
 
 pub signed_some : (k : ℕ) (s : List ℕ) (z : ℤ) → IsNumeral 10 (without_leading_sign s) → z ≡ signed_digits_value 10 s → mag z < 2 ^ k → signed k s ≡ Some z
 unfolding signed

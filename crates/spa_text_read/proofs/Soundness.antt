@@ -12,7 +12,7 @@ use Rattle.spa_names.specs.declared.table.Table.{Table}
 use Rattle.spa_text_read.specs.Names.{keys_of, expected_under}
 use Rattle.spa_text_read.specs.Options.{◌>>=◌, and_then}
 use Rattle.spa_text_read.specs.Tokens.{after_end_object, head}
-use Rattle.spa_text_read.specs.Grammar.{Leaf, a_number, a_text, some_bytes, a_bitmap, a_pointer, tree, Opening, Opened, opens, leaf, begun, an_array, a_choice, a_struct, an_object, close, choice_of, chosen, element, key_number, property_at, Reads, ReadsAs, AreElements, AreMembers, AreProperties}
+use Rattle.spa_text_read.specs.Grammar.{Leaf, a_number, a_text, some_bytes, a_bitmap, a_pointer, tree, Opening, Opened, opens, leaf, begun, an_array, a_choice, a_struct, an_object, close, choice_of, chosen, element, key_number, property_at, ReadsValue, ReadsAs, AreElements, AreMembers, AreProperties}
 use Rattle.spa_text_read.specs.Steps.{Frame, in_struct, in_array, in_choice, in_object, frame, Runs, stops, finishes, goes_on, Step, refused, done, goes, Follows, step, Next, ended, wants, expects, ends, value_of, element_of, next, next_item, next_property, give, give_ended, after_next, after_opening, after_put, put, started, ComesTo}
 use Rattle.spa_text_read.proofs.Completeness.{join_none, join_no_properties, join_one, join_one_property}
 
@@ -92,14 +92,14 @@ choice_is s f q xs v e = tested (kind_eq q none_kind) e
 
 -- what is opened reads as what is left of it makes of it
 opened_reads : (o : Opening) (c : Expected) (h : Token) (ts us rest : List Token) (v : Tree) → opens c h ts ≡ Some (begun o, us) →
-    FrameReads (frame o) us v rest → Reads c v h ts rest
-opened_reads (a_struct b) c h ts us rest v e r = subst (λ x. Reads c x h ts rest) r.4 (b, us, r.1, e, r.2, r.3)
-opened_reads (an_array t q) c h ts us rest v e r = subst (λ x. Reads c x h ts rest) r.4 (t, us, r.1, e, r.2, r.3)
-opened_reads (an_object t i) c h ts us rest v e r = subst (λ x. Reads c x h ts rest) r.4 (us, r.1, e, r.2, r.3)
+    FrameReads (frame o) us v rest → ReadsValue c v h ts rest
+opened_reads (a_struct b) c h ts us rest v e r = subst (λ x. ReadsValue c x h ts rest) r.4 (b, us, r.1, e, r.2, r.3)
+opened_reads (an_array t q) c h ts us rest v e r = subst (λ x. ReadsValue c x h ts rest) r.4 (t, us, r.1, e, r.2, r.3)
+opened_reads (an_object t i) c h ts us rest v e r = subst (λ x. ReadsValue c x h ts rest) r.4 (us, r.1, e, r.2, r.3)
 opened_reads (a_choice s f t q) c h ts us rest v e r =
     let i = choice_is s f q r.0 v r.4 in
     let w = choice s f q i.0 i.1 in
-    subst (λ x. Reads c x h ts rest) (sym i.3) (
+    subst (λ x. ReadsValue c x h ts rest) (sym i.3) (
       t,
       us,
       r.1,
@@ -109,7 +109,7 @@ opened_reads (a_choice s f t q) c h ts us rest v e r =
       r.3,
     )
 
-leaf_reads : (l : Leaf) (c : Expected) (h : Token) (ts us : List Token) → opens c h ts ≡ Some (leaf l, us) → Reads c (tree l) h ts us
+leaf_reads : (l : Leaf) (c : Expected) (h : Token) (ts us : List Token) → opens c h ts ≡ Some (leaf l, us) → ReadsValue c (tree l) h ts us
 leaf_reads (a_number x) c h ts us e = e
 leaf_reads (a_text x) c h ts us e = e
 leaf_reads (some_bytes x) c h ts us e = e
@@ -173,7 +173,7 @@ element_is q _ x e = absurd (some≢none x (sym e))
 -- ---- A step back: a value is read, and then the frame reads on
 
 struct_back : (b : Bool) (before : Trees) (ts us ws xs rest : List Token) (g to : Frame) (c : Expected) (h : Token) (v x : Tree) →
-    next (in_struct b before) ts ≡ Some (wants g c h, us) → Reads c v h us ws → put g v ws ≡ Some (to, xs) → FrameReads to xs x rest →
+    next (in_struct b before) ts ≡ Some (wants g c h, us) → ReadsValue c v h us ws → put g v ws ≡ Some (to, xs) → FrameReads to xs x rest →
     FrameReads (in_struct b before) ts x rest
 unfolding next
 struct_back b before ts us ws xs rest g to c h v x n r p e =
@@ -181,11 +181,11 @@ struct_back b before ts us ws xs rest g to c h v x n r p e =
     let grown = in_struct b (join_members before (member v no_trees)) in
     let q = the_same (grown, ws) (to, xs) (subst (λ f. put f v ws ≡ Some (to, xs)) (sym i.same) p) in
     let d = subst (λ y. FrameReads y.0 y.1 x rest) (sym q) e in
-    let m : AreMembers (member v d.0) ts d.1 = (h, us, ws, i.none, i.first, subst (λ y. Reads y v h us ws) (sym i.wanted) r, d.2) in
+    let m : AreMembers (member v d.0) ts d.1 = (h, us, ws, i.none, i.first, subst (λ y. ReadsValue y v h us ws) (sym i.wanted) r, d.2) in
     (member v d.0, d.1, m, d.3, ap struct (sym (join_one before v d.0)) ∙ d.4)
 
 array_back : (t : Table) (k : Kind) (before : List Fixed) (ts us ws xs rest : List Token) (g to : Frame) (c : Expected) (h : Token) (v x : Tree) →
-    next (in_array t k before) ts ≡ Some (wants g c h, us) → Reads c v h us ws → put g v ws ≡ Some (to, xs) → FrameReads to xs x rest →
+    next (in_array t k before) ts ≡ Some (wants g c h, us) → ReadsValue c v h us ws → put g v ws ≡ Some (to, xs) → FrameReads to xs x rest →
     FrameReads (in_array t k before) ts x rest
 unfolding next
 array_back t k before ts us ws xs rest g to c h v x n r p e =
@@ -195,7 +195,7 @@ array_back t k before ts us ws xs rest g to c h v x n r p e =
     let m = mapped (element_of k v) added to q.0 in
     let is = element_is k v m.0 m.1 in
     let d : FrameReads (added m.0) ws x rest = subst (λ l. FrameReads (added m.0) l x rest) q.1 (subst (λ f. FrameReads f xs x rest) (sym m.2) e) in
-    let o = subst (λ y. Reads y (fixed m.0) h us ws) (sym i.wanted) (subst (λ y. Reads c y h us ws) is.0 r) in
+    let o = subst (λ y. ReadsValue y (fixed m.0) h us ws) (sym i.wanted) (subst (λ y. ReadsValue c y h us ws) is.0 r) in
     (m.0 ∷ d.0, d.1, (h, us, ws, i.none, i.first, o, is.1, d.2), d.3, ap (array k) (sym (append_assoc before (m.0 ∷ []) d.0)) ∙ d.4)
   where
     put_in : (o : Option Frame) → and_then ws o ≡ Some (to, xs) → (o ≡ Some to) × (xs ≡ ws)
@@ -203,7 +203,7 @@ array_back t k before ts us ws xs rest g to c h v x n r p e =
     put_in (Some f) e = (ap (λ (y : Option (Frame × List Token)). Some (given {A = Frame × List Token} (f, ws) y).0) e, sym (ap (λ (y : Option (Frame × List Token)). (given {A = Frame × List Token} (f, ws) y).1) e))
 
 choice_back : (s : Shape) (n : ℕ) (t : Table) (k : Kind) (before : List Fixed) (ts us ws xs rest : List Token) (g to : Frame) (c : Expected)
-    (h : Token) (v x : Tree) → next (in_choice s n t k before) ts ≡ Some (wants g c h, us) → Reads c v h us ws →
+    (h : Token) (v x : Tree) → next (in_choice s n t k before) ts ≡ Some (wants g c h, us) → ReadsValue c v h us ws →
     put g v ws ≡ Some (to, xs) → FrameReads to xs x rest → FrameReads (in_choice s n t k before) ts x rest
 unfolding next
 choice_back s n t k before ts us ws xs rest g to c h v x a r p e =
@@ -213,7 +213,7 @@ choice_back s n t k before ts us ws xs rest g to c h v x a r p e =
     let m = mapped (element_of k v) added to q.0 in
     let is = element_is k v m.0 m.1 in
     let d : FrameReads (added m.0) ws x rest = subst (λ l. FrameReads (added m.0) l x rest) q.1 (subst (λ f. FrameReads f xs x rest) (sym m.2) e) in
-    let o = subst (λ y. Reads y (fixed m.0) h us ws) (sym i.wanted) (subst (λ y. Reads c y h us ws) is.0 r) in
+    let o = subst (λ y. ReadsValue y (fixed m.0) h us ws) (sym i.wanted) (subst (λ y. ReadsValue c y h us ws) is.0 r) in
     (m.0 ∷ d.0, d.1, (h, us, ws, i.none, i.first, o, is.1, d.2), d.3, ap (choice_of s n k) (sym (append_assoc before (m.0 ∷ []) d.0)) ∙ d.4)
   where
     put_in : (o : Option Frame) → and_then ws o ≡ Some (to, xs) → (o ≡ Some to) × (xs ≡ ws)
@@ -221,7 +221,7 @@ choice_back s n t k before ts us ws xs rest g to c h v x a r p e =
     put_in (Some f) e = (ap (λ (y : Option (Frame × List Token)). Some (given {A = Frame × List Token} (f, ws) y).0) e, sym (ap (λ (y : Option (Frame × List Token)). (given {A = Frame × List Token} (f, ws) y).1) e))
 
 object_back : (t i : ℕ) (before : Properties) (k f : ℕ) (b : Bool) (ts us ws xs rest : List Token) (g to : Frame) (c : Expected)
-    (h : Token) (v x : Tree) → next (in_object t i before k f b) ts ≡ Some (wants g c h, us) → Reads c v h us ws →
+    (h : Token) (v x : Tree) → next (in_object t i before k f b) ts ≡ Some (wants g c h, us) → ReadsValue c v h us ws →
     put g v ws ≡ Some (to, xs) → FrameReads to xs x rest → FrameReads (in_object t i before k f b) ts x rest
 unfolding next
 object_back t i before k f b ts us ws xs rest g to c h v x n r p e =
@@ -242,14 +242,14 @@ object_back t i before k f b ts us ws xs rest g to c h v x n r p e =
         let grown : List Token → Frame × List Token = λ zs. (in_object t i (join_properties before (property m.0 flags v no_properties)) m.0 flags braced, zs) in
         let z = mapped (close braced ws) grown (to, xs) (subst (λ y. put y v ws ≡ Some (to, xs)) (sym same) p) in
         let d = subst (λ y. FrameReads y.0 y.1 x rest) (sym z.2) e in
-        let reads : Reads (expected_under keys m.0) v h us ws = subst (λ y. Reads y v h us ws) (sym (ap (λ y. expected_in c y.0) w)) r in
+        let reads : ReadsValue (expected_under keys m.0) v h us ws = subst (λ y. ReadsValue y v h us ws) (sym (ap (λ y. expected_in c y.0) w)) r in
         let at : property_at ls ≡ Some ((flags, (braced, h)), us) =
         l.1 ∙ ap (λ y. Some ((flags, (braced, token_in h y.0)), y.1)) w in
         let all : AreProperties keys (property m.0 flags v d.0) ts d.1 = (name, ls, braced, h, us, ws, z.0, a, m.1, at, reads, z.1, d.2) in
         (property m.0 flags v d.0, d.1, all, d.3, ap (object t i) (sym (join_one_property before m.0 flags v d.0)) ∙ d.4)
 
 frame_back : (f : Frame) (ts us ws xs rest : List Token) (g to : Frame) (c : Expected) (h : Token) (v x : Tree) →
-    next f ts ≡ Some (wants g c h, us) → Reads c v h us ws → put g v ws ≡ Some (to, xs) → FrameReads to xs x rest → FrameReads f ts x rest
+    next f ts ≡ Some (wants g c h, us) → ReadsValue c v h us ws → put g v ws ≡ Some (to, xs) → FrameReads to xs x rest → FrameReads f ts x rest
 frame_back (in_struct b before) = struct_back b before
 frame_back (in_array t k before) = array_back t k before
 frame_back (in_choice s n t k before) = choice_back s n t k before
@@ -331,9 +331,9 @@ reads_as c v ts rest h = by_head (head ts) refl h
         StepReads (after_opening [] o) v rest → ReadsAs c v ts rest
     by_opening p e None q s = absurd s
     by_opening p e (Some (leaf l, ws)) q s =
-        (p.0, p.1, e, subst (λ l. Reads c v p.0 p.1 l) s.1 (subst (λ x. Reads c x p.0 p.1 ws) s.0 (leaf_reads l c p.0 p.1 ws q)))
+        (p.0, p.1, e, subst (λ l. ReadsValue c v p.0 p.1 l) s.1 (subst (λ x. ReadsValue c x p.0 p.1 ws) s.0 (leaf_reads l c p.0 p.1 ws q)))
     by_opening p e (Some (begun o, ws)) q s =
-        (p.0, p.1, e, subst (λ l. Reads c v p.0 p.1 l) s.3.1 (subst (λ x. Reads c x p.0 p.1 s.1) s.3.0 (opened_reads o c p.0 p.1 ws s.1 s.0 q s.2)))
+        (p.0, p.1, e, subst (λ l. ReadsValue c v p.0 p.1 l) s.3.1 (subst (λ x. ReadsValue c x p.0 p.1 s.1) s.3.0 (opened_reads o c p.0 p.1 ws s.1 s.0 q s.2)))
 
     by_head : (o : Option (Token × List Token)) → head ts ≡ o → Follows (started c o) (Some (v, rest)) → ReadsAs c v ts rest
     by_head None e s = absurd (some≢none (v, rest) s)

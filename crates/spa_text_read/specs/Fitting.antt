@@ -5,6 +5,7 @@ use Rattle.spa_format.specs.Tree.{Tree, array, choice, struct, object, Trees, no
 use Rattle.spa_names.specs.declared.entry.Expected.{Expected}
 use Rattle.spa_names.specs.declared.keys.TheConstants.{PARAM_ROUTE_DEVICES, PARAM_ROUTE_PROFILES}
 use Rattle.spa_names.specs.declared.types.TheConstants.{OBJECT_PARAM_ROUTE}
+use Rattle.spa_utils.specs.declared.types.TheConstants.SpaTypes as types
 use Rattle.spa_text_read.specs.Names.{keys_of, expected_under}
 use Rattle.spa_text_read.specs.declared.fitting.FullType.{FullType}
 use Rattle.spa_text_read.specs.declared.fitting.Strictness.{Strictness}
@@ -34,11 +35,15 @@ type_under type key = if has_indexes type key then full array_type (type_number 
 
 -- nothing is known of what belongs there, or any pod does
 abbrev pub is_open : ℕ → Bool
-is_open type = type == 0 || type == 20
+is_open type = type == 0 || type == types.Pod.0
 
--- PipeWire's parser takes None there, as a value that is missing: a String, a Struct, or an object, whose type numbers begin here
+-- the types of objects, which are events, commands and parameters, have numbers above this one
+abbrev pub object_types : ℕ
+object_types = 131072
+
+-- PipeWire's parser takes None there, as a value that is missing: a String, a Struct, or an object
 abbrev pub may_miss : ℕ → Bool
-may_miss type = type == string_type || (type == struct_type || nat_lt 131072 type)
+may_miss type = type == string_type || (type == struct_type || nat_lt object_types type)
 
 -- where one type belongs, a value of the other may stand
 abbrev pub takes : (wanted found : FullType) → Bool
@@ -59,7 +64,7 @@ abbrev mutual
   AllFit no_trees = ⊤
   AllFit (member v vs) = Fits v × AllFit vs
 
-  -- the same of the properties of an object of this type
+  -- under the key of each of these properties of an object of this type, and in all objects inside their values, stands a value of the type that belongs there
   pub PropertiesFit : (type : ℕ) → Properties → Type 0
   PropertiesFit t no_properties = ⊤
   PropertiesFit t (property k f v ps) = (fits_under t k v ≡ true) × Fits v × PropertiesFit t ps

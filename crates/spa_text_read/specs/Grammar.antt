@@ -275,32 +275,33 @@ AreElements c k (x ∷ xs) ts rest =
 abbrev mutual
   -- Where this is expected, a value begins with this token, goes on with these, and `rest` follows it. Each clause has the same three parts: what
   -- `opens` says begins here; what is in it; the brace or bracket that closes it. docs/TEXT.md, "The definition, by an example", goes through one text.
-  pub Reads : Expected → Tree → Token → List Token → List Token → Type 0
-  Reads c (array k xs) h ts rest =
+  -- Of the text [5] it says: where nothing is known, the Struct of the Int 5 begins with `[`, goes on with `5` and `]`, and nothing follows it.
+  pub ReadsValue : Expected → Tree → Token → List Token → List Token → Type 0
+  ReadsValue c (array k xs) h ts rest =
       (t : Table) × (us : List Token) × (vs : List Token) × (opens c h ts ≡ Some (begun (an_array t k), us))
       × AreElements (element t k) k xs us vs × (after_end_object vs ≡ Some rest)
-  Reads c (choice s f k x xs) h ts rest =
+  ReadsValue c (choice s f k x xs) h ts rest =
       (t : Table) × (us : List Token) × (vs : List Token) × (opens c h ts ≡ Some (begun (a_choice s f t k), us))
       × AreElements (element t k) k (x ∷ xs) us vs × (choice_of s f k (x ∷ xs) ≡ Some (choice s f k x xs))
       × (after_end_object vs ≡ Some rest)
-  Reads c (struct vs) h ts rest =
+  ReadsValue c (struct vs) h ts rest =
       (b : Bool) × (us : List Token) × (ws : List Token) × (opens c h ts ≡ Some (begun (a_struct b), us))
       × AreMembers vs us ws × (close b ws ≡ Some rest)
-  Reads c (object t i ps) h ts rest =
+  ReadsValue c (object t i ps) h ts rest =
       (us : List Token) × (ws : List Token) × (opens c h ts ≡ Some (begun (an_object t i), us))
       × AreProperties (keys_of t) ps us ws × (after_end_object ws ≡ Some rest)
-  Reads c (fixed x) h ts rest = opens c h ts ≡ Some (leaf (a_number x), rest)
-  Reads c (Tree.string s) h ts rest = opens c h ts ≡ Some (leaf (a_text s), rest)
-  Reads c (bytes s) h ts rest = opens c h ts ≡ Some (leaf (some_bytes s), rest)
-  Reads c (bitmap s) h ts rest = opens c h ts ≡ Some (leaf (a_bitmap s), rest)
-  Reads c (pointer t a) h ts rest = opens c h ts ≡ Some (leaf (a_pointer t a), rest)
+  ReadsValue c (fixed x) h ts rest = opens c h ts ≡ Some (leaf (a_number x), rest)
+  ReadsValue c (Tree.string s) h ts rest = opens c h ts ≡ Some (leaf (a_text s), rest)
+  ReadsValue c (bytes s) h ts rest = opens c h ts ≡ Some (leaf (some_bytes s), rest)
+  ReadsValue c (bitmap s) h ts rest = opens c h ts ≡ Some (leaf (a_bitmap s), rest)
+  ReadsValue c (pointer t a) h ts rest = opens c h ts ≡ Some (leaf (a_pointer t a), rest)
 
   -- these members, and the bracket behind them
   pub AreMembers : Trees → List Token → List Token → Type 0
   AreMembers no_trees ts rest = after_end_array ts ≡ Some rest
   AreMembers (member v vs) ts rest =
       (h : Token) × (us : List Token) × (ws : List Token) × (after_end_array ts ≡ None) × (head ts ≡ Some (h, us))
-      × Reads nothing v h us ws × AreMembers vs ws rest
+      × ReadsValue nothing v h us ws × AreMembers vs ws rest
 
   -- these properties under keys of this table, and the brace behind them
   pub AreProperties : Table → Properties → List Token → List Token → Type 0
@@ -308,8 +309,8 @@ abbrev mutual
   AreProperties t (property k f v ps) ts rest =
       (name : List ℕ) × (us : List Token) × (b : Bool) × (h : Token) × (vs : List Token) × (ws : List Token) × (xs : List Token)
       × (read_key ts ≡ Some (Some name, us)) × (key_number t name ≡ Some k) × (property_at us ≡ Some ((f, (b, h)), vs))
-      × Reads (expected_under t k) v h vs ws × (close b ws ≡ Some xs) × AreProperties t ps xs rest
+      × ReadsValue (expected_under t k) v h vs ws × (close b ws ≡ Some xs) × AreProperties t ps xs rest
 
 -- the tokens begin with a value, where this is expected, and this follows it
 abbrev pub ReadsAs : Expected → Tree → List Token → List Token → Type 0
-ReadsAs c v ts rest = (h : Token) × (us : List Token) × (head ts ≡ Some (h, us)) × Reads c v h us rest
+ReadsAs c v ts rest = (h : Token) × (us : List Token) × (head ts ≡ Some (h, us)) × ReadsValue c v h us rest

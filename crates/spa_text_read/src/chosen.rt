@@ -60,7 +60,7 @@ fn choice_of<T: CanonicalFixedSizedPod>(
     }
 }
 
-/// The same without its flags.
+/// The choice of these values without its flags, where there are as many as its shape takes.
 fn chosen<T: CanonicalFixedSizedPod>(shape: Shape, values: Vec<T>) -> Option<ChoiceEnum<T>>
     ensures { MatchOption result ((n : ℕ) → grammar.chosen (shape_of shape) n T.kind (map T.fixed values.items) ≡ None) (λ c. (n : ℕ) → grammar.chosen (shape_of shape) n T.kind (map T.fixed values.items) ≡ Some (choice_enum_tree T.kind T.fixed n c)) }
 {

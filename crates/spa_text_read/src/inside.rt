@@ -4,6 +4,7 @@ ghost use Rattle.json.specs.Json.{after_end_array, read_key};
 ghost use Rattle.json.specs.Reads.{token_of};
 ghost use Rattle.spa_format.specs.Tree.{join_members, join_properties, member, no_properties, no_trees, property};
 ghost use Rattle.spa_text_read.specs.Grammar as grammar;
+ghost use Rattle.spa_text_read.specs.Names as spec;
 ghost use Rattle.spa_text_read.specs.FramesFit.{AdmitsLast, last_fits};
 ghost use Rattle.spa_text_read.specs.Seen.{IsListed, KeepsAtEnd, frame_of, items_in, kind_in, next_of};
 ghost use Rattle.spa_text_read.specs.Steps as steps;
@@ -16,8 +17,8 @@ use crate::cause::Cause;
 use crate::chosen::choice_value;
 use crate::element::{element_of, put_element};
 use crate::fitting::{Misfit, Strictness, element_type, misfit_of};
-use crate::names::{expected_under, keys_of, number_of};
-use crate::numerals::unsigned;
+use crate::names::{expected_under, key_named, keys_of};
+use crate::numerals::number_of_digits;
 use crate::shape::Shape;
 use crate::tokens::{end_object, head, item, key, next_key, word};
 use bitflags::Flags;
@@ -25,6 +26,9 @@ use json::{Reader, Token};
 use spa_names::{Expected, Table};
 use spa_utils::SpaTypes;
 use spa_value::{Object, Property, PropertyFlags, Value, ValueArray, discard};
+
+/// For how many properties room is made at first: most objects have as many at most.
+const FIRST_ROOM: usize = 8;
 
 /// An object that is begun.
 #[derive(Drop)]
@@ -218,15 +222,14 @@ impl OpenObject {
                 None => Err(Cause::Token),
             };
         };
-        let keys = keys_of(self.type_);
-        let Some(key) = key_number(keys, name) else {
+        let Some((key, expected)) = key_at(keys_of(self.type_), name) else {
             return Err(Cause::Name);
         };
         self.key = key;
         let (flags, braced, head) = property_at(reader)?;
         self.flags = PropertyFlags::from_bits_retain(flags);
         self.braced = braced;
-        Ok(Next::Wants(head, expected_under(keys, key)))
+        Ok(Next::Wants(head, expected))
     }
 
     /// What the last property has in place of the type that belongs under its key.
@@ -251,7 +254,12 @@ impl OpenObject {
             discard(value);
             return Err(Cause::Token);
         };
-        let Ok(()) = self.properties.reserve(1) else {
+        let room = if self.properties.is_empty() {
+            FIRST_ROOM
+        } else {
+            1
+        };
+        let Ok(()) = self.properties.reserve(room) else {
             discard(value);
             return Err(Cause::OutOfMemory);
         };
@@ -264,13 +272,13 @@ impl OpenObject {
     }
 }
 
-/// The number of a key: by its digits, or by its name.
-fn key_number(keys: Table, name: &str) -> Option<u32>
-    ensures { result ≡ grammar.key_number keys name.now }
+/// The number of a key, by its digits or by its name, and what is expected of the value under it.
+fn key_at(keys: Table, name: &str) -> Option<(u32, Expected)>
+    ensures { MatchOption result (grammar.key_number keys name.now ≡ None) (λ key. (grammar.key_number keys name.now ≡ Some key.0) × (key.1 ≡ spec.expected_under keys key.0)) }
 {
-    match unsigned(name) {
-        Some(number) => Some(number),
-        None => number_of(keys, name),
+    match number_of_digits(name) {
+        Some(number) => Some((number, expected_under(keys, number))),
+        None => key_named(keys, name),
     }
 }
 
@@ -324,10 +332,11 @@ fn put_value(values: &mut ValueArray, value: Value) -> Result<(), Cause>
     ensures kind { OnOk result (kind_in values.new ≡ kind_in values.old) }
     ensures refused { IfErr result (λ e. e ≢ Cause.OutOfMemory → steps.element_of (kind_in values.old) (view value) ≡ None) }
 {
-    let found = element_of(&value);
-    discard(value);
-    match found {
+    match element_of(&value) {
         Some(element) => put_element(values, element),
-        None => Err(Cause::Type),
+        None => {
+            discard(value);
+            Err(Cause::Type)
+        }
     }
 }

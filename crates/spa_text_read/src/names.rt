@@ -1,5 +1,5 @@
 //! What the tables of names say.
-ghost use Rattle.std.specs.Prelude.{◌≡◌, IfSome, Some, option_map};
+ghost use Rattle.std.specs.Prelude.{◌≡◌, IfSome, MatchOption, None, Some, option_map};
 ghost use Rattle.spa_text_read.specs.Names as spec;
 
 use spa_names::laws::names_come_back;
@@ -12,6 +12,14 @@ pub(crate) fn number_of(table: Table, name: &str) -> Option<u32>
     ensures { result ≡ spec.number_of table name.now }
 {
     spa_names::number_of(table, name)
+}
+
+/// The number of a key by its name, and what is expected of the value under it.
+#[tactic(auto, unfolding(crate::specs::Names::expected_under, crate::specs::Names::number_of))]
+pub(crate) fn key_named(keys: Table, name: &str) -> Option<(u32, Expected)>
+    ensures { MatchOption result (spec.number_of keys name.now ≡ None) (λ key. (spec.number_of keys name.now ≡ Some key.0) × (key.1 ≡ spec.expected_under keys key.0)) }
+{
+    spa_names::key_named(keys, name)
 }
 
 /// The name of a number.

@@ -21,6 +21,17 @@ pub fn unsigned(text: &str) -> Option<u32>
     }
 }
 
+/// The number that the name of a key is. Few are: behind the digits of ASCII no number begins.
+#[tactic(auto, using(crate::proofs::Digits::no_number))]
+pub(crate) fn number_of_digits(name: &str) -> Option<u32>
+    ensures { result ≡ spec.unsigned name.now }
+{
+    match name.as_bytes() {
+        [first, ..] if *first > b'9' => None,
+        _ => unsigned(name),
+    }
+}
+
 /// The signed number of 32 bits that the text is.
 #[tactic(auto, using(crate::proofs::Digits::signed_some, crate::proofs::Digits::signed_none))]
 pub(crate) fn signed(text: &str) -> Option<i32>

@@ -3,7 +3,7 @@ ghost use Rattle.std.specs.Prelude.{◌≡◌, ◌≢◌, ◌≤◌, IfErr, IfOk
 ghost use Rattle.json.specs.Reads.{token_of};
 ghost use Rattle.spa_utils.specs.declared.types.SpaTypes as types;
 ghost use Rattle.spa_text_read.specs.Grammar as grammar;
-ghost use Rattle.spa_text_read.specs.Grammar.{a_text, tree};
+ghost use Rattle.spa_text_read.specs.Grammar.{a_struct, a_text, tree};
 ghost use Rattle.spa_text_read.specs.Tokens.{after_end_object, any_text};
 ghost use Rattle.spa_text_read.specs.declared.inside.Opened.TheVariants.{Leaf};
 ghost use Rattle.spa_text_read.specs.Seen.{IsFresh, IsNumber, IsOpened, kind_in, items_in, leaf_at, leaf_of, number_in, opened_of, opening_of, says};
@@ -61,10 +61,10 @@ pub(crate) fn open(
                 Err(_) => Err(Cause::OutOfMemory),
             }
         }
-        Token::BeginArray => Ok(Opened::Begun(Inside::Struct {
-            tagged: false,
-            members: Vec::new(alloc),
-        })),
+        Token::BeginArray => match struct_at(alloc, false) {
+            Ok(begun) => Ok(Opened::Begun(begun)),
+            Err(cause) => Err(cause),
+        },
         Token::Key(name) => open_tagged(alloc, reader, tag_of(name), expected),
         _ => Err(Cause::Token),
     }
@@ -87,10 +87,10 @@ fn open_tagged(
             let Some(()) = begin_array(reader) else {
                 return Err(Cause::Token);
             };
-            Ok(Opened::Begun(Inside::Struct {
-                tagged: true,
-                members: Vec::new(alloc),
-            }))
+            match struct_at(alloc, true) {
+                Ok(begun) => Ok(Opened::Begun(begun)),
+                Err(cause) => Err(cause),
+            }
         }
         Tag::Array => match array_at(alloc, reader, expected) {
             Ok(array) => Ok(Opened::Begun(array)),
@@ -108,6 +108,18 @@ fn open_tagged(
             Ok(value) => end_leaf(value, reader),
             Err(cause) => Err(cause),
         },
+    }
+}
+
+/// Begins a struct, with room for one member: where structs nest deep, each has no more.
+fn struct_at(alloc: Global, tagged: bool) -> Result<Inside, Cause>
+    ensures begun { IfOk result (λ i. opening_of i ≡ a_struct tagged) }
+    ensures fresh { IfOk result (λ i. IsFresh i) }
+    ensures memory { IfErr result (λ e. e ≡ Cause.OutOfMemory) }
+{
+    match Vec::with_capacity(alloc, 1) {
+        Ok(members) => Ok(Inside::Struct { tagged, members }),
+        Err(_) => Err(Cause::OutOfMemory),
     }
 }
 

@@ -1,4 +1,4 @@
-use Rattle.std.proofs.Common.{◌+◌, ap, arith, length, refl}
+use Rattle.std.proofs.Common.{ap, arith, length}
 use Rattle.spa_text_commands.proofs.Extents.{shorter}
 use Rattle.spa_text_commands.proofs.ReadTexts.{begins, goes_on, not_read}
 use Rattle.spa_text_commands.proofs.reading.read_all.Goals as goal
@@ -8,20 +8,20 @@ loop-left-init c = begins _ _ _ c.new-pods.ensures.items
 
 pub loop-left-smaller : goal.loop-left-smaller
 loop-left-smaller c =
-    shorter c.loop-left.left.now c.split_text.result.0.now c.split_text.result.1.now
-    (c.split_text.ensures (λ e. let l = ap length e in grind (arith, l, c.loop-left-test.true, c.is_empty.ensures)))
+    shorter c.loop-left.left.now c.split_front.result.0.now c.split_front.result.1.now
+    (c.split_front.ensures (λ e. let l = ap length e in grind (arith, l, c.loop-left-test.true, c.is_empty.ensures)))
 
 pub loop-left-preserved : goal.loop-left-preserved
 loop-left-preserved c =
-    goes_on c.args.strictness c.args.bytes.now c.loop-left.left.now c.split_text.result.0.now c.split_text.result.1.now c.loop-left.pods.items
-    c.add_pod.new.pods.items c.loop-left.line c.position_behind-last.result.0 (c.position_behind-last.result.0 + 1)
-    c.in-Ok.ensures.added.0 c.loop-left.invariant
-    (c.split_text.ensures (λ e. let l = ap length e in grind (arith, l, c.loop-left-test.true, c.is_empty.ensures)))
-    c.in-Ok.ensures.added.1 c.in-Ok.ensures.added.2 c.position_behind-last.ensures.line refl
+    goes_on c.args.strictness c.args.bytes.now c.loop-left.left.now c.split_front.result.0.now c.split_front.result.1.now c.loop-left.pods.items
+    c.add_pod.new.pods.items c.in-Ok.ensures.added.0 c.loop-left.invariant
+    (c.split_front.ensures (λ e. let l = ap length e in grind (arith, l, c.loop-left-test.true, c.is_empty.ensures)))
+    c.in-Ok.ensures.added.1 c.in-Ok.ensures.added.2
 
 pub returns-in-Err-clause-refused : goal.returns-in-Err-clause-refused
 returns-in-Err-clause-refused c =
-    not_read c.args.strictness c.args.bytes.now c.loop-left.left.now c.split_text.result.0.now c.split_text.result.1.now c.loop-left.pods.items
-    c.loop-left.line c.failure_at.result c.loop-left.invariant
-    (c.split_text.ensures (λ e. let l = ap length e in grind (arith, l, c.loop-left-test.true, c.is_empty.ensures)))
+    not_read c.args.strictness c.args.bytes.now c.loop-left.left.now c.split_front.result.0.now c.split_front.result.1.now c.loop-left.pods.items
+    c.position_behind-line.result.0 c.failure_at.result c.loop-left.invariant
+    (c.split_front.ensures (λ e. let l = ap length e in grind (arith, l, c.loop-left-test.true, c.is_empty.ensures)))
+    c.position_behind-line.ensures.line
     (c.failure_at.ensures c.args.strictness c.in-Err.ensures.refused)

@@ -3,6 +3,7 @@
 use crate::shims::prelude::*;
 use crate::parts::spa_names::contents::{entries_of, namings_of};
 use crate::parts::spa_names::entry::{Entry, Expected};
+use crate::parts::spa_names::guess::guess_of;
 use crate::parts::spa_names::key_entries::EXPECTED;
 use crate::parts::spa_names::table::{OBJECTS, Table};
 use crate::parts::spa_utils::SpaTypes;
@@ -42,9 +43,34 @@ fn expected_at(place: usize) -> Expected {
 
 /// The number of a name. None: the table doesn't have it.
 pub fn number_of(table: Table, name: &str) -> Option<u32> {
+    match number_at(table, name) {
+        Some((number, _)) => Some(number),
+        None => None,
+    }
+}
+
+/// The number of a key by its name, and what is expected of the value under it. None: the table of its object's keys doesn't have the name.
+pub fn key_named(keys: Table, name: &str) -> Option<(u32, Expected)> {
+    match number_at(keys, name) {
+        Some((number, place)) => match entry_near(keys, number, place) {
+            Some(entry) => Some((number, expected_at(entry.3))),
+            None => Some((number, Expected::NOTHING)),
+        },
+        None => None,
+    }
+}
+
+/// The number of a name, with a guess at which index the table has the entry of this number. None: the table doesn't have the name.
+fn number_at(table: Table, name: &str) -> Option<(u32, usize)> {
     let namings = namings_of(table);
+    let (at, place) = guess_of(name, namings.len());
+    if let Some(naming) = namings.get(at) {
+        if naming.0 == name {
+            return Some((naming.1, place));
+        }
+    }
     match namings.binary_search_by(|naming| naming.0.cmp(&name)) {
-        Ok(at) => Some(namings[at].1),
+        Ok(at) => Some((namings[at].1, place)),
         Err(_) => None,
     }
 }
@@ -72,6 +98,16 @@ fn object_of(type_: SpaTypes) -> Option<(u32, Table, Table)> {
         Ok(at) => Some(objects[at]),
         Err(_) => None,
     }
+}
+
+/// A table's entry of a number, which is likely to be at this index. None: it has none.
+fn entry_near(table: Table, number: u32, place: usize) -> Option<Entry> {
+    if let Some(entry) = entries_of(table).get(place) {
+        if entry.0 == number {
+            return Some(*entry);
+        }
+    }
+    entry_of(table, number)
 }
 
 /// A table's entry of a number. None: it has none.

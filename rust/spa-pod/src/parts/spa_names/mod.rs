@@ -3,6 +3,8 @@ use crate::shims::prelude::*;
 mod contents;
 mod entry;
 pub mod formats;
+mod guess;
+mod guesses;
 mod id_entries;
 pub mod ids;
 mod key_entries;
@@ -15,5 +17,5 @@ mod table;
 pub mod types;
 
 pub use entry::Expected;
-pub use lookup::{expected_under, ids_of, keys_of, name_of, number_of, path_of};
+pub use lookup::{expected_under, ids_of, key_named, keys_of, name_of, number_of, path_of};
 pub use table::Table;

@@ -1,0 +1,114 @@
+-- Texts that end with their first line.
+use Rattle.std.proofs.Common.{◌≡◌, ◌≢◌, ◌≤◌, ◌<◌, ℕ, ◌+◌, ◌-◌, List, [], ◌∷◌, ◌++◌, refl, sym, inl, inr, arith, length, take, ◌∙◌, ap, subst, length-append, append_assoc}
+use Rattle.std.proofs.lemmas.Bool.Decides.{nat_tests}
+use Rattle.std.specs.Prelude.{◌⊎◌, Bool, true, false, ◌==◌, ◌&&◌, ◌||◌, if◌then◌else◌}
+use Rattle.json.specs.Ascii.{quote, backslash}
+use Rattle.spa_text_commands.specs.Extent.{BeginsText, Place, outside, within, escaped, behind_text, first_text, open_behind, place_behind}
+use Rattle.spa_text_commands.specs.Splitting.{ClosesString}
+use Rattle.spa_text_commands.proofs.Extents.{Passed, one_passed, text_passed}
+
+is_none : (x y : ℕ) → x ≢ y → (x == y) ≡ false
+is_none x y h = grind (arith, nat_tests)
+
+-- ---- The loop over a string
+
+-- how far it is: these bytes of the string are passed
+pub record InString (bytes left : List ℕ) : Type 0 where
+  pub front : List ℕ
+  pub cut : bytes ≡ front ++ left
+  pub text : (n : ℕ) → first_text within n bytes ≡ front ++ first_text within n left
+  pub others : (n : ℕ) → behind_text within n bytes ≡ behind_text within n left
+
+pub string_begins : (bytes : List ℕ) → InString bytes bytes
+string_begins bytes = record { front = []; cut = refl; text = λ n. refl; others = λ n. refl }
+
+no_feed : (x n : ℕ) → x ≢ 10 → (x == 10 && n == 0) ≡ false
+no_feed x n h = ap (λ b. b && n == 0) (is_none x 10 h)
+
+first_more : (n x : ℕ) (xs : List ℕ) → (x == 10 && n == 0) ≡ false → first_text within n (x ∷ xs) ≡ x ∷ first_text (place_behind within x) n xs
+first_more n x xs e = ap (λ b. if b then [] else x ∷ first_text (place_behind within x) n xs) e
+
+behind_more : (n x : ℕ) (xs : List ℕ) → (x == 10 && n == 0) ≡ false → behind_text within n (x ∷ xs) ≡ behind_text (place_behind within x) n xs
+behind_more n x xs e = ap (λ b. if b then xs else behind_text (place_behind within x) n xs) e
+
+stays : (x : ℕ) → x ≢ 34 → x ≢ 92 → x ≢ 10 → place_behind within x ≡ within
+stays x q s f =
+    ap (λ b. if b || x == 10 then outside else if x == backslash then escaped else within) (is_none x 34 q)
+    ∙ ap (λ b. if b then outside else if x == backslash then escaped else within) (is_none x 10 f)
+    ∙ ap (λ b. if b then escaped else within) (is_none x 92 s)
+
+pub string_goes_on : (bytes left behind : List ℕ) (x : ℕ) → InString bytes left → left ≡ x ∷ behind → x ≢ 34 → x ≢ 92 → x ≢ 10 → InString bytes behind
+string_goes_on bytes left behind x so e q s f = record {
+  front = so.front ++ x ∷ [];
+  cut = so.cut ∙ ap (λ l. so.front ++ l) e ∙ sym (append_assoc so.front (x ∷ []) behind);
+  text = λ n.
+      so.text n
+      ∙ ap (λ l. so.front ++ first_text within n l) e
+      ∙ ap (λ l. so.front ++ l) (first_more n x behind (no_feed x n f) ∙ ap (λ p. x ∷ first_text p n behind) (stays x q s f))
+      ∙ sym (append_assoc so.front (x ∷ []) (first_text within n behind));
+  others = λ n.
+      so.others n ∙ ap (λ l. behind_text within n l) e ∙ behind_more n x behind (no_feed x n f) ∙ ap (λ p. behind_text p n behind) (stays x q s f);
+}
+
+pub string_ends : (bytes left behind : List ℕ) (x : ℕ) → InString bytes left → left ≡ x ∷ behind → x ≡ 34 → ClosesString bytes behind
+string_ends bytes left behind x so e q =
+    let l : left ≡ 34 ∷ behind = e ∙ ap (λ y. y ∷ behind) q in
+    record {
+      front = so.front ++ 34 ∷ [];
+      cut = so.cut ∙ ap (λ l. so.front ++ l) l ∙ sym (append_assoc so.front (34 ∷ []) behind);
+      text = λ n. so.text n ∙ ap (λ l. so.front ++ first_text within n l) l ∙ sym (append_assoc so.front (34 ∷ []) (first_text outside n behind));
+      others = λ n. so.others n ∙ ap (λ l. behind_text within n l) l;
+    }
+
+-- ---- The loop over a line
+
+pub string_shorter : (bytes behind : List ℕ) → ClosesString bytes behind → length behind ≤ length bytes
+string_shorter bytes behind c = let l = ap length c.cut ∙ length-append c.front behind in omega (arith, l)
+
+-- a string is passed
+pub string_passed : (bytes left string behind : List ℕ) (n x : ℕ) → Passed bytes left outside n → left ≡ x ∷ string → x ≡ 34 → ClosesString string behind →
+    Passed bytes behind outside n
+string_passed bytes left string behind n x so e q c =
+    let l : left ≡ 34 ∷ string = e ∙ ap (λ y. y ∷ string) q in
+    let one = one_passed bytes left string outside within n n 34 false so l refl refl refl refl in
+    let few = one.few in
+    let k = ap length c.cut ∙ length-append c.front behind in
+    record {
+      passed = one.passed ++ c.front;
+      whole = one.whole ∙ ap (λ l. one.passed ++ l) c.cut ∙ sym (append_assoc one.passed c.front behind);
+      text = one.text ∙ ap (λ l. one.passed ++ l) (c.text n) ∙ sym (append_assoc one.passed c.front (first_text outside n behind));
+      behind = one.behind ∙ c.others n;
+      few = omega (arith, few, k);
+    }
+
+-- a bracket is passed
+pub opens_passed : (bytes left behind : List ℕ) (n x : ℕ) → Passed bytes left outside n → left ≡ x ∷ behind → (x ≡ 123) ⊎ ((x ≢ 123) × (x ≡ 91)) →
+    Passed bytes behind outside (n + 1)
+opens_passed bytes left behind n x so e (inl is) =
+    one_passed bytes left behind outside outside n (n + 1) 123 false so (e ∙ ap (λ y. y ∷ behind) is) refl refl refl refl
+opens_passed bytes left behind n x so e (inr is) =
+    one_passed bytes left behind outside outside n (n + 1) 91 false so (e ∙ ap (λ y. y ∷ behind) is.1) refl refl refl refl
+
+pub closes_passed : (bytes left behind : List ℕ) (n m x : ℕ) → Passed bytes left outside n → left ≡ x ∷ behind → (x ≡ 125) ⊎ ((x ≢ 125) × (x ≡ 93)) → m ≡ n - 1 →
+    Passed bytes behind outside m
+closes_passed bytes left behind n m x so e (inl is) less =
+    one_passed bytes left behind outside outside n m 125 false so (e ∙ ap (λ y. y ∷ behind) is) refl refl refl less
+closes_passed bytes left behind n m x so e (inr is) less =
+    one_passed bytes left behind outside outside n m 93 false so (e ∙ ap (λ y. y ∷ behind) is.1) refl refl refl less
+
+-- another byte is passed
+pub plain_passed : (bytes left behind : List ℕ) (n x : ℕ) → Passed bytes left outside n → left ≡ x ∷ behind → x ≢ 10 → x ≢ 34 → x ≢ 123 → x ≢ 91 → x ≢ 125 → x ≢ 93 →
+    Passed bytes behind outside n
+plain_passed bytes left behind n x so e f q a b c d =
+    one_passed bytes left behind outside outside n n x false so e (sym (no_feed x n f)) refl (sym (ap (λ b. if b then within else outside) (is_none x 34 q)))
+    (sym (ap (λ t. if t || x == 91 then n + 1 else if x == 125 || x == 93 then n - 1 else n) (is_none x 123 a)
+    ∙ ap (λ t. if t then n + 1 else if x == 125 || x == 93 then n - 1 else n) (is_none x 91 b)
+    ∙ ap (λ t. if t || x == 93 then n - 1 else n) (is_none x 125 c)
+    ∙ ap (λ t. if t then n - 1 else n) (is_none x 93 d)))
+
+-- the line ends
+pub line_passed : (bytes left behind text : List ℕ) (n x k : ℕ) → Passed bytes left outside n → left ≡ x ∷ behind → x ≡ 10 → n ≡ 0 → k ≡ length bytes - length left →
+    text ≡ take k bytes → bytes ≢ [] → BeginsText bytes text behind
+line_passed bytes left behind text n x k so e f z at cut some =
+    let end : (x == 10 && n == 0) ≡ true = ap (λ y. y == 10 && n == 0) f ∙ ap (λ m. m == 0) z in
+    text_passed bytes left behind text outside n x k (x == 10 && n == 0) so e refl end at cut some

@@ -1,7 +1,7 @@
 -- Pods that are replaced by their encodings, and canonical ones behind them that are moved.
-use Rattle.std.proofs.Common.{◌≡◌, ◌≤◌, ℕ, ◌+◌, ◌-◌, List, [], ◌++◌, length, take, drop, sym, ap, ◌∙◌, subst, arith, length-drop}
+use Rattle.std.proofs.Common.{◌≡◌, ◌≤◌, ℕ, ◌+◌, ◌-◌, List, [], ◌++◌, length, take, drop, sym, ap, ◌∙◌, subst, arith, length-append, length-drop}
 use Rattle.std.specs.Prelude.{false}
-use Rattle.std.proofs.lemmas.List.{drop-append-le, drop-drop, drop_at, length-take-le, take-append-drop, take-append-le, take_all}
+use Rattle.std.proofs.lemmas.List.{drop-append-le, drop_all, drop-drop, drop_at, length-take-le, take-append-drop, take-append-le, take_all}
 use Rattle.spa_format.specs.Tree.{join_members}
 use Rattle.spa_format.specs.Pod.{AreMembers}
 use Rattle.spa_format.specs.Encoding.{member_encodings}
@@ -9,6 +9,7 @@ use Rattle.spa_format.proofs.Sequences.{members_joined}
 use Rattle.spa_rewrite.specs.Look.{AreChanged}
 use Rattle.spa_rewrite.specs.Placed.{WritesPods}
 use Rattle.spa_rewrite.specs.Rewriting.{AreRewritten}
+use Rattle.spa_rewrite.specs.Steady.{ArePatched}
 use Rattle.spa_rewrite.specs.declared.look.ChangedPods.{ChangedPods}
 use Rattle.spa_rewrite.proofs.Stretches.{member_encodings-join}
 use borrow.Rule.Slice.PartMut.{put_mid}
@@ -67,3 +68,29 @@ tail_carried now sub sub_old part len end k start stop low within e f p s o n =
     let is : part ≡ take (len + tail - len) (drop len now) =
     p ∙ ap (λ x. take (stop - start) (drop start x)) o ∙ ap (take (stop - start)) (drop-drop start end now ∙ ap (λ i. drop i now) at) ∙ ap (λ i. take i (drop len now)) long in
     run_carried now now sub sub_old part len end tail k (omega arith) (omega arith) is s o n
+
+-- all of them in place, where none gets shorter
+pub changes_patched : (pods patched : List ℕ) (c : ChangedPods) → AreChanged pods c → c.surplus ≡ 0 → ArePatched false (take c.len pods) patched →
+    length patched ≡ length (take c.len pods) → ChangesPlaced pods (patched ++ drop c.len pods) c
+changes_patched pods patched c h z p l =
+    let s = h.shorter in
+    let k = h.canonical in
+    let first = take c.len pods in
+    let last = drop c.len pods in
+    let new = patched ++ last in
+    let parts = take-append-drop c.len pods in
+    let whole = ap length (sym parts) ∙ length-append first last in
+    let new_long = length-append patched last in
+    let own = s.long in
+    let is : patched ≡ member_encodings s.values = p s.values s.members (omega arith) in
+    let vs = join_members s.values k.values in
+    let written : new ≡ member_encodings vs =
+    ap (λ x. x ++ last) is ∙ ap (λ x. member_encodings s.values ++ x) k.same ∙ sym (member_encodings-join s.values k.values) in
+    record {
+      rewritten = (
+        vs,
+        subst (AreMembers vs) parts (members_joined s.values k.values first last s.members k.members),
+        take_all (length pods - c.surplus) new (omega arith) ∙ written,
+      );
+      behind = drop_all (length pods - c.surplus) new (omega arith) ∙ sym (drop_all (length pods - c.surplus) pods (omega arith));
+    }

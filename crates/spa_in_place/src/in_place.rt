@@ -1,5 +1,5 @@
 //! Rewriting where the input lies.
-ghost use Rattle.std.specs.Prelude.{◌≡◌, ◌-◌, ◌≤◌, [], IfErr, IfOk, OnErr, drop, false, length, take, true};
+ghost use Rattle.std.specs.Prelude.{◌≡◌, ◌-◌, ◌≤◌, [], IfErr, IfOk, OnErr, drop, length, take};
 ghost use Rattle.spa_fixed_sized.specs.declared.fault.DeserializeError.TheVariants as refused;
 ghost use Rattle.spa_in_place.specs.InPlace.{IsFaultOf, RefusesListAt};
 ghost use Rattle.spa_bodies.specs.Reading.{OnMemory};
@@ -7,7 +7,6 @@ ghost use Rattle.spa_rewrite.specs.Look.{AreChanged};
 ghost use Rattle.spa_rewrite.specs.Memory.{AsksMemory};
 ghost use Rattle.spa_rewrite.specs.Rewriting.{AreRewritten};
 ghost use Rattle.spa_rewrite.specs.Shorter.{ArePodsWithin};
-ghost use Rattle.spa_rewrite.specs.Steady.{AreSteadyWithin};
 ghost use Rattle.spa_scan.specs.Depth.{levels_looked_into};
 
 use crate::into::put_first;
@@ -15,7 +14,7 @@ use spa_bodies::error_at;
 use spa_fixed_sized::{DeserializeError, Fault};
 use spa_rewrite::{
     ChangedPods, Rejected, Source, Within, canonical_stretch, changed_pods, patch_all, rewrite_all,
-    steady_stretch, write_all,
+    write_all,
 };
 use std::alloc::Global;
 
@@ -25,9 +24,10 @@ use std::alloc::Global;
 /// The call is refused exactly as `rewrite_all`, and then no byte is changed. A refusal gives how many bytes stand before the refused
 /// pod, and its fault without the place inside it, which `accept_all` of `spa_rewrite` gives.
 ///
-/// All pods are looked at first, and a fault that the look finds is the refusal. Then the pods before the first one that gets shorter are patched
-/// where they are, and the others are moved. That takes no memory where at most 1000 structs and objects stand in one another. Where more do, the
-/// look may find that the pods behind the patched ones nest too deep: then their rewritings are made in memory, by `rewrite_all`, and copied back.
+/// All pods are looked at first, and a fault that the look finds is the refusal. Then those up to the last one that isn't canonical are patched where
+/// they are, or written to the front if one of them gets shorter, and the canonical ones behind them are moved. That takes no memory where at most
+/// 1000 structs and objects stand in one another. Where more do, the look may find that the pods behind the first canonical ones nest too deep: then
+/// their rewritings are made in memory, by `rewrite_all`, and copied back.
 pub fn rewrite_in_place(
     alloc: Global,
     bytes: &mut [u8],
@@ -43,14 +43,11 @@ pub fn rewrite_in_place(
     ensures memory { IfErr result (λ refusal. OnMemory (AsksMemory bytes.old) refusal.1) }
 {
     let len = bytes.len();
-    let (first, rest) = canonical_stretch(bytes);
-    let (steady, others) = steady_stretch(rest);
+    let (first, others) = canonical_stretch(bytes);
     let from = first.len();
-    let to = from + steady.len();
     match changed_pods(others) {
         Ok(changed) => {
-            patch_all(&mut bytes[from..to]);
-            place_rest(changed, &mut bytes[to..]);
+            place_rest(changed, &mut bytes[from..]);
             Ok(len - changed.surplus)
         }
         Err((pod, rejected)) => match rejected {
@@ -62,17 +59,30 @@ pub fn rewrite_in_place(
                 if let Err((left, error)) = rewrite_all(others, &mut written) {
                     return Err((len - left.len(), without_place(error)));
                 }
-                patch_all(&mut bytes[from..to]);
-                put_first(written.as_slice(), &mut bytes[to..]);
-                Ok(to + written.len())
+                put_first(written.as_slice(), &mut bytes[from..]);
+                Ok(from + written.len())
             }
         },
     }
 }
 
-/// Replaces pods by their encodings, at their front. Canonical pods behind the last one that isn't are moved at once.
+/// Replaces pods by their encodings, at their front: they are patched where none gets shorter.
 #[inline(always)]
 fn place_rest(changed: ChangedPods, pods: &mut [u8])
+    requires { AreChanged pods.old changed }
+    ensures rewritten { AreRewritten pods.old [] (take (length pods.old - changed.surplus) pods.new) }
+    ensures behind { drop (length pods.old - changed.surplus) pods.new ≡ drop (length pods.old - changed.surplus) pods.old }
+{
+    if changed.surplus > 0 {
+        move_rest(changed, pods);
+    } else {
+        patch_all(&mut pods[..changed.len]);
+    }
+}
+
+/// Replaces pods by their encodings, at their front. Canonical pods behind the last one that isn't are moved at once.
+#[inline(always)]
+fn move_rest(changed: ChangedPods, pods: &mut [u8])
     requires { AreChanged pods.old changed }
     ensures rewritten { AreRewritten pods.old [] (take (length pods.old - changed.surplus) pods.new) }
     ensures behind { drop (length pods.old - changed.surplus) pods.new ≡ drop (length pods.old - changed.surplus) pods.old }
@@ -87,28 +97,6 @@ fn place_rest(changed: ChangedPods, pods: &mut [u8])
         end: pods.len() - end,
     };
     tail.carry(&mut pods[end..]);
-}
-
-/// Puts the rewritings of all pods that the input is into an output of the same length, and answers true, where each of them is found to
-/// be as long as its pod and the output is as long as the input: else it writes nothing and answers false. It takes no memory.
-///
-/// It may answer false for pods in which more than 1000 structs and objects stand in one another.
-pub fn rewrite_across(input: &[u8], out: &mut [u8]) -> bool
-    ensures rewritten { result ≡ true → AreRewritten input.now [] out.new }
-    ensures unchanged { result ≡ false → out.new ≡ out.old }
-    ensures found { AreSteadyWithin levels_looked_into input.now → length out.old ≡ length input.now → result ≡ true }
-{
-    if out.len() != input.len() {
-        return false;
-    }
-    let (first, rest) = canonical_stretch(input);
-    let (_, others) = steady_stretch(rest);
-    if !others.is_empty() {
-        return false;
-    }
-    out.copy_from_slice(input);
-    patch_all(&mut out[first.len()..]);
-    true
 }
 
 /// The same refusal, without a place.

@@ -4,5 +4,5 @@
 mod in_place;
 mod into;
 
-pub use in_place::{rewrite_across, rewrite_in_place};
+pub use in_place::rewrite_in_place;
 pub use into::rewrite_into;

@@ -14,7 +14,7 @@ use Rattle.spa_rewrite.specs.Look.{IsAcceptedAsked}
 use Rattle.spa_rewrite.specs.Placed.{WritesPods}
 use Rattle.spa_rewrite.specs.Rewriting.{AppendsEncodings, AppendsFront, IsLookedOver}
 use Rattle.spa_rewrite.specs.Shorter.{AreShorter, BeginsShorter}
-use Rattle.spa_rewrite.specs.Steady.{ArePatched, AreSteady}
+use Rattle.spa_rewrite.specs.Steady.{ArePatched}
 use Rattle.spa_rewrite.specs.declared.look.AcceptedPod.{AcceptedPod}
 use Rattle.spa_rewrite.proofs.Rewritten.{parted}
 use Rattle.spa_rewrite.proofs.SteadyFound.{never}
@@ -84,9 +84,6 @@ accepted_canonical false input pod a e = absurd (never pod.canonical e (a.unaske
 
 pub nothing_looked_over : (pods : List ℕ) → IsLookedOver pods pods 0
 nothing_looked_over pods = ([], refl, record { values = no_trees; members = refl; long = refl })
-
-pub steady_looked_over : (pods steady rest : List ℕ) → pods ≡ steady ++ rest → AreSteady steady → IsLookedOver pods rest 0
-steady_looked_over pods steady rest e s = let l = s.long in (steady, e, record { values = s.values; members = s.members; long = omega arith })
 
 pub one_looked_over : (pods left rest : List ℕ) (surplus n : ℕ) → IsLookedOver pods left surplus → BeginsShorter left rest n →
     IsLookedOver pods rest (surplus + n)

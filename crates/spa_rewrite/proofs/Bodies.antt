@@ -5,14 +5,13 @@ use Rattle.std.specs.Borrow.{Bor}
 use Rattle.std.proofs.lemmas.List.{drop-take, length-take-le, nil_from_length, take-take, take_all}
 use Rattle.spa_format.specs.Words.{header_size, word_at}
 use Rattle.spa_format.specs.Kind.{Kind, Fixed, IsFixedBody, body_size, content}
-use Rattle.spa_format.specs.Tree.{Shape, none_choice, range_choice, step_choice, enum_choice, flags_choice, shape_number, array, choice}
+use Rattle.spa_format.specs.Tree.{Shape, none_choice, range_choice, step_choice, enum_choice, flags_choice, shape_number}
 use Rattle.spa_format.specs.Normal.{kept_flags}
 use Rattle.spa_format.specs.Pod.{AreElements, IsArray, IsChoice, least_count, values_taken}
 use Rattle.spa_format.specs.Faults.{choice_header_size}
 use Rattle.spa_format.proofs.Choices.{same_shape}
 use Rattle.spa_format.proofs.Elements.{length_of_elements}
 use Rattle.spa_fixed_sized.specs.Reading.{AreWhole}
-use Rattle.spa_fixed_sized.specs.declared.fault.Refusal.TheVariants as refusal
 use Rattle.std.proofs.Math.Nat.{mul-mod_left}
 use Rattle.spa_scan.specs.Canonical.{IsFixedLen}
 use Rattle.spa_rewrite.specs.Elements.{HasElements, HasValues, IsBeginning}

@@ -9,8 +9,9 @@ use Rattle.spa_format.specs.Kind.{Fixed, IsFixedBody, Kind, body_size, content, 
 use Rattle.spa_format.specs.Tree.{Shape, none_choice, range_choice, step_choice, enum_choice, flags_choice, shape_number, Tree, choice, fixed, pointer, no_properties, array_type, choice_type, object_type, pointer_type, struct_type, type_of}
 use Rattle.spa_format.specs.Normal.{kept_flags}
 use Rattle.spa_format.specs.Pod.{AreElements, IsArray, IsBody, least_count, values_taken}
-use Rattle.spa_format.specs.Front.{HasFront, IsRefused}
+use Rattle.spa_format.specs.Front.{HasFront, IsRefused, rest_of}
 use Rattle.spa_format.specs.Faults.{Fault, Short, Text, InvalidType, InvalidChoiceType, MissingChoiceValues, WrongSize, IsInvalidType, of_elements, IsWrongArray, IsWrongSize, of_fixed, of_choice, of_pointer, LacksValues, StandsAtFront, at_front, choice_header_size}
+use Rattle.spa_format.specs.Typed.{IsBytes}
 use Rattle.spa_format.specs.Opened.{OpensHeaderAlone, no_front, no_parts, short_object}
 use Rattle.spa_format.proofs.FixedKinds.{kind_of_content, size_fits}
 use Rattle.spa_format.proofs.Refused.{begun}
@@ -22,11 +23,11 @@ use Rattle.spa_bodies.specs.Refusing.{Says, StandsInBody}
 use Rattle.spa_bodies.proofs.Refusals.{at_front_of, says_through}
 use Rattle.spa_bodies.proofs.Steps.{pod_read}
 use Rattle.spa_scan.specs.Depth.{depth_of}
-use Rattle.spa_rewrite.specs.Look.{StandsInside, StopsAt}
-use Rattle.spa_rewrite.specs.Steady.{AreSteadyInside, IsBehindKey}
+use Rattle.spa_rewrite.specs.Look.{AreCanonicalInside, StandsInside, StopsAt}
+use Rattle.spa_rewrite.specs.Steady.{IsBehindKey}
 use Rattle.spa_rewrite.proofs.Bodies.{fewer, listed}
-use Rattle.spa_rewrite.proofs.Looks.{stands_first}
-use Rattle.spa_rewrite.proofs.SteadyFound.{leaf_depth, steady_first, steady_key}
+use Rattle.spa_rewrite.proofs.Looks.{first_own, stands_first}
+use Rattle.spa_rewrite.proofs.SteadyFound.{leaf_depth, some_key}
 use Rattle.spa_rewrite.proofs.SteadyLemmas.{steady_array}
 
 -- no pod begins there, and not for what is inside it
@@ -54,12 +55,12 @@ leaf_there here body rest type o s l n = record {
 }
 
 -- where a look stops
-pub stops_first : (keyed : Bool) (left here : List ℕ) → IsBehindKey keyed left here → 0 < length left → IsFaulted here → StopsAt keyed left here
-stops_first keyed left here k l f = record {
+pub stops_first : (keyed : Bool) (left here : List ℕ) → IsBytes left → IsBehindKey keyed left here → 0 < length left → IsFaulted here → StopsAt keyed left here
+stops_first keyed left here h k l f = record {
   refused = f.refused;
   alone = f.alone;
   stands = λ c s. stands_first keyed left here c here k l (at_front here refl s);
-  other = λ s. let first = steady_first keyed left here k l s in f.refused first.value (record { there = first.there; pod = first.pod });
+  other = λ c. let first = (first_own keyed left here (rest_of here) h l k refl c).first in f.refused first.value first.begins.begins;
 }
 
 only_short : (b : List ℕ) (k : Fault) → length b < header_size → StandsAtFront k b → k ≡ Short
@@ -78,11 +79,11 @@ stops_key true left e l some =
       refused = f.refused;
       alone = f.alone;
       stands = λ c s. (no_properties, [], left, refl, refl, inl (only_short left c l s, refl, (λ n. let z = ap length n in omega arith), l));
-      other = steady_key left l some;
+      other = some_key left l some;
     }
 
 pub stops_in : (keyed all : Bool) (left pods place : List ℕ) → ((k : Fault) (at : List ℕ) → StandsInside keyed left at k → StandsInside all pods at k) →
-    (AreSteadyInside all pods → AreSteadyInside keyed left) → StopsAt keyed left place → StopsAt all pods place
+    (AreCanonicalInside all pods → AreCanonicalInside keyed left) → StopsAt keyed left place → StopsAt all pods place
 stops_in keyed all left pods place f g s =
     record { refused = s.refused; alone = s.alone; stands = λ k a. f k place (s.stands k a); other = λ t. s.other (g t) }
 

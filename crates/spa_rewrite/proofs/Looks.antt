@@ -18,15 +18,13 @@ use Rattle.spa_scan.specs.Canonical.{AreCanonical, AreCanonicalProperties, Begin
 use Rattle.spa_scan.proofs.Frames.{body_bytes, canonical_front, none_left, none_left_either, object_of, one_more, one_more_property, padded_of}
 use Rattle.spa_scan.proofs.Made.{made_body, made_members, made_properties}
 use Rattle.spa_scan.proofs.Opened.{object_inside, struct_inside}
-use Rattle.spa_rewrite.specs.Look.{AreLooked, IsFound, NestMore, OpensInside, Passes, StandsInside, nest_behind, nest_inside, nest_last}
+use Rattle.spa_rewrite.specs.Look.{AreLooked, DifferInside, NestMore, OpensInside, Passes, StandsInside, StopsAt, nest_behind, nest_inside, nest_last}
 use Rattle.spa_rewrite.specs.Look.{AreCanonicalInside}
 use Rattle.spa_rewrite.specs.Shorter.{AreShorterInside, BeginsShorter}
-use Rattle.spa_rewrite.specs.Steady.{AreSteadyInside, BeginsSteady, IsBehindKey, IsInside}
-use Rattle.spa_rewrite.specs.declared.look.Found.{Found}
-use Rattle.spa_rewrite.specs.declared.look.Found.TheVariants as found
+use Rattle.spa_rewrite.specs.Steady.{IsBehindKey, IsInside}
 use Rattle.spa_rewrite.specs.declared.steady.Inside.{Inside}
 use Rattle.spa_rewrite.proofs.ShorterLemmas.{shorter_inside, shorter_none, shorter_opened, shorter_room, shorter_step, whole_keyed, whole_list}
-use Rattle.spa_rewrite.proofs.SteadyFound.{first_body, first_steady, inside_steady, never}
+use Rattle.spa_rewrite.proofs.SteadyFound.{never}
 use Rattle.spa_rewrite.proofs.Rewritten.{parted}
 
 -- a canonical pod in front of others
@@ -136,20 +134,11 @@ passes_none keyed canonical left h = record {
   shorter = λ m s. subst (AreShorterInside keyed left) (let e : m ≡ 0 + m = omega arith in e) s;
   own = λ e c. c;
   kept = λ c. c;
-  steady = λ s. (refl, s);
   stands = λ k place s. s;
   deep = λ n d. d;
   bytes = h;
   room = omega arith;
 }
-
-both_steady : (keyed : Bool) (n m : ℕ) (left rest : List ℕ) → (n ≡ 0) × AreSteadyInside keyed left →
-    (AreSteadyInside keyed left → (m ≡ 0) × AreSteadyInside keyed rest) → (n + m ≡ 0) × AreSteadyInside keyed rest
-both_steady keyed n m left rest a f =
-    let b = f a.1 in
-    let x = a.0 in
-    let y = b.0 in
-    (omega arith, b.1)
 
 -- and some more
 pub passes_more : (keyed canonical : Bool) (pods left rest : List ℕ) (n m : ℕ) → Passes keyed canonical pods left n → Passes keyed canonical left rest m →
@@ -161,7 +150,6 @@ passes_more keyed canonical pods left rest n m p q =
       shorter = λ k s. subst (AreShorterInside keyed pods) (let e : n + (m + k) ≡ n + m + k = omega arith in e) (p.shorter (m + k) (q.shorter k s));
       own = λ e c. p.own e (q.own e c);
       kept = λ c. q.kept (p.kept c);
-      steady = λ s. both_steady keyed n m left rest (p.steady s) q.steady;
       stands = λ k place s. p.stands k place (q.stands k place s);
       deep = λ n d. p.deep n (q.deep n d);
       bytes = q.bytes;
@@ -179,7 +167,6 @@ passes_pod keyed canonical left here rest n h l k b c =
       shorter = λ m s. shorter_step keyed left here rest n m k b s;
       own = λ t s. own_step keyed left here rest h k (c t) s;
       kept = λ s. (first_own keyed left here rest h l k e s).others;
-      steady = λ s. first_steady keyed left here rest n l k b s;
       stands = λ f place s. stands_behind keyed left here rest b.value f place k b.begins s;
       deep = λ m s. nest_behind m keyed left here k b.begins.begins.there (subst (NestMore m keyed) e s);
       bytes = rest_bytes here rest (behind_bytes keyed left here h k) e;
@@ -189,9 +176,6 @@ passes_pod keyed canonical left here rest n h l k b c =
 -- a canonical one is as long as its encoding
 pub own_shorter : (here rest : List ℕ) → BeginsCanonical here rest → BeginsShorter here rest 0
 own_shorter here rest c = let l = ap length c.same in record { value = c.value; begins = c.begins; long = omega arith }
-
-pub steady_shorter : (here rest : List ℕ) → BeginsSteady here rest → BeginsShorter here rest 0
-steady_shorter here rest s = let l = s.long in record { value = s.value; begins = s.begins; long = omega arith }
 
 -- where something follows a pod, something is left
 pub some_left : (keyed : Bool) (left here : List ℕ) → IsBehindKey keyed left here → HasFront here → 0 < length left
@@ -208,7 +192,6 @@ pub record Awaits (asked all : Bool) (pods : List ℕ) (Then : Bool → ℕ → 
       AreShorterInside keyed left m → (c ≡ true → AreCanonicalInside keyed left) → Then c (surplus + m)
   pub differs : canonical ≡ false → AreOther asked all pods
   pub kept : AreCanonicalInside all pods → AreCanonicalInside keyed left
-  pub steady : AreSteadyInside all pods → (surplus ≡ 0) × AreSteadyInside keyed left
   pub stands : (k : Fault) (place : List ℕ) → StandsInside keyed left place k → StandsInside all pods place k
   pub deep : (n : ℕ) → NestMore n keyed left → NestMore (n + waiting) all pods
 
@@ -231,7 +214,6 @@ begins_look asked all pods h = record {
   };
   differs = λ e a. absurd (never asked a e);
   kept = λ c. c;
-  steady = λ s. (refl, s);
   stands = λ k place s. s;
   deep = λ n d. subst (λ x. NestMore x all pods) (let e : n ≡ n + 0 = omega arith in e) d;
 }
@@ -255,7 +237,6 @@ goes_on asked all keyed canonical own now pods left rest Then waiting surplus n 
       (w.ends (n + m) f (λ e. c (t e)) x (p.shorter m s) (λ e. p.own (o (t e)) (k e)));
   differs = d;
   kept = λ k. p.kept (w.kept k);
-  steady = λ s. both_steady keyed surplus n left rest (w.steady s) p.steady;
   stands = λ k place s. w.stands k place (p.stands k place s);
   deep = λ m s. w.deep m (p.deep m s);
 }
@@ -327,9 +308,6 @@ opened asked all keyed inner canonical pods left inside rest Then waiting more s
           t (λ e. e) d;
       differs = w.differs;
       kept = λ c. inside_own x.type at x.body rest rest inside inner h o i (first_own keyed left at rest w.bytes some x.its_key o.its_rest (w.kept c)).first;
-      steady = λ s.
-          let t = w.steady s in
-          (t.0, inside_steady x.type x.body inside inner i (first_body keyed left at x.body rest x.type x.its_key some t.1 o));
       stands = λ f place s. w.stands f place (stands_first keyed left at f place x.its_key some (stands_opened x.type at x.body rest inside inner f place o i s));
       deep = deeper;
     }
@@ -365,7 +343,6 @@ goes_in_last asked all keyed inner canonical pods left inside rest Then waiting 
       ends = λ m c t d s own. list_ends asked all keyed c pods rest Then waiting (surplus + m) (n.ends m c t d s own) z;
       differs = n.differs;
       kept = n.kept;
-      steady = n.steady;
       stands = n.stands;
       deep = n.deep;
     }
@@ -408,24 +385,27 @@ pub opens_inside : (keyed inner : Bool) (left at body rest inside : List ℕ) (t
     IsInside type body inner inside → OpensInside keyed left inner inside rest
 opens_inside keyed inner left at body rest inside type k o i = record { here = at; type = type; body = body; its_key = k; opens = o; its_inside = i }
 
--- such that are looked for were passed, and nothing is left
-pub passed_all : (asked keyed : Bool) (pods left : List ℕ) → Passes keyed asked pods left 0 → length left ≡ 0 → AreLooked asked keyed pods asked 0
-passed_all asked keyed pods left p z = record {
-  shorter = subst (AreShorterInside keyed pods) (let e : 0 + 0 ≡ 0 = omega arith in e) (p.shorter 0 (shorter_none keyed left z));
+-- first pods were passed, and nothing is left
+pub passed_all : (asked keyed : Bool) (pods left : List ℕ) (n : ℕ) → Passes keyed asked pods left n → length left ≡ 0 → AreLooked asked keyed pods asked n
+passed_all asked keyed pods left n p z = record {
+  shorter = subst (AreShorterInside keyed pods) (let e : n + 0 ≡ n = omega arith in e) (p.shorter 0 (shorter_none keyed left z));
   exactly = λ a. (λ _. p.own a (none_own keyed left z), λ _. a);
   unasked = λ e. e;
 }
 
 -- what is found behind these
-pub found_behind : (ends asked keyed : Bool) (waiting : ℕ) (pods left : List ℕ) (f : Found) → Passes keyed asked pods left 0 →
-    IsFound ends asked waiting keyed left f → IsFound ends asked waiting keyed pods f
-found_behind ends asked keyed waiting pods left (found.Fits canonical surplus) p l = record {
-  shorter = subst (AreShorterInside keyed pods) (let e : 0 + surplus ≡ surplus = omega arith in e) (p.shorter surplus l.shorter);
+pub looked_behind : (asked keyed : Bool) (pods left : List ℕ) (canonical : Bool) (n m : ℕ) → Passes keyed asked pods left n →
+    AreLooked asked keyed left canonical m → AreLooked asked keyed pods canonical (n + m)
+looked_behind asked keyed pods left canonical n m p l = record {
+  shorter = p.shorter m l.shorter;
   exactly = λ a. (λ e. p.own a ((l.exactly a).0 e), λ k. (l.exactly a).1 (p.kept k));
   unasked = l.unasked;
 }
-found_behind ends asked keyed waiting pods left found.Differs p d =
-    record { allowed = d.allowed; canonical = λ a k. d.canonical a (p.kept k); steady = λ a s. d.steady a (p.steady s).1 }
-found_behind ends asked keyed waiting pods left (found.Stops place) p s =
-    record { refused = s.refused; alone = s.alone; stands = λ k x. p.stands k place.now (s.stands k x); other = λ t. s.other (p.steady t).1 }
-found_behind ends asked keyed waiting pods left found.TooDeep p d = p.deep waiting d
+
+pub differ_behind : (ends asked keyed : Bool) (pods left : List ℕ) (n : ℕ) → Passes keyed asked pods left n → DifferInside ends asked keyed left →
+    DifferInside ends asked keyed pods
+differ_behind ends asked keyed pods left n p d = record { allowed = d.allowed; canonical = λ a k. d.canonical a (p.kept k) }
+
+pub stops_behind : (asked keyed : Bool) (pods left place : List ℕ) (n : ℕ) → Passes keyed asked pods left n → StopsAt keyed left place → StopsAt keyed pods place
+stops_behind asked keyed pods left place n p s =
+    record { refused = s.refused; alone = s.alone; stands = λ k x. p.stands k place (s.stands k x); other = λ t. s.other (p.kept t) }

@@ -2,7 +2,7 @@
 use Rattle.std.proofs.Common.{◌≡◌, ◌≢◌, ℕ, ◌+◌, ◌*◌, ◌/◌, ◌-◌, ◌<◌, ◌≤◌, inl, inr, List, ◌++◌, length, drop, refl, sym, ap, ◌∙◌, subst, arith, append_assoc, length-append, length-drop, ◌%◌}
 use Rattle.std.specs.Prelude.{Bool, true, false, max}
 use Rattle.std.proofs.lemmas.List.{length-take-le, nil_from_length}
-use Rattle.spa_format.specs.Words.{extent, header_size, padded_size, word_at, word_bytes}
+use Rattle.spa_format.specs.Words.{body_of, extent, header_size, padded_size, word_at, word_bytes}
 use Rattle.spa_format.specs.Kind.{kind_of}
 use Rattle.spa_format.specs.Tree.{Tree, fixed, string, bytes, bitmap, array, choice, pointer, struct, object, Trees, no_trees, member, Properties, no_properties, property, join_members, choice_type, type_of}
 use Rattle.spa_format.specs.Normal.{kept_flags}
@@ -18,14 +18,14 @@ use Rattle.spa_format.proofs.Shapes.{object_only, struct_only}
 use Rattle.spa_format.proofs.Short.{length-framed}
 use Rattle.spa_bytes.specs.Opening.{Opens}
 use Rattle.spa_bodies.proofs.Steps.{pod_read}
-use Rattle.spa_scan.specs.Canonical.{AreCanonical}
+use Rattle.spa_scan.specs.Canonical.{AreCanonical, IsFixedLen}
 use Rattle.spa_scan.specs.Depth.{depth_of, member_depth, property_depth}
 use Rattle.spa_rewrite.specs.Elements.{HasValues}
 use Rattle.spa_rewrite.specs.Shorter.{AreInsideWithin, ArePodsWithin, ArePropertiesWithin, AreShorter, AreShorterInside, BeginsShorter, IsBodyWithin, IsShorterBody}
-use Rattle.spa_rewrite.specs.Steady.{BeginsSteady, IsBehindKey, IsInside, IsSteadyBody}
+use Rattle.spa_rewrite.specs.Steady.{IsBehindKey, IsInside}
 use Rattle.spa_format.proofs.Sequences.{members_joined}
 use Rattle.spa_rewrite.proofs.Stretches.{member_encodings-join}
-use Rattle.spa_rewrite.proofs.SteadyLemmas.{kept_length}
+use Rattle.spa_rewrite.proofs.SteadyLemmas.{as_long, kept_length, steady_fixed}
 use Rattle.spa_rewrite.proofs.Rewritten.{parted}
 
 -- lists of pods are as long as a multiple of 8
@@ -52,10 +52,6 @@ pub shorter_none : (keyed : Bool) (left : List ℕ) → length left ≡ 0 → Ar
 shorter_none true left z = record { values = no_properties; properties = nil_from_length left z; long = sym z }
 shorter_none false left z = record { values = no_trees; members = nil_from_length left z; long = sym z }
 
--- what isn't shorter
-pub steady_front : (input rest : List ℕ) → BeginsSteady input rest → BeginsShorter input rest 0
-steady_front input rest s = let l = s.long in record { value = s.value; begins = s.begins; long = omega arith }
-
 -- a pod that is opened
 pub shorter_opened : (input body rest : List ℕ) (type n : ℕ) → Opens input type body rest → IsShorterBody type body n → BeginsShorter input rest n
 shorter_opened input body rest type n o s =
@@ -66,6 +62,25 @@ shorter_opened input body rest type n o s =
     let c = ap padded_size size in
     let l = s.long in
     record { value = v; begins = pod_read input body rest type v o s.its_type s.its_body; long = omega arith }
+
+-- a pod of one or two words
+pub shorter_short : (input rest : List ℕ) (size number len : ℕ) → 16 ≤ length input → size ≡ word_at input 0 → number ≡ word_at input 4 →
+    size ≡ len → IsFixedLen number len → 0 < size → size < 9 → rest ≡ drop 16 input → BeginsShorter input rest 0
+shorter_short input rest size number len l z w e f p s d =
+    let body = body_of input in
+    let n : word_at input 0 ≡ size = sym z in
+    let whole : extent (word_at input 0) ≡ 16 = omega arith in
+    let there : HasFront input = record { header = omega arith; whole = omega arith } in
+    let long : length body ≡ size = length-body_of input there ∙ n in
+    let o : Opens input number body rest = record {
+      there = there;
+      its_type = w;
+      its_body = refl;
+      its_rest = d ∙ ap (λ m. drop m input) (sym whole);
+      shorter = omega arith;
+      fits = omega arith;
+    } in
+    shorter_opened input body rest number 0 o (steady_fixed number len body f (long ∙ e))
 
 -- what follows it
 pub shorter_room : (input rest : List ℕ) (n : ℕ) → BeginsShorter input rest n → n + length rest ≤ length input
@@ -258,9 +273,9 @@ same_padded (struct vs) b w z n = absurd (omega arith)
 same_padded (object t i ps) b w z n = absurd (omega arith)
 
 pub leaf_steady : (type : ℕ) (body : List ℕ) (v : Tree) → type_of v ≡ type → depth_of v ≡ 0 → IsBody v body → type ≢ choice_type →
-    (s : IsSteadyBody type body) × (depth_of s.value ≡ 0)
+    (s : IsShorterBody type body 0) × (depth_of s.value ≡ 0)
 leaf_steady type body v e z b n =
-    let s : IsSteadyBody type body = record { value = v; its_type = e; its_body = b; long = same_padded v body b z (λ c. n (sym e ∙ c)) } in
+    let s : IsShorterBody type body 0 = record { value = v; its_type = e; its_body = b; long = as_long _ _ (same_padded v body b z (λ c. n (sym e ∙ c))) } in
     (s, z)
 
 -- a choice

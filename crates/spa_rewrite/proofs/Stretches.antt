@@ -1,5 +1,5 @@
 -- Pods that are rewritten one after another: canonical ones, accepted ones, and what follows them.
-use Rattle.std.proofs.Common.{◌≡◌, ◌≢◌, ◌<◌, arith, length-append, ℕ, List, [], ◌++◌, length, refl, sym, ap, ◌∙◌, subst, append_assoc}
+use Rattle.std.proofs.Common.{◌≡◌, ◌≢◌, ℕ, List, [], ◌++◌, length, refl, sym, ap, ◌∙◌, subst, append_assoc}
 use Rattle.std.proofs.lemmas.List.{append-nil, nil_from_length}
 use Rattle.std.specs.Borrow.{Bor}
 use Rattle.spa_format.specs.Words.{word_bytes}

@@ -9,7 +9,7 @@ use Rattle.spa_bodies.specs.Refusing.{Says, StandsInMembers, StandsInProperties}
 use Rattle.spa_scan.specs.Canonical.{AreCanonical, AreCanonicalProperties, BeginsCanonical}
 use Rattle.spa_scan.specs.Depth.{NestsDeeper, levels_looked_into}
 use Rattle.spa_rewrite.specs.Shorter.{AreShorter, AreShorterInside, BeginsShorter}
-use Rattle.spa_rewrite.specs.Steady.{AreSteadyInside, IsBehindKey, IsInside}
+use Rattle.spa_rewrite.specs.Steady.{IsBehindKey, IsInside}
 use Rattle.spa_rewrite.specs.declared.look.AcceptedPod.{AcceptedPod}
 use Rattle.spa_rewrite.specs.declared.look.AcceptedPods.{AcceptedPods}
 use Rattle.spa_rewrite.specs.declared.look.ChangedPods.{ChangedPods}
@@ -66,13 +66,12 @@ pub record StopsAt (keyed : Bool) (pods place : List ℕ) : Type 0 where
   pub refused : IsRefused place
   pub alone : OpensHeaderAlone place
   pub stands : (k : Fault) → StandsAtFront k place → StandsInside keyed pods place k
-  pub other : ¬ (AreSteadyInside keyed pods)
+  pub other : ¬ (AreCanonicalInside keyed pods)
 
--- Not all are canonical, if that is asked, and else not all are as long as their encodings: a look that may end there does.
+-- Not all are canonical, if that is asked: a look that may end there does.
 pub record DifferInside (ends asked keyed : Bool) (pods : List ℕ) : Type 0 where
   pub allowed : ends ≡ true
   pub canonical : asked ≡ true → ¬ (AreCanonicalInside keyed pods)
-  pub steady : asked ≡ false → ¬ (AreSteadyInside keyed pods)
 
 -- what is found in members or properties, where so many lists can wait
 abbrev pub IsFound : Bool → Bool → ℕ → Bool → List ℕ → Found → Type 0
@@ -86,7 +85,6 @@ pub record Passes (keyed canonical : Bool) (left rest : List ℕ) (surplus : ℕ
   pub shorter : (m : ℕ) → AreShorterInside keyed rest m → AreShorterInside keyed left (surplus + m)
   pub own : canonical ≡ true → AreCanonicalInside keyed rest → AreCanonicalInside keyed left
   pub kept : AreCanonicalInside keyed left → AreCanonicalInside keyed rest
-  pub steady : AreSteadyInside keyed left → (surplus ≡ 0) × AreSteadyInside keyed rest
   pub stands : (k : Fault) (place : List ℕ) → StandsInside keyed rest place k → StandsInside keyed left place k
   pub deep : (n : ℕ) → NestMore n keyed rest → NestMore n keyed left
   pub bytes : IsBytes rest

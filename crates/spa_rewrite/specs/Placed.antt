@@ -6,7 +6,7 @@ use Rattle.spa_format.specs.Pod.{AreMembers, AreProperties, IsPod}
 use Rattle.spa_format.specs.Encoding.{encoding_of, member_encodings, property_encodings}
 use Rattle.spa_format.specs.Typed.{IsBytes}
 use Rattle.spa_rewrite.specs.Look.{AreCanonicalInside}
-use Rattle.spa_rewrite.specs.Steady.{ArePatched, AreSteady, HoldsPods, IsPodOf, key_size}
+use Rattle.spa_rewrite.specs.Steady.{HoldsPods, IsPodOf, key_size}
 
 -- this is the rewriting of a pod
 abbrev pub IsPlaced : List ℕ → List ℕ → Type 0
@@ -66,25 +66,13 @@ pub record PutsHeader (keyed : Bool) (key old new : List ℕ) (to end body : ℕ
   pub front : take body new ≡ take to old ++ ((word_bytes (end - (to + 8)) ++ word_bytes (type_inside keyed)) ++ take (key_size keyed) key)
   pub behind : drop body new ≡ drop body old
 
--- pods that are canonical, or as long as their encodings
-abbrev pub AreRun : Bool → Bool → List ℕ → Type 0
-AreRun false keyed run = AreCanonicalInside keyed run
-AreRun true keyed run = (keyed ≡ false) × AreSteady run
-
--- what is written of them
-abbrev pub IsRunWritten : Bool → List ℕ → List ℕ → Type 0
-IsRunWritten false run new = new ≡ run
-IsRunWritten true run new = ArePatched false run new
-
--- the first of these pods, so many bytes, are a run
-pub record BeginsRun (unpatched keyed : Bool) (left : List ℕ) (len : ℕ) : Type 0 where
+-- the first of these pods, so many bytes, are canonical
+pub record BeginsRun (keyed : Bool) (left : List ℕ) (len : ℕ) : Type 0 where
   pub some : 0 < len
   pub within : len ≤ length left
-  pub its : AreRun unpatched keyed (take len left)
+  pub its : AreCanonicalInside keyed (take len left)
 
--- what is written of a run, so many bytes, is behind what is written
-pub record PutsRun (unpatched : Bool) (run old new : List ℕ) (to len : ℕ) : Type 0 where
-  pub written : List ℕ
-  pub its : IsRunWritten unpatched run written
-  pub front : take (to + len) new ≡ take to old ++ written
+-- canonical pods, so many bytes, are behind what is written
+pub record PutsRun (run old new : List ℕ) (to len : ℕ) : Type 0 where
+  pub front : take (to + len) new ≡ take to old ++ run
   pub behind : drop (to + len) new ≡ drop (to + len) old

@@ -1,49 +1,11 @@
 -- Pods whose rewritings are as long as they are: docs/FORMAT.md, "The encoding of a value".
 use Rattle.std.specs.Prelude.{◌≡◌, ◌≢◌, ◌+◌, ◌-◌, ◌<◌, ◌≤◌, ◌*◌, ◌++◌, ℕ, List, length, drop, take, Bool, true, false}
-use Rattle.spa_format.specs.Words.{extent, header_size, padded_size, size_limit, word_at}
-use Rattle.spa_format.specs.Tree.{Shape, none_choice, range_choice, step_choice, enum_choice, flags_choice, Tree, Trees, Properties, choice_type, object_type, shape_number, struct_type, type_of}
+use Rattle.spa_format.specs.Words.{extent, header_size, size_limit, word_at}
+use Rattle.spa_format.specs.Tree.{Shape, none_choice, range_choice, step_choice, enum_choice, flags_choice, Tree, Trees, Properties, choice_type, object_type, shape_number, struct_type}
 use Rattle.spa_format.specs.Kind.{Fixed, Kind, body_size, bool_kind, type_number}
-use Rattle.spa_format.specs.Pod.{AreElements, AreMembers, AreProperties, IsBody, IsPod}
-use Rattle.spa_format.specs.Encoding.{encoded_body, encoding_of, fixed_bodies, member_encodings, property_encodings}
-use Rattle.spa_format.specs.Front.{front_of}
+use Rattle.spa_format.specs.Pod.{AreElements, AreMembers, AreProperties, IsPod}
+use Rattle.spa_format.specs.Encoding.{encoding_of, fixed_bodies, member_encodings, property_encodings}
 use Rattle.spa_format.specs.Typed.{IsBytes}
-use Rattle.spa_bodies.specs.Reading.{BeginsWith}
-use Rattle.spa_scan.specs.Depth.{member_depth}
-
--- pods one after another whose rewritings are together as long as they are
-pub record AreSteady (body : List ℕ) : Type 0 where
-  pub values : Trees
-  pub members : AreMembers values body
-  pub long : length (member_encodings values) ≡ length body
-
--- the same with key and flags before each
-pub record AreSteadyProperties (body : List ℕ) : Type 0 where
-  pub values : Properties
-  pub properties : AreProperties values body
-  pub long : length (property_encodings values) ≡ length body
-
--- properties, or members
-abbrev pub AreSteadyInside : Bool → List ℕ → Type 0
-AreSteadyInside true body = AreSteadyProperties body
-AreSteadyInside false body = AreSteady body
-
--- these nest in so many levels at most
-pub record AreSteadyWithin (levels : ℕ) (body : List ℕ) : Type 0 where
-  pub pods : AreSteady body
-  pub shallow : member_depth pods.values ≤ levels
-
--- the input begins with a pod whose rewriting is as long, and this follows it
-pub record BeginsSteady (input rest : List ℕ) : Type 0 where
-  pub value : Tree
-  pub begins : BeginsWith input value rest
-  pub long : length (encoding_of value) ≡ length (front_of input)
-
--- a body of this type of a pod whose rewriting is as long
-pub record IsSteadyBody (type : ℕ) (body : List ℕ) : Type 0 where
-  pub value : Tree
-  pub its_type : type_of value ≡ type
-  pub its_body : IsBody value body
-  pub long : padded_size (length (encoded_body value)) ≡ padded_size (length body)
 
 -- what is left of properties without the first key and flags; pods have none
 abbrev pub IsBehindKey : Bool → List ℕ → List ℕ → Type 0

@@ -1,12 +1,11 @@
-//! The first pods of an input that are canonical, or whose encodings are as long as they are, found by the look.
+//! The first pods of an input that are canonical, found by the look.
 ghost use Rattle.std.specs.Prelude.{◌≡◌, ◌+◌, ◌<◌, ◌≤◌, ◌++◌, IfNone, IfSome, List, [], length, ℕ};
 ghost use Rattle.spa_format.specs.Front.{HasFront};
-ghost use Rattle.spa_rewrite.specs.Steady.{AreSteady, AreSteadyWithin, BeginsSteady};
 ghost use Rattle.spa_scan.specs.Canonical.{AreCanonical, BeginsCanonical};
 ghost use Rattle.spa_scan.specs.Depth.{AreShallow, depth_of, levels_looked_into};
 
 use crate::look::{FEW, Found, look_into};
-use crate::steady::{Inside, inside_of, is_steady_leaf, short_front};
+use crate::steady::{Inside, inside_of};
 use spa_bytes::open;
 use spa_scan::leaf_front;
 
@@ -79,74 +78,6 @@ fn next_canonical<'a>(input: &'a [u8], frames: &mut [Inside<'a>]) -> Option<&'a 
                 return Some(front.rest);
             }
             None
-        }
-        Found::Differs => None,
-        Found::Stops(_) => None,
-        Found::TooDeep => None,
-    }
-}
-
-/// The first pods whose encodings are as long as they are, as many as are found, and what follows them. Such a pod may be missed in which more
-/// than 1000 structs and objects stand in one another, not counting those that end where the one around them does. It takes no memory.
-pub fn steady_stretch(input: &[u8]) -> (&[u8], &[u8])
-    ensures parts { input.now ≡ result.0.now ++ result.1.now }
-    ensures steady { AreSteady result.0.now }
-    // Nothing follows where the input is such pods that nest no deeper.
-    ensures all { AreSteadyWithin levels_looked_into input.now → result.1.now ≡ [] }
-{
-    let list = Inside {
-        keyed: false,
-        pods: input,
-    };
-    steady_pods(input.len(), input, &mut [list; FEW])
-}
-
-/// Answers what `steady_stretch` does, with an array in which lists can wait, and looks no further once it has found so many bytes.
-#[inline(never)]
-pub(crate) fn steady_pods<'a>(
-    enough: usize,
-    input: &'a [u8],
-    frames: &mut [Inside<'a>],
-) -> (&'a [u8], &'a [u8])
-    ensures parts { input.now ≡ result.0.now ++ result.1.now }
-    ensures steady { AreSteady result.0.now }
-    ensures all { length input.now ≤ enough → AreSteadyWithin levels_looked_into input.now → result.1.now ≡ [] }
-{
-    let mut left = input;
-    while input.len() - left.len() < enough {
-        let Some(rest) = steady_front(left, frames) else {
-            return input.split_at(input.len() - left.len());
-        };
-        left = rest;
-    }
-    input.split_at(input.len() - left.len())
-}
-
-/// What follows the pod at the front, where its encoding is found to be as long as it is.
-#[inline(always)]
-fn steady_front<'a>(input: &'a [u8], frames: &mut [Inside<'a>]) -> Option<&'a [u8]>
-    ensures taken { IfSome result (λ rest. BeginsSteady input.now rest.now) }
-    ensures shorter { IfSome result (λ rest. length rest.now + 8 ≤ length input.now) }
-    ensures missed { IfNone result ((rest : List ℕ) (c : BeginsSteady input.now rest) → levels_looked_into < depth_of c.value) }
-{
-    if let Some(rest) = short_front(input) {
-        return Some(rest);
-    }
-    let Some(front) = open(input) else {
-        return None;
-    };
-    let Some(inside) = inside_of(front.type_, front.body) else {
-        if is_steady_leaf(front.type_, front.body) {
-            return Some(front.rest);
-        }
-        return None;
-    };
-    match look_into(true, inside.keyed, false, inside.pods, frames) {
-        Found::Fits(_, surplus) => {
-            if surplus > 0 {
-                return None;
-            }
-            Some(front.rest)
         }
         Found::Differs => None,
         Found::Stops(_) => None,

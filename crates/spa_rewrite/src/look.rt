@@ -16,7 +16,7 @@ ghost use Rattle.spa_rewrite.specs.Steady.{IsInside};
 ghost use Rattle.spa_scan.specs.Canonical.{BeginsCanonical};
 ghost use Rattle.spa_scan.specs.Depth.{depth_of, levels_looked_into};
 
-use crate::steady::{CHOICE_HEADER, Inside, behind_key, inside_of, is_steady_leaf, short_front};
+use crate::steady::{CHOICE_HEADER, Inside, behind_key, inside_of, short_front};
 use crate::surplus::leaf_surplus;
 use spa_bodies::VALUE_TYPE_AT;
 use spa_bytes::{HEADER_LEN, SECOND_WORD, open, u32_at};
@@ -68,7 +68,7 @@ pub enum Rejected<'a> {
 pub(crate) enum Found<'a> {
     /// Accepted pods: whether they are canonical, and by how many bytes their encodings are shorter.
     Fits(bool, usize),
-    /// The look ended at a pod that isn't canonical, if that is asked, and else at one whose encoding is shorter.
+    /// The look ended at a pod that isn't canonical.
     Differs,
     /// A fault stands at the front of these bytes.
     Stops(&'a [u8]),
@@ -179,7 +179,7 @@ const UNASKED: usize = 15;
 
 /// How many aren't asked once one of them is passed, or one that was asked and isn't canonical.
 #[inline(always)]
-fn fewer_unasked(unasked: usize) -> usize {
+pub(crate) fn fewer_unasked(unasked: usize) -> usize {
     if unasked == 0 { UNASKED } else { unasked - 1 }
 }
 
@@ -330,8 +330,8 @@ fn first_leaf(canonical: bool, input: &[u8]) -> Option<&[u8]>
     short_front(input)
 }
 
-/// Looks inside a struct or an object: at what follows its first pods that hold no others, if anything does. `ends` says whether the look
-/// ends at the first difference: at a pod that isn't canonical, if that is asked, and else at one whose encoding is shorter.
+/// Looks inside a struct or an object: at its first pods that hold no others, which need no array, and at what follows them. `ends` says whether
+/// the look ends at the first pod that isn't canonical, if that is asked.
 #[inline(always)]
 pub(crate) fn look_into<'a>(
     ends: bool,
@@ -342,41 +342,12 @@ pub(crate) fn look_into<'a>(
 ) -> Found<'a>
     ensures { IsFound ends canonical levels_looked_into keyed pods.now result }
 {
-    let left = behind_alike_first(ends, keyed, canonical, pods);
+    let (left, surplus) = behind_first(keyed, canonical, pods);
     if left.is_empty() {
-        return Found::Fits(canonical, 0);
+        return Found::Fits(canonical, surplus);
     }
-    look_on(ends, keyed, canonical, left, frames)
-}
-
-/// What follows the first pods that hold no others and need no array: canonical ones, or else, where the look ends at the first difference, those
-/// that are as long as their encodings.
-#[inline(always)]
-fn behind_alike_first(ends: bool, keyed: bool, canonical: bool, pods: &[u8]) -> &[u8]
-    ensures { Passes keyed canonical pods.now result.now 0 }
-{
-    if canonical {
-        return behind_canonical(keyed, pods);
-    }
-    if ends {
-        return behind_as_long(keyed, pods);
-    }
-    pods
-}
-
-/// Looks inside with this array, and where it is too short with the long one.
-#[inline(always)]
-fn look_on<'a>(
-    ends: bool,
-    keyed: bool,
-    canonical: bool,
-    pods: &'a [u8],
-    frames: &mut [Inside<'a>],
-) -> Found<'a>
-    ensures { IsFound ends canonical levels_looked_into keyed pods.now result }
-{
-    match look_inside(ends, keyed, canonical, pods, frames) {
-        Found::Fits(canonical, surplus) => Found::Fits(canonical, surplus),
+    match look_inside(ends, keyed, canonical, left, frames) {
+        Found::Fits(canonical, more) => Found::Fits(canonical, surplus + more),
         Found::Differs => Found::Differs,
         Found::Stops(place) => Found::Stops(place),
         Found::TooDeep => look_deep(ends, keyed, canonical, pods),
@@ -423,9 +394,9 @@ fn look_inside<'a>(
             left = outer.pods;
             continue;
         }
-        match meet(ends, keyed, canonical, left) {
+        match meet(keyed, canonical, left) {
             Met::Leaves(rest, are_all, more) => {
-                if ends && is_difference(are_canonical, are_all, more) {
+                if ends && !are_all {
                     return Found::Differs;
                 }
                 canonical = are_all;
@@ -451,24 +422,15 @@ fn look_inside<'a>(
     }
 }
 
-/// Whether pods differ from what is looked for: canonical ones, if these are asked for, and else such that are as long as their encodings.
-#[inline(always)]
-fn is_difference(asked: bool, canonical: bool, surplus: usize) -> bool
-    ensures canonical { asked ≡ true → result ≡ true → canonical ≡ false }
-    ensures steady { asked ≡ false → result ≡ true → 0 < surplus }
-{
-    if asked { !canonical } else { surplus > 0 }
-}
-
 /// What stands first in pods: accepted ones that hold no others, a struct or an object, or a fault. `canonical` says whether all pods before are
 /// canonical.
 #[inline(always)]
-fn meet(ends: bool, keyed: bool, canonical: bool, left: &[u8]) -> Met<'_>
+fn meet(keyed: bool, canonical: bool, left: &[u8]) -> Met<'_>
     requires { 0 < length left.now }
     ensures { IsMet canonical keyed left.now result }
 {
     if !is_inside_first(keyed, left) {
-        let (rest, surplus) = behind_first(ends, keyed, canonical, left);
+        let (rest, surplus) = behind_first(keyed, canonical, left);
         if rest.len() < left.len() {
             return Met::Leaves(rest, canonical, surplus);
         }
@@ -488,23 +450,16 @@ fn meet(ends: bool, keyed: bool, canonical: bool, left: &[u8]) -> Met<'_>
     }
 }
 
-/// What follows the first accepted pods that hold no others, as many as are found, and by how many bytes their encodings are shorter: where
-/// `canonical` is set those that are canonical, and else where `ends` is those that are as long as their encodings. A key and flags stand before
-/// each where `keyed` is set.
+/// What follows the first accepted pods that hold no others, and by how many bytes their encodings are shorter: of canonical ones where `canonical` is
+/// set. A key and flags stand before each where `keyed` is set.
 #[inline(always)]
-fn behind_first(ends: bool, keyed: bool, canonical: bool, pods: &[u8]) -> (&[u8], usize)
+fn behind_first(keyed: bool, canonical: bool, pods: &[u8]) -> (&[u8], usize)
     ensures { Passes keyed canonical pods.now result.0.now result.1 }
 {
     if canonical {
         return (behind_canonical(keyed, pods), 0);
     }
-    if ends {
-        return (behind_as_long(keyed, pods), 0);
-    }
-    if keyed {
-        return behind_leaves(true, pods);
-    }
-    behind_leaves(false, pods)
+    behind_accepted(keyed, pods)
 }
 
 /// Whether a struct or an object is first, or less than a pod of one word is left.
@@ -563,37 +518,6 @@ fn canonical_leaf(keyed: bool, left: &[u8]) -> Option<&[u8]>
     leaf_front(here)
 }
 
-/// What follows the first pods that hold no others and are as long as their encodings: of properties by one loop, and of members by another.
-#[inline(never)]
-fn behind_as_long(keyed: bool, pods: &[u8]) -> &[u8]
-    ensures { Passes keyed false pods.now result.now 0 }
-{
-    if keyed {
-        return behind_steady(true, pods);
-    }
-    behind_steady(false, pods)
-}
-
-/// What follows the first pods that hold no others and are as long as their encodings, with key and flags before each where `keyed` is set.
-#[inline(always)]
-fn behind_steady(keyed: bool, pods: &[u8]) -> &[u8]
-    ensures { Passes keyed false pods.now result.now 0 }
-{
-    let mut left = behind_short(keyed, pods);
-    loop {
-        let Some(here) = behind_key(keyed, left) else {
-            return left;
-        };
-        let Some(front) = open(here) else {
-            return left;
-        };
-        if !is_steady_leaf(front.type_, front.body) {
-            return left;
-        }
-        left = behind_short(keyed, front.rest);
-    }
-}
-
 /// What follows the first pods whose bodies are one or two words and of a kind of fixed size.
 #[inline(always)]
 fn behind_short(keyed: bool, pods: &[u8]) -> &[u8]
@@ -621,21 +545,30 @@ fn short_leaf(keyed: bool, left: &[u8]) -> Option<&[u8]>
     short_front(here)
 }
 
-/// What follows the first accepted pods that hold no others, and by how many bytes their encodings are shorter.
+/// What follows the first accepted pods that hold no others, and by how many bytes their encodings are shorter: of properties by one loop, and of
+/// members by another.
+#[inline(never)]
+fn behind_accepted(keyed: bool, pods: &[u8]) -> (&[u8], usize)
+    ensures { Passes keyed false pods.now result.0.now result.1 }
+{
+    if keyed {
+        return behind_leaves(true, pods);
+    }
+    behind_leaves(false, pods)
+}
+
+/// What follows the first accepted pods that hold no others, with key and flags before each where `keyed` is set, and by how many bytes their
+/// encodings are shorter.
 #[inline(always)]
 fn behind_leaves(keyed: bool, pods: &[u8]) -> (&[u8], usize)
     ensures { Passes keyed false pods.now result.0.now result.1 }
 {
-    let mut left = pods;
+    let mut left = behind_short(keyed, pods);
     let mut surplus = 0;
     loop {
         let Some(here) = behind_key(keyed, left) else {
             return (left, surplus);
         };
-        if let Some(rest) = short_front(here) {
-            left = rest;
-            continue;
-        }
         let Some(front) = open(here) else {
             return (left, surplus);
         };
@@ -643,7 +576,7 @@ fn behind_leaves(keyed: bool, pods: &[u8]) -> (&[u8], usize)
             return (left, surplus);
         };
         surplus += more;
-        left = front.rest;
+        left = behind_short(keyed, front.rest);
     }
 }
 

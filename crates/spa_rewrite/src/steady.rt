@@ -3,11 +3,12 @@ ghost use Rattle.std.specs.Prelude.{◌≡◌, ◌≢◌, ◌+◌, ◌<◌, ◌�
 ghost use Rattle.spa_format.specs.Kind.{Kind, body_size, type_number};
 ghost use Rattle.spa_format.specs.Tree.{array_type, choice_type, object_type, struct_type};
 ghost use Rattle.spa_format.specs.Words.{header_size};
-ghost use Rattle.spa_rewrite.specs.Steady.{BeginsSteady, IsBehindKey, IsInside, IsSteadyBody};
+ghost use Rattle.spa_rewrite.specs.Steady.{IsBehindKey, IsInside};
+ghost use Rattle.spa_rewrite.specs.Shorter.{BeginsShorter, IsShorterBody};
 ghost use Rattle.spa_scan.specs.Canonical.{IsFixedLen};
 ghost use Rattle.spa_scan.specs.Depth.{depth_of};
 
-use crate::elements::{elements_of, values_of};
+use crate::elements::elements_of;
 use spa_bytes::{HEADER_LEN, POINTER_LEN, SECOND_WORD, SHORT_POINTER_LEN, u32_at};
 use spa_scan::{fixed_len, is_text};
 use spa_utils::SpaTypes;
@@ -52,7 +53,7 @@ pub fn behind_key(keyed: bool, left: &[u8]) -> Option<&[u8]>
 /// What follows the pod at the front, where its body is one or two words and of a kind of fixed size.
 #[inline(always)]
 pub(crate) fn short_front(input: &[u8]) -> Option<&[u8]>
-    ensures taken { IfSome result (λ rest. BeginsSteady input.now rest.now) }
+    ensures taken { IfSome result (λ rest. BeginsShorter input.now rest.now 0) }
     ensures shorter { IfSome result (λ rest. length rest.now + 16 ≤ length input.now) }
 {
     if input.len() < SHORT_POD {
@@ -98,14 +99,13 @@ pub(crate) fn inside_of(type_: u32, body: &[u8]) -> Option<Inside<'_>>
     Some(Inside { keyed: true, pods })
 }
 
-/// Whether a body of this type is that of a value without members whose encoding is as long as the pod.
+/// Whether a body of this type is that of a value without members, and not a choice. The encoding of such a value is as long as the pod.
 #[inline(always)]
 pub(crate) fn is_steady_leaf(type_: u32, body: &[u8]) -> bool
-    ensures steady { result ≡ true → IsSteadyBody type_ body.now }
-    ensures found { (s : IsSteadyBody type_ body.now) → depth_of s.value ≡ 0 → result ≡ true }
+    ensures steady { result ≡ true → IsShorterBody type_ body.now 0 }
+    ensures found { type_ ≢ choice_type → (s : IsShorterBody type_ body.now 0) → depth_of s.value ≡ 0 → result ≡ true }
 {
     match SpaTypes(type_) {
-        SpaTypes::Choice => is_steady_choice(body),
         SpaTypes::String => is_text(body),
         SpaTypes::Array => is_steady_array(body),
         SpaTypes::Bytes => true,
@@ -117,7 +117,7 @@ pub(crate) fn is_steady_leaf(type_: u32, body: &[u8]) -> bool
 
 /// Whether this is the body of a value of fixed size.
 fn is_steady_fixed(type_: u32, body: &[u8]) -> bool
-    ensures steady { result ≡ true → IsSteadyBody type_ body.now }
+    ensures steady { result ≡ true → IsShorterBody type_ body.now 0 }
     ensures found { (k : Kind) → type_ ≡ type_number k → length body.now ≡ body_size k → result ≡ true }
 {
     let len = fixed_len(type_);
@@ -126,26 +126,11 @@ fn is_steady_fixed(type_: u32, body: &[u8]) -> bool
 
 /// Whether this is the body of an array: these are as long as their encodings.
 fn is_steady_array(body: &[u8]) -> bool
-    ensures steady { result ≡ true → IsSteadyBody array_type body.now }
-    ensures found { IsSteadyBody array_type body.now → result ≡ true }
+    ensures steady { result ≡ true → IsShorterBody array_type body.now 0 }
+    ensures found { IsShorterBody array_type body.now 0 → result ≡ true }
 {
     match elements_of(body) {
         Some(_) => true,
-        None => false,
-    }
-}
-
-/// Whether this is the body of a choice whose values beyond those that it takes are within the padding.
-#[inline(always)]
-fn is_steady_choice(body: &[u8]) -> bool
-    ensures steady { result ≡ true → IsSteadyBody choice_type body.now }
-    ensures found { IsSteadyBody choice_type body.now → result ≡ true }
-{
-    match values_of(body) {
-        Some(kept) => {
-            let size = CHOICE_HEADER + kept.len();
-            (size + 7) / HEADER_LEN == (body.len() + 7) / HEADER_LEN
-        }
         None => false,
     }
 }

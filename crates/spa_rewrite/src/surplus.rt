@@ -27,6 +27,7 @@ pub(crate) fn leaf_surplus(type_: u32, body: &[u8]) -> Option<usize>
 }
 
 /// By how many bytes the encoding of a choice is shorter: what the choice holds beyond the values that it takes and beyond the padding of these.
+#[inline(always)]
 fn choice_surplus(body: &[u8]) -> Option<usize>
     ensures there { IfSome result (λ surplus. IsShorterBody choice_type body.now surplus) }
     ensures missed { IfNone result ((v : Tree) → type_of v ≡ choice_type → ¬ (IsBody v body.now)) }

@@ -3,14 +3,13 @@ ghost use Rattle.std.specs.Prelude.{◌≡◌, ◌+◌, ◌-◌, ◌<◌, ◌≤
 ghost use Rattle.spa_format.specs.Tree.{choice_type};
 ghost use Rattle.spa_format.specs.Typed.{IsBytes};
 ghost use Rattle.spa_format.specs.Words.{header_size, size_limit};
-ghost use Rattle.spa_rewrite.specs.Placed.{AreRun, BeginsRun, HoldsWhole, IsInner, PutsHeader, PutsKey, PutsRun, WritesPod, WritesPods, type_inside};
+ghost use Rattle.spa_rewrite.specs.Look.{AreCanonicalInside};
+ghost use Rattle.spa_rewrite.specs.Placed.{BeginsRun, HoldsWhole, IsInner, PutsHeader, PutsKey, PutsRun, WritesPod, WritesPods, type_inside};
 ghost use Rattle.spa_rewrite.specs.Shorter.{AreShorter};
 ghost use Rattle.spa_rewrite.specs.Steady.{BeginsWord, IsPodOf, key_size};
 
-use crate::leading::{canonical_stretch, steady_stretch};
-use crate::patch::{
-    SECOND_HEADER, begins_word, patch_all, patch_leaf, patch_values, place_behind, taken_len,
-};
+use crate::leading::canonical_stretch;
+use crate::patch::{SECOND_HEADER, begins_word, patch_leaf, patch_values, place_behind, taken_len};
 use crate::source::Source;
 use crate::steady::behind_key;
 use spa_bytes::{
@@ -19,7 +18,7 @@ use spa_bytes::{
 use spa_scan::{leaf_members, leaf_properties};
 use spa_utils::SpaTypes;
 
-/// How many bytes a run has at least that was worth the look for it. A run is some pods that are copied at once.
+/// How many bytes a run has at least that was worth the look for it. A run is canonical pods that are copied at once.
 const LONG_RUN: usize = 64;
 
 /// How many bytes are written pod by pod, where a list in a pod begins or a run was shorter, before the next run is looked for.
@@ -36,13 +35,13 @@ pub fn write_all<S: Source>(surplus: usize, source: S, out: &mut [u8]) -> usize
     let end = source.read(out).len() - surplus;
     let (mut outermost, mut keyed) = (true, false);
     // A look at all pods has ended at the first.
-    let (mut look_at, mut unpatched) = (1, false);
+    let mut look_at = 1;
     let (mut from, mut to) = (0, 0);
     loop {
         let pods = source.read(out);
         let left = &pods[from..];
-        if let Some(run) = run_len(outermost, keyed, &mut look_at, &mut unpatched, from, left) {
-            put_run(unpatched, source, out, from, to, run);
+        if let Some(run) = run_len(outermost, keyed, &mut look_at, from, left) {
+            put_run(source, out, from, to, run);
             from += run;
             to += run;
             continue;
@@ -74,23 +73,22 @@ pub fn write_all<S: Source>(surplus: usize, source: S, out: &mut [u8]) -> usize
     }
 }
 
-/// How many bytes the pods from a place on take that are a run, with key and flags before each where `keyed` is set, if there is one; and
-/// whether it is unpatched. Before the place to look at none is looked for. That goes on: behind a run to the pod behind the one that ended it.
+/// How many bytes the pods from a place on take that are a run, with key and flags before each where `keyed` is set, if there is one. Before the
+/// place to look at none is looked for. That goes on: behind a run to the pod behind the one that ended it.
 #[inline(always)]
 fn run_len(
     outermost: bool,
     keyed: bool,
     look_at: &mut usize,
-    unpatched: &mut bool,
     from: usize,
     left: &[u8],
 ) -> Option<usize>
-    ensures { IfSome result (λ len. BeginsRun unpatched.new keyed left.now len) }
+    ensures { IfSome result (λ len. BeginsRun keyed left.now len) }
 {
     if from < *look_at {
         return None;
     }
-    let len = run_at(outermost, keyed, unpatched, left);
+    let len = run_at(outermost, keyed, left);
     let unlooked = if len < LONG_RUN { UNLOOKED } else { 1 };
     *look_at = from.saturating_add(len).saturating_add(unlooked);
     if len == 0 { None } else { Some(len) }
@@ -102,26 +100,24 @@ fn run_inside(
     looks: bool,
     keyed: bool,
     look_at: &mut usize,
-    unpatched: &mut bool,
     from: usize,
     left: &[u8],
 ) -> Option<usize>
-    ensures { IfSome result (λ len. BeginsRun unpatched.new keyed left.now len) }
+    ensures { IfSome result (λ len. BeginsRun keyed left.now len) }
 {
     if looks {
-        run_len(false, keyed, look_at, unpatched, from, left)
+        run_len(false, keyed, look_at, from, left)
     } else {
         None
     }
 }
 
-/// How many bytes the first canonical pods take; where these are few of the outermost pods, those whose encodings are as long as they are. Inside
-/// others only pods that hold none are looked at: a look at structs would be one at each level that they stand in.
-fn run_at(outermost: bool, keyed: bool, unpatched: &mut bool, left: &[u8]) -> usize
+/// How many bytes the first canonical pods take. Inside others only pods that hold none are looked at: a look at structs would be one at each level
+/// that they stand in.
+fn run_at(outermost: bool, keyed: bool, left: &[u8]) -> usize
     ensures within { result ≤ length left.now }
-    ensures its { AreRun unpatched.new keyed (take result left.now) }
+    ensures its { AreCanonicalInside keyed (take result left.now) }
 {
-    *unpatched = false;
     if keyed {
         let (run, _) = leaf_properties(left);
         return run.len();
@@ -130,34 +126,19 @@ fn run_at(outermost: bool, keyed: bool, unpatched: &mut bool, left: &[u8]) -> us
         let (run, _) = leaf_members(left);
         return run.len();
     }
-    let (own, _) = canonical_stretch(left);
-    if own.len() >= LONG_RUN {
-        return own.len();
-    }
-    *unpatched = true;
-    let (steady, _) = steady_stretch(left);
-    steady.len()
+    let (run, _) = canonical_stretch(left);
+    run.len()
 }
 
-/// Copies a run, and replaces pods that aren't canonical by their encodings in the copy.
+/// Copies a run.
 #[inline(always)]
-fn put_run<S: Source>(
-    unpatched: bool,
-    source: S,
-    out: &mut [u8],
-    from: usize,
-    to: usize,
-    len: usize,
-)
+fn put_run<S: Source>(source: S, out: &mut [u8], from: usize, to: usize, len: usize)
     requires fits { S.fits source (length out.old) }
     requires run { from + len ≤ length (S.pods source out.old) }
     requires down { to ≤ from }
-    ensures { PutsRun unpatched (take len (drop from (S.pods source out.old))) out.old out.new to len }
+    ensures { PutsRun (take len (drop from (S.pods source out.old))) out.old out.new to len }
 {
     source.part(out, from, from + len, to).carry(&mut out[to..]);
-    if unpatched {
-        patch_all(&mut out[to..to + len]);
-    }
 }
 
 /// Whether properties stand in it, of a struct or an object that nothing follows.
@@ -205,14 +186,14 @@ pub fn write_pods<S: Source>(keyed: bool, source: S, out: &mut [u8]) -> usize
     requires bytes { IsBytes (S.pods source out.old) }
     ensures { WritesPods keyed (S.pods source out.old) out.old out.new result }
 {
-    let (mut look_at, mut unpatched) = (UNLOOKED, false);
+    let mut look_at = UNLOOKED;
     let looks = source.looks_for_runs();
     let (mut from, mut to) = (0, 0);
     loop {
         let pods = source.read(out);
         let left = &pods[from..];
-        if let Some(run) = run_inside(looks, keyed, &mut look_at, &mut unpatched, from, left) {
-            put_run(unpatched, source, out, from, to, run);
+        if let Some(run) = run_inside(looks, keyed, &mut look_at, from, left) {
+            put_run(source, out, from, to, run);
             from += run;
             to += run;
             continue;

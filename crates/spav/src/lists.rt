@@ -3,14 +3,13 @@ ghost use Rattle.std.specs.Prelude.{◌≡◌, ◌<◌, ◌≤◌, ◌++◌, dro
 ghost use Rattle.spa_format.specs.Pod.{AreMembers};
 ghost use Rattle.spa_format.specs.Tree.{Trees};
 ghost use Rattle.spa_rewrite.specs.Shorter.{ArePodsWithin};
-ghost use Rattle.spa_rewrite.specs.Steady.{AreSteadyWithin};
 ghost use Rattle.spa_scan.specs.Depth.{AreShallow, levels_looked_into};
 ghost use Rattle.spav.specs.Answers.{IsChecked, IsDone, IsInvalid, IsNoMemory, IsNoRoom, IsPut, IsRewritten};
 ghost use Rattle.spav.specs.Lists.{ListIsRefused, ListIsWritten, ListLacksRoom};
 
 use crate::answers::{DONE, INVALID, NO_MEMORY, NO_ROOM};
 use spa_fixed_sized::DeserializeError;
-use spa_in_place::{rewrite_across, rewrite_into};
+use spa_in_place::rewrite_into;
 use spa_rewrite::{accept_all, canonical_stretch, rewrite_all};
 use std::alloc::Global;
 
@@ -66,9 +65,6 @@ fn put_into(input: &[u8], out: &mut [u8], written: &mut usize) -> Option<i32>
         → ¬ (ArePodsWithin levels_looked_into input.now)) }
 {
     let Some(taken) = rewrite_into(input, out) else {
-        if put_across(input, out, written) {
-            return Some(DONE);
-        }
         return None;
     };
     if input.len() <= out.len() {
@@ -80,21 +76,6 @@ fn put_into(input: &[u8], out: &mut [u8], written: &mut usize) -> Option<i32>
         return Some(NO_ROOM);
     }
     None
-}
-
-/// Writes the encodings to the front of the output, and their length to `written`, where each is found to be as long as its pod and all fit.
-/// Answers whether it did.
-fn put_across(input: &[u8], out: &mut [u8], written: &mut usize) -> bool
-    ensures done { result ≡ true → ListIsWritten input.now written.new out.old out.new }
-    ensures unchanged { result ≡ false → out.new ≡ out.old }
-    ensures found { AreSteadyWithin levels_looked_into input.now → length input.now ≤ length out.old → result ≡ true }
-{
-    let len = input.len();
-    if out.len() < len || !rewrite_across(input, &mut out[..len]) {
-        return false;
-    }
-    *written = len;
-    true
 }
 
 /// Whether the input is pods one after another.

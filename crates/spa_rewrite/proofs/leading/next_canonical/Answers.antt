@@ -4,7 +4,7 @@ use Rattle.spa_scan.specs.Depth.{levels_looked_into}
 use Rattle.spa_rewrite.proofs.Accepted.{leaf_differs}
 use Rattle.spa_rewrite.proofs.Levels.{deep_begun, too_deep}
 use Rattle.spa_rewrite.proofs.Looks.{inside_own, own_opened}
-use Rattle.spa_rewrite.proofs.SteadyFound.{canonical_steady, never}
+use Rattle.spa_rewrite.proofs.SteadyFound.{never}
 use Rattle.spa_rewrite.proofs.leading.next_canonical.Goals as goal
 
 pub returns-in_default-inside_of-clause-missed : goal.returns-in_default-inside_of-clause-missed
@@ -31,9 +31,7 @@ returns-in-Differs-clause-missed c = λ rest k.
 pub returns-in-Stops-clause-missed : goal.returns-in-Stops-clause-missed
 returns-in-Stops-clause-missed c = λ rest k.
     let bytes : IsBytes c.args.input.now = λ i. omega (arith, c.type_inv.input i) in
-    absurd
-    (c.in-Stops.ensures.other
-    (canonical_steady _ _ (inside_own _ _ _ _ _ _ _ bytes c.in-Some-open.ensures.there c.in-Some-inside_of.ensures.there k)))
+    absurd (c.in-Stops.ensures.other (inside_own _ _ _ _ _ _ _ bytes c.in-Some-open.ensures.there c.in-Some-inside_of.ensures.there k))
 
 pub returns-in-TooDeep-clause-missed : goal.returns-in-TooDeep-clause-missed
 returns-in-TooDeep-clause-missed c = λ rest k.

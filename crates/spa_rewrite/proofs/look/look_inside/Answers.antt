@@ -56,7 +56,7 @@ loop-left-preserved-in-Leaves c =
 pub returns-in-Fault : goal.returns-in-Fault
 returns-in-Fault c =
     let passed = c.loop-left.invariant.0 in
-    stops_in _ _ _ _ _ passed.stands (λ s. (passed.steady s).1) c.in-Fault.ensures
+    stops_in _ _ _ _ _ passed.stands passed.kept c.in-Fault.ensures
 
 pub loop-left-smaller-then-is_empty-2 : goal.loop-left-smaller-then-is_empty-2
 loop-left-smaller-then-is_empty-2 c =

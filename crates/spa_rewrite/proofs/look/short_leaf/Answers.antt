@@ -1,7 +1,7 @@
 use Rattle.std.proofs.Common.{arith, refl, false}
 use Rattle.std.proofs.lemmas.Option.{IfSome_then}
 use Rattle.spa_format.specs.Typed.{IsBytes}
-use Rattle.spa_rewrite.proofs.Looks.{behind_shorter, passes_pod, some_left, steady_shorter}
+use Rattle.spa_rewrite.proofs.Looks.{behind_shorter, passes_pod, some_left}
 use Rattle.spa_rewrite.proofs.SteadyFound.{never}
 use Rattle.spa_rewrite.proofs.look.short_leaf.Goals as goal
 
@@ -10,7 +10,7 @@ returns-clause-passed c =
     let bytes : IsBytes c.args.left.now = λ i. omega (arith, c.type_inv.left i) in
     let key = c.in-Some.ensures.there in
     IfSome_then c.short_front.result c.short_front.ensures.taken (λ rest t.
-    passes_pod _ _ _ _ _ 0 bytes (some_left _ _ _ key t.begins.begins.there) key (steady_shorter _ _ t) (λ e. absurd (never false e refl)))
+    passes_pod _ _ _ _ _ 0 bytes (some_left _ _ _ key t.begins.begins.there) key t (λ e. absurd (never false e refl)))
 
 pub returns-clause-shorter : goal.returns-clause-shorter
 returns-clause-shorter c =

@@ -35,7 +35,7 @@ write_pods-loop-run-preserved-in-Some g t c =
     let within = c.in-Some.ensures.within in
     let there = inv.within in
     let kept = g.met.S.Source.kept source now c.put_run.new.out (c.loop-run.to + c.in-Some.run') fits_now (omega arith) c.put_run.auto.out c.put_run.ensures.behind in
-    sources_run _ _ _ _ _ _ _ _ _ _ from c.loop-run.to c.in-Some.run' inv left_is c.in-Some.ensures c.put_run.ensures c.put_run.auto.out kept
+    sources_run _ _ _ _ _ _ _ _ _ from c.loop-run.to c.in-Some.run' inv left_is c.in-Some.ensures c.put_run.ensures c.put_run.auto.out kept
 
 pub write_pods-part-pod-requires-clause-within : goal.write_pods-part-pod-requires-clause-within
 write_pods-part-pod-requires-clause-within g t c =

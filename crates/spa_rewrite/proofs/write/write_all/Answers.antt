@@ -33,7 +33,7 @@ loop-run-preserved-in-Some g c =
     let within = c.in-Some.ensures.within in
     let there = inv.within in
     let kept = g.met.S.Source.kept source now c.put_run.new.out (c.loop-run.to + c.in-Some.run') fits_now (omega arith) c.put_run.auto.out c.put_run.ensures.behind in
-    chains_run _ _ _ _ _ _ _ _ _ from c.loop-run.to _ c.in-Some.run' c.loop-run.invariant left_is c.in-Some.ensures c.put_run.ensures c.put_run.auto.out kept
+    chains_run _ _ _ _ _ _ _ _ from c.loop-run.to _ c.in-Some.run' c.loop-run.invariant left_is c.in-Some.ensures c.put_run.ensures c.put_run.auto.out kept
 
 pub place_behind-from-requires : goal.place_behind-from-requires
 place_behind-from-requires g c =

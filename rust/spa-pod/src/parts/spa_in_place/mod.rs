@@ -3,5 +3,5 @@ use crate::shims::prelude::*;
 mod in_place;
 mod into;
 
-pub use in_place::{rewrite_across, rewrite_in_place};
+pub use in_place::rewrite_in_place;
 pub use into::rewrite_into;

@@ -12,7 +12,7 @@ mod surplus;
 mod write;
 
 pub use canonical::is_canonical;
-pub use leading::{canonical_front, canonical_stretch, steady_stretch};
+pub use leading::{canonical_front, canonical_stretch};
 pub use look::{
     AcceptedPod, AcceptedPods, ChangedPods, Rejected, changed_pods, look_at_pod, look_at_pods,
     surplus_of_each,

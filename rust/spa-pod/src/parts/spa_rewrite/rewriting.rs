@@ -4,8 +4,10 @@
 //! written over it. What nests too deep for that is read as a value, which is written.
 
 use crate::shims::prelude::*;
-use crate::parts::spa_rewrite::leading::{canonical_pods, canonical_stretch, steady_pods};
-use crate::parts::spa_rewrite::look::{AcceptedPod, DEEP_BODY, FEW, Rejected, look_at_front, look_at_pods};
+use crate::parts::spa_rewrite::leading::{canonical_pods, canonical_stretch};
+use crate::parts::spa_rewrite::look::{
+    AcceptedPod, DEEP_BODY, FEW, Rejected, fewer_unasked, look_at_front, look_at_pods,
+};
 use crate::parts::spa_rewrite::patch::patch_all;
 use crate::parts::spa_rewrite::source::Apart;
 use crate::parts::spa_rewrite::steady::Inside;
@@ -157,7 +159,7 @@ fn append_canonical<'a>(
 /// Accepted pods that are written together.
 #[derive(Clone, Copy)]
 struct Section<'a> {
-    /// The pods: each is as long as its encoding, or each is longer.
+    /// The pods.
     pods: &'a [u8],
     /// By how many bytes their encodings are shorter.
     surplus: usize,
@@ -190,28 +192,29 @@ fn append_others<'a>(
     }
 }
 
-/// Looks at the first pods, as long as they are accepted and alike: each as long as its encoding, or each longer.
+/// Looks at the first pods, as long as they are accepted and aren't canonical: canonical ones that aren't asked are among them, too. Pods that keep
+/// their length end before one that gets shorter, since they are patched.
 #[cfg_attr(not(debug_assertions), inline(always))]
 fn look_over<'a>(pods: &'a [u8], frames: &mut [Inside<'a>]) -> Section<'a> {
-    let (steady, others) = steady_pods(BLOCK, pods, frames);
-    if !steady.is_empty() {
-        return cut_section(pods, others, others, 0);
-    }
     let mut left = pods;
     let mut surplus = 0;
+    // The first one was asked.
+    let mut unasked = 1;
     loop {
-        if pods.len() - left.len() >= BLOCK {
+        let seen = pods.len() - left.len();
+        if seen >= BLOCK {
             return cut_section(pods, left, left, surplus);
         }
-        let Ok(pod) = look_to_write(surplus > 0, left, frames) else {
+        let Ok(pod) = look_to_write(unasked == 0, surplus > 0, left, frames) else {
             return cut_section(pods, left, left, surplus);
         };
-        if pod.surplus == 0 {
-            if pod.canonical {
-                return cut_section(pods, left, pod.rest, surplus);
-            }
+        if pod.canonical {
+            return cut_section(pods, left, pod.rest, surplus);
+        }
+        if seen > 0 && surplus == 0 && pod.surplus > 0 {
             return cut_section(pods, left, left, surplus);
         }
+        unasked = fewer_unasked(unasked);
         surplus += pod.surplus;
         left = pod.rest;
     }
@@ -230,11 +233,13 @@ fn cut_section<'a>(pods: &'a [u8], left: &'a [u8], rest: &'a [u8], surplus: usiz
     }
 }
 
-/// Looks at the pod at the front as `look_at_front` does, and rejects pods as too deep that get shorter and hold more than `LEVELS` structs and
-/// objects in one another, wherever these end: what writes such a pod calls itself for each.
+/// Looks at the pod at the front as `look_at_front` does, and rejects pods as too deep that are written and hold more than `LEVELS` structs and
+/// objects in one another, wherever these end: what writes such a pod calls itself for each. Written are those that get shorter, and, where `moves`
+/// is set, all that aren't canonical.
 #[cfg_attr(not(debug_assertions), inline(always))]
 fn look_to_write<'a>(
     canonical: bool,
+    moves: bool,
     input: &'a [u8],
     frames: &mut [Inside<'a>],
 ) -> Result<AcceptedPod<'a>, Rejected<'a>> {
@@ -242,7 +247,8 @@ fn look_to_write<'a>(
         Ok(pod) => pod,
         Err(rejected) => return Err(rejected),
     };
-    if pod.surplus > 0 && input.len() - pod.rest.len() >= DEEP_BODY {
+    let written = pod.surplus > 0 || moves && !pod.canonical;
+    if written && input.len() - pod.rest.len() >= DEEP_BODY {
         if !nests_within(input, LEVELS) {
             return Err(Rejected::TooDeep);
         }
@@ -271,7 +277,7 @@ fn append_front<'a>(
     frames: &mut [Inside<'a>],
     out: &mut Vec<u8>,
 ) -> Result<&'a [u8], Refused<'a>> {
-    match look_to_write(true, input, frames) {
+    match look_to_write(true, false, input, frames) {
         Ok(pod) => {
             let (front, _) = input.split_at(input.len() - pod.rest.len());
             match append_pod(pod.canonical, front, pod.surplus, out) {

@@ -1,7 +1,7 @@
 //! Pods that hold no others and whose encodings are as long as they are; and what stands inside a struct or an object.
 
 use crate::shims::prelude::*;
-use crate::parts::spa_rewrite::elements::{elements_of, values_of};
+use crate::parts::spa_rewrite::elements::elements_of;
 use crate::parts::spa_bytes::{HEADER_LEN, POINTER_LEN, SECOND_WORD, SHORT_POINTER_LEN, u32_at};
 use crate::parts::spa_scan::{fixed_len, is_text};
 use crate::parts::spa_utils::SpaTypes;
@@ -78,11 +78,10 @@ pub(crate) fn inside_of(type_: u32, body: &[u8]) -> Option<Inside<'_>> {
     Some(Inside { keyed: true, pods })
 }
 
-/// Whether a body of this type is that of a value without members whose encoding is as long as the pod.
+/// Whether a body of this type is that of a value without members, and not a choice. The encoding of such a value is as long as the pod.
 #[cfg_attr(not(debug_assertions), inline(always))]
 pub(crate) fn is_steady_leaf(type_: u32, body: &[u8]) -> bool {
     match SpaTypes(type_) {
-        SpaTypes::Choice => is_steady_choice(body),
         SpaTypes::String => is_text(body),
         SpaTypes::Array => is_steady_array(body),
         SpaTypes::Bytes => true,
@@ -102,18 +101,6 @@ fn is_steady_fixed(type_: u32, body: &[u8]) -> bool {
 fn is_steady_array(body: &[u8]) -> bool {
     match elements_of(body) {
         Some(_) => true,
-        None => false,
-    }
-}
-
-/// Whether this is the body of a choice whose values beyond those that it takes are within the padding.
-#[cfg_attr(not(debug_assertions), inline(always))]
-fn is_steady_choice(body: &[u8]) -> bool {
-    match values_of(body) {
-        Some(kept) => {
-            let size = CHOICE_HEADER + kept.len();
-            (size + 7) / HEADER_LEN == (body.len() + 7) / HEADER_LEN
-        }
         None => false,
     }
 }

@@ -20,6 +20,7 @@ pub(crate) fn leaf_surplus(type_: u32, body: &[u8]) -> Option<usize> {
 }
 
 /// By how many bytes the encoding of a choice is shorter: what the choice holds beyond the values that it takes and beyond the padding of these.
+#[cfg_attr(not(debug_assertions), inline(always))]
 fn choice_surplus(body: &[u8]) -> Option<usize> {
     let Some(kept) = values_of(body) else {
         return None;

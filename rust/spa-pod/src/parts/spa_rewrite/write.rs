@@ -1,10 +1,8 @@
 //! The encodings of pods that get shorter, written to the front of an output: from another buffer, or in the output itself.
 
 use crate::shims::prelude::*;
-use crate::parts::spa_rewrite::leading::{canonical_stretch, steady_stretch};
-use crate::parts::spa_rewrite::patch::{
-    SECOND_HEADER, begins_word, patch_all, patch_leaf, patch_values, place_behind, taken_len,
-};
+use crate::parts::spa_rewrite::leading::canonical_stretch;
+use crate::parts::spa_rewrite::patch::{SECOND_HEADER, begins_word, patch_leaf, patch_values, place_behind, taken_len};
 use crate::parts::spa_rewrite::source::Source;
 use crate::parts::spa_rewrite::steady::behind_key;
 use crate::parts::spa_bytes::{
@@ -13,7 +11,7 @@ use crate::parts::spa_bytes::{
 use crate::parts::spa_scan::{leaf_members, leaf_properties};
 use crate::parts::spa_utils::SpaTypes;
 
-/// How many bytes a run has at least that was worth the look for it. A run is some pods that are copied at once.
+/// How many bytes a run has at least that was worth the look for it. A run is canonical pods that are copied at once.
 const LONG_RUN: usize = 64;
 
 /// How many bytes are written pod by pod, where a list in a pod begins or a run was shorter, before the next run is looked for.
@@ -25,13 +23,13 @@ pub fn write_all<S: Source>(surplus: usize, source: S, out: &mut [u8]) -> usize 
     let end = source.read(out).len() - surplus;
     let (mut outermost, mut keyed) = (true, false);
     // A look at all pods has ended at the first.
-    let (mut look_at, mut unpatched) = (1, false);
+    let mut look_at = 1;
     let (mut from, mut to) = (0, 0);
     loop {
         let pods = source.read(out);
         let left = &pods[from..];
-        if let Some(run) = run_len(outermost, keyed, &mut look_at, &mut unpatched, from, left) {
-            put_run(unpatched, source, out, from, to, run);
+        if let Some(run) = run_len(outermost, keyed, &mut look_at, from, left) {
+            put_run(source, out, from, to, run);
             from += run;
             to += run;
             continue;
@@ -63,21 +61,20 @@ pub fn write_all<S: Source>(surplus: usize, source: S, out: &mut [u8]) -> usize 
     }
 }
 
-/// How many bytes the pods from a place on take that are a run, with key and flags before each where `keyed` is set, if there is one; and
-/// whether it is unpatched. Before the place to look at none is looked for. That goes on: behind a run to the pod behind the one that ended it.
+/// How many bytes the pods from a place on take that are a run, with key and flags before each where `keyed` is set, if there is one. Before the
+/// place to look at none is looked for. That goes on: behind a run to the pod behind the one that ended it.
 #[cfg_attr(not(debug_assertions), inline(always))]
 fn run_len(
     outermost: bool,
     keyed: bool,
     look_at: &mut usize,
-    unpatched: &mut bool,
     from: usize,
     left: &[u8],
 ) -> Option<usize> {
     if from < *look_at {
         return None;
     }
-    let len = run_at(outermost, keyed, unpatched, left);
+    let len = run_at(outermost, keyed, left);
     let unlooked = if len < LONG_RUN { UNLOOKED } else { 1 };
     *look_at = from.saturating_add(len).saturating_add(unlooked);
     if len == 0 { None } else { Some(len) }
@@ -89,21 +86,19 @@ fn run_inside(
     looks: bool,
     keyed: bool,
     look_at: &mut usize,
-    unpatched: &mut bool,
     from: usize,
     left: &[u8],
 ) -> Option<usize> {
     if looks {
-        run_len(false, keyed, look_at, unpatched, from, left)
+        run_len(false, keyed, look_at, from, left)
     } else {
         None
     }
 }
 
-/// How many bytes the first canonical pods take; where these are few of the outermost pods, those whose encodings are as long as they are. Inside
-/// others only pods that hold none are looked at: a look at structs would be one at each level that they stand in.
-fn run_at(outermost: bool, keyed: bool, unpatched: &mut bool, left: &[u8]) -> usize {
-    *unpatched = false;
+/// How many bytes the first canonical pods take. Inside others only pods that hold none are looked at: a look at structs would be one at each level
+/// that they stand in.
+fn run_at(outermost: bool, keyed: bool, left: &[u8]) -> usize {
     if keyed {
         let (run, _) = leaf_properties(left);
         return run.len();
@@ -112,29 +107,14 @@ fn run_at(outermost: bool, keyed: bool, unpatched: &mut bool, left: &[u8]) -> us
         let (run, _) = leaf_members(left);
         return run.len();
     }
-    let (own, _) = canonical_stretch(left);
-    if own.len() >= LONG_RUN {
-        return own.len();
-    }
-    *unpatched = true;
-    let (steady, _) = steady_stretch(left);
-    steady.len()
+    let (run, _) = canonical_stretch(left);
+    run.len()
 }
 
-/// Copies a run, and replaces pods that aren't canonical by their encodings in the copy.
+/// Copies a run.
 #[cfg_attr(not(debug_assertions), inline(always))]
-fn put_run<S: Source>(
-    unpatched: bool,
-    source: S,
-    out: &mut [u8],
-    from: usize,
-    to: usize,
-    len: usize,
-) {
+fn put_run<S: Source>(source: S, out: &mut [u8], from: usize, to: usize, len: usize) {
     source.part(out, from, from + len, to).carry(&mut out[to..]);
-    if unpatched {
-        patch_all(&mut out[to..to + len]);
-    }
 }
 
 /// Whether properties stand in it, of a struct or an object that nothing follows.
@@ -168,14 +148,14 @@ fn put_header<S: Source>(
 /// Writes the encodings of pods one after another to the front of the output, with key and flags before each where `keyed` is set, and returns
 /// how many bytes they take. Of bytes that aren't such pods it promises only what stays as it was.
 pub fn write_pods<S: Source>(keyed: bool, source: S, out: &mut [u8]) -> usize {
-    let (mut look_at, mut unpatched) = (UNLOOKED, false);
+    let mut look_at = UNLOOKED;
     let looks = source.looks_for_runs();
     let (mut from, mut to) = (0, 0);
     loop {
         let pods = source.read(out);
         let left = &pods[from..];
-        if let Some(run) = run_inside(looks, keyed, &mut look_at, &mut unpatched, from, left) {
-            put_run(unpatched, source, out, from, to, run);
+        if let Some(run) = run_inside(looks, keyed, &mut look_at, from, left) {
+            put_run(source, out, from, to, run);
             from += run;
             to += run;
             continue;

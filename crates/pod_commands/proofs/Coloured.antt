@@ -1,28 +1,10 @@
 -- Texts in colours.
 use Rattle.std.proofs.Common.{◌≡◌, ◌∙◌, ◌++◌, [], ap, append_assoc, append-nil, refl, subst, sym, List, ℕ, Option}
 use Rattle.spa_text_commands.specs.Texts.{Prints}
+use Rattle.pod_commands.specs.StreamLaws.{joined}
 use Rattle.pod_commands.specs.Colours.{InColours, IsColoured, PrintsIn, piece_in, nothing, further}
 use Rattle.pod_commands.specs.declared.colours.Colour.{Colour}
-use Rattle.pod_commands.specs.declared.colours.Colours.{Colours}
-use Rattle.pod_commands.specs.declared.colours.Colours.TheVariants.{Off, On}
 use Rattle.pod_commands.specs.declared.request.Style.{Style}
-
-joined : (text out others more : List ℕ) → IsColoured text out → IsColoured others more → IsColoured (text ++ others) (out ++ more)
-joined text out others more nothing k = k
-joined text out others more (further piece behind made colour h) k =
-    subst (λ z. IsColoured z ((piece_in colour piece ++ made) ++ more)) (sym (append_assoc piece behind others))
-    (subst (IsColoured (piece ++ (behind ++ others))) (sym (append_assoc (piece_in colour piece) made more))
-    (further piece (behind ++ others) (made ++ more) colour (joined behind made others more h k)))
-
--- one behind another
-pub coloured_more : (colours : Colours) (text others out more : List ℕ) → InColours colours text out → InColours colours others more →
-    InColours colours (text ++ others) (out ++ more)
-coloured_more Off text others out more h k = ap (λ z. z ++ more) h ∙ ap (λ z. text ++ z) k
-coloured_more On text others out more h k = joined text out others more h k
-
-pub nothing_coloured : (colours : Colours) → InColours colours [] []
-nothing_coloured Off = refl
-nothing_coloured On = nothing
 
 -- what is coloured of a text, of which this is left
 pub record ColouredSoFar (text left out : List ℕ) : Type 0 where

@@ -113,8 +113,8 @@ pods_unknown : (r : Option (List ℕ)) (holds : List ℕ → Option (List ℕ)) 
     StopsAt (StreamsAs streaming.Rewrite) (EndsIn streaming.Rewrite) r holds names out (Pods name why) → holds name.now ≡ None
 pods_unknown r holds [] made out n name why files m s = absurd s
 pods_unknown r holds (x ∷ xs) made out n name why files m (inl s) =
-    let d = differs ⊤ (content_of r holds x.now) m.0 s.0 out m.6.1.0 why.number why.place s.3 m.5 s.1 m.6.1.1 s.4 in
-    subst (λ z. holds z ≡ None) (sym s.2) (subst (λ b. (if b then r else holds x.now) ≡ None) files.0 d)
+    let d = differs ⊤ (content_of r holds x.now) m.0 s.0 out m.6.1.0 why.number why.place s.2.1 m.5 s.1 m.6.1.1 s.2.2 in
+    subst (λ z. holds z ≡ None) (sym s.2.0) (subst (λ b. (if b then r else holds x.now) ≡ None) files.0 d)
 pods_unknown r holds (x ∷ xs) made out n name why files m (inr s) =
     pods_unknown (left_behind r x.now) holds xs m.2 s.2 m.4 name why files.1 m.9 s.7
 
@@ -134,7 +134,7 @@ pub read_again : (answer : Answer) (r s : Option (List ℕ)) (names : List (Bor 
     IsWrittenAs streaming.Rewrite answer s names o → IsMadeBy Exact Stops Rewrite answer r names o
 read_again Done r s names o made n may m h =
     inl (h.0, made_of_files (StreamsAs streaming.Rewrite) (MakesAll Exact Rewrite) s r o.before names h.0 0 rewritten may.files h.1, h.2)
-read_again (Shown k) r s names o made n may m h = absurd (h.0 (none_refused s o.before names h.1 k h.2))
+read_again (Shown k) r s names o made n may m h = absurd (h.0 (none_refused s o.before names h.1.0 k h.1.1))
 read_again (Refused why) r s names o made n may m h =
     let none = none_checked r o.before names made n m in
     let stops = stops_at_files (StreamsAs streaming.Rewrite) (EndsIn streaming.Rewrite) s r o.before names h.0.0 why may.files h.0.1 in
@@ -174,7 +174,7 @@ as_rewritten reading making names target may = record { exact = refl; rewrite = 
 -- ---- Names, one after another
 
 -- where those that are left are files, all are
-pub AreFilesSoFar : (names left : List (Bor (List ℕ))) → Type 0
+abbrev pub AreFilesSoFar : (names left : List (Bor (List ℕ))) → Type 0
 AreFilesSoFar names left = AreFiles left → AreFiles names
 
 pub one_file_more : (names left behind : List (Bor (List ℕ))) (name : Bor (List ℕ)) → left ≡ name ∷ behind → bytes_eq name.now dash ≡ false →

@@ -1,5 +1,5 @@
 -- What a run writes, and what it says of that: docs/PROVED.md, "The programs".
-use Rattle.std.specs.Prelude.{◌≡◌, ◌≢◌, ◌⊎◌, ⊤, ℕ, All, Bool, false, codes, List, [], ◌∷◌, ◌++◌, Option, Some, None, Ok, if◌then◌else◌, take}
+use Rattle.std.specs.Prelude.{◌≡◌, ◌≢◌, ◌⊎◌, ⊤, ℕ, Bool, false, codes, List, [], ◌∷◌, ◌++◌, Option, Some, None, Ok, if◌then◌else◌, take}
 use Rattle.std.specs.Borrow.{Bor}
 use Rattle.std.specs.Io.KnownBytes.{Appends, Keeps}
 use Rattle.std.specs.Fmt.{decimal}
@@ -171,7 +171,8 @@ IsMadeWhole reading making answer remaining names o =
 
 -- each name is a file's
 abbrev pub AreFiles : List (Bor (List ℕ)) → Type 0
-AreFiles names = All (λ name. bytes_eq name.now dash ≡ false) names
+AreFiles [] = ⊤
+AreFiles (n ∷ ns) = (bytes_eq n.now dash ≡ false) × AreFiles ns
 
 -- where files alone are rewritten, exactly and to the standard output, they may be read twice
 pub record MayReadTwice (reading : Reading) (making : Making) (names : List (Bor (List ℕ))) (target : Option (Bor (List ℕ))) : Type 0 where

@@ -1,5 +1,5 @@
 -- What the words ask for.
-use Rattle.std.specs.Prelude.{◌≡◌, ◌≢◌, ◌<◌, ◌^◌, ◌⊎◌, ◌&&◌, ◌||◌, ⊤, ℕ, codes, Bool, true, false, not, List, [], ◌∷◌, Option, Some, None, IsSomeAnd, is_some, if◌then◌else◌, option_map, unwrap_or}
+use Rattle.std.specs.Prelude.{◌≡◌, ◌≢◌, ◌<◌, ◌^◌, ◌⊎◌, ◌||◌, ⊤, ℕ, codes, Bool, true, false, not, List, [], ◌∷◌, Option, Some, None, IsSomeAnd, is_some, if◌then◌else◌, option_map, unwrap_or}
 use Rattle.std.specs.Str.{bytes_eq}
 use Rattle.std.specs.Str.Parse.{IsNumeral, digits_value, without_leading_plus}
 use Rattle.std.specs.Borrow.{Bor}
@@ -114,13 +114,14 @@ AreColours (Some when) to_terminal colours =
     ((when ≡ codes "auto") × (colours ≡ colours_by to_terminal)) ⊎ ((when ≡ codes "always") × (colours ≡ On)) ⊎ ((when ≡ codes "never") × (colours ≡ Off))
 
 -- the standard output is a terminal, and no file is written
-abbrev pub goes_to_terminal : (is_terminal : Bool) → List Row → Bool
-goes_to_terminal is_terminal rows = is_terminal && not (is_some (first_of (codes "output") rows))
+abbrev pub goes_to_terminal : (is_terminal : Bool) → (output : Option Text) → Bool
+goes_to_terminal is_terminal None = is_terminal
+goes_to_terminal is_terminal (Some name) = false
 
 -- these options are given
 pub record AreGiven (rows : List Row) (is_terminal : Bool) (options : Options) : Type 0 where
   pub layout : options.layout ≡ layout_in rows
-  pub colours : AreColours (first_of (codes "color") rows) (goes_to_terminal is_terminal rows) options.colours
+  pub colours : AreColours (first_of (codes "color") rows) (goes_to_terminal is_terminal (first_of (codes "output") rows)) options.colours
   pub hex : options.hex ≡ is_given (codes "hex") rows
   pub nth : IsNumber (first_of (codes "nth") rows) options.selection.nth
   pub key : option_map (λ s. s.now) options.selection.key ≡ first_of (codes "key") rows

@@ -1,14 +1,37 @@
 -- What is written of pods as they come is that of their parts.
-use Rattle.std.proofs.Common.{◌≡◌, ◌+◌, ℕ, List, [], ◌++◌, ap₂, arith, length, refl}
+use Rattle.std.proofs.Common.{◌≡◌, ◌∙◌, ◌+◌, ℕ, List, [], ◌++◌, ap, ap₂, append_assoc, arith, length, refl, subst, sym}
 use Rattle.spa_format.specs.Tree.{join_members, no_trees}
 use Rattle.spa_format.specs.Walk.{walk}
 use Rattle.spa_format.proofs.Sequences.{members_joined}
 use Rattle.spa_recordings.specs.Rewritings.{nothing_rewritten, rewritten_more}
 use Rattle.spa_text_commands.specs.Parts.{nothing_printed, nothing_shown, printed_more, shown_more}
 use Rattle.pod_commands.specs.Streaming.{WritesOf}
-use Rattle.pod_commands.proofs.Coloured.{coloured_more, nothing_coloured}
+use Rattle.pod_commands.specs.Colours.{InColours, IsColoured, further, nothing, piece_in}
+use Rattle.pod_commands.specs.declared.colours.Colours.{Colours}
+use Rattle.pod_commands.specs.declared.colours.Colours.TheVariants.{Off, On}
 use Rattle.pod_commands.specs.declared.request.Streaming.{Streaming}
 use Rattle.pod_commands.specs.declared.request.Streaming.TheVariants.{Json, Rewrite, Print, Check}
+
+-- ---- Texts in colours
+
+pub joined : (text out others more : List ℕ) → IsColoured text out → IsColoured others more → IsColoured (text ++ others) (out ++ more)
+joined text out others more nothing k = k
+joined text out others more (further piece behind made colour h) k =
+    subst (λ z. IsColoured z ((piece_in colour piece ++ made) ++ more)) (sym (append_assoc piece behind others))
+    (subst (IsColoured (piece ++ (behind ++ others))) (sym (append_assoc (piece_in colour piece) made more))
+    (further piece (behind ++ others) (made ++ more) colour (joined behind made others more h k)))
+
+-- one behind another
+coloured_more : (colours : Colours) (text others out more : List ℕ) → InColours colours text out → InColours colours others more →
+    InColours colours (text ++ others) (out ++ more)
+coloured_more Off text others out more h k = ap (λ z. z ++ more) h ∙ ap (λ z. text ++ z) k
+coloured_more On text others out more h k = joined text out others more h k
+
+nothing_coloured : (colours : Colours) → InColours colours [] []
+nothing_coloured Off = refl
+nothing_coloured On = nothing
+
+-- ---- What is written
 
 pub nothing_written : (s : Streaming) (count place : ℕ) → WritesOf s count place [] [] 0
 nothing_written (Json style) count place = (([], nothing_printed style.layout, nothing_coloured style.colours), refl)

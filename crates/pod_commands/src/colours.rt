@@ -33,7 +33,7 @@ const LITERALS: [&[u8]; 3] = [b"true", b"false", b"null"];
 impl Colour {
     /// What begins it: blue, green or cyan.
     fn start(self) -> &'static [u8]
-        ensures { result.now ≡ start_of self.entry }
+        ensures { result.now ≡ start_of self }
     {
         match self {
             Colour::Name => b"\x1b[34m",
@@ -74,7 +74,7 @@ fn coloured(alloc: Global, text: &[u8]) -> Result<Vec<u8>, AllocError>
 
 /// Adds a piece of a text, in this colour if it has one.
 fn add_piece(out: &mut Vec<u8>, piece: &[u8], colour: Option<Colour>) -> Result<(), AllocError>
-    ensures { OnOk result (out.new.items ≡ out.old.items ++ piece_in colour.entry piece.now) }
+    ensures { OnOk result (out.new.items ≡ out.old.items ++ piece_in colour piece.now) }
 {
     let Some(colour) = colour else {
         return out.extend_from_slice(piece);

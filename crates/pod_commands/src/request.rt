@@ -225,7 +225,7 @@ fn options_of<'a>(given: &ArgMatches<'a>, is_terminal: bool) -> Option<Options<'
     let Some(nth) = number_of(given.get_str("nth")) else {
         return None;
     };
-    let to_terminal = is_terminal && given.get_str("output").is_none();
+    let to_terminal = goes_to_terminal(is_terminal, given.get_str("output"));
     let Some(colours) = colours_of(given.get_str("color"), to_terminal) else {
         return None;
     };
@@ -253,6 +253,16 @@ fn colours_of(when: Option<&str>, to_terminal: bool) -> Option<Colours>
         "always" => Some(Colours::On),
         "never" => Some(Colours::Off),
         _ => None,
+    }
+}
+
+/// Whether what is printed goes to a terminal: the standard output is one, and no file is written.
+fn goes_to_terminal(is_terminal: bool, output: Option<&str>) -> bool
+    ensures { result ≡ spec.goes_to_terminal is_terminal (option_map (λ s. s.now) output.entry) }
+{
+    match output {
+        Some(_) => false,
+        None => is_terminal,
     }
 }
 

@@ -1,5 +1,5 @@
 -- What is written of a block.
-use Rattle.std.proofs.Common.{◌≡◌, ◌≤◌, ◌∙◌, ◌++◌, [], ap, append-nil, arith, length, refl, subst, sym, take, List, ℕ, Option, Some, None}
+use Rattle.std.proofs.Common.{◌≡◌, [], append-nil, arith, refl, subst, sym, take, List, ℕ, Option, Some, None}
 use Rattle.std.specs.Io.KnownBytes.{Appends}
 use Rattle.std.specs.Prelude.{IfErr, IfOk, Result}
 use Rattle.spa_recordings.specs.Streaming.{BeginsBlock, IsNotMade, WritesMade}

@@ -3,14 +3,13 @@ use Rattle.std.proofs.Common.{◌≡◌, ◌≢◌, ◌⊎◌, ◌∙◌, ◌+�
 use Rattle.std.specs.Borrow.{Bor}
 use Rattle.std.specs.Io.KnownBytes.{Appends}
 use Rattle.spa_device.specs.Whole.{IsAllOf}
-use Rattle.spa_pod_commands.specs.Answers.{Writes}
 use Rattle.std.specs.Prelude.{IfErr, IfOk, Result, Ok, Err}
 use Rattle.spa_recordings.specs.declared.reading.Reading.{Reading}
 use Rattle.spa_recordings.specs.Streaming.{EndsAtPod, MakesFirst, Stops, Streams}
 use Rattle.spa_recordings.specs.declared.streaming.Stop.{Stop}
 use Rattle.spa_recordings.specs.declared.streaming.Stop.TheVariants as stop
-use Rattle.pod_commands.specs.Answers.{AreUnshown, Gets, Gives, IsPlain, IsPrinted, IsShown, IsShownIn, IsStreamed, IsUnread, IsUnwritten, IsWrittenAs, Outlet, outlet}
-use Rattle.pod_commands.specs.Inputs.{AreMade, IsKnown, IsOpened, StopsAt, content_of, left_behind}
+use Rattle.pod_commands.specs.Answers.{Gets, Gives, IsPlain, IsPrinted, IsShown, IsShownIn, IsStreamed, IsUnread, IsWrittenAs, Outlet, outlet}
+use Rattle.pod_commands.specs.Inputs.{AreMade, IsKnown, IsOpened, content_of, left_behind}
 use Rattle.pod_commands.specs.Sending.{IsSent}
 use Rattle.pod_commands.specs.StreamLaws.{nothing_written}
 use Rattle.pod_commands.specs.Streaming.{EndsIn, HasNoPod, IsBroken, IsBrokenAt, IsFailureOf, IsRefusedAs, IsWritten, MayRefuse, StreamsAs}

@@ -1,5 +1,5 @@
 -- Files that are read twice.
-use Rattle.std.proofs.Common.{◌≡◌, ◌≢◌, ◌⊎◌, ◌∙◌, ◌+◌, ◌∷◌, ◌++◌, [], ap, arith, inl, inr, refl, subst, sym, List, ℕ, Option, Some, None}
+use Rattle.std.proofs.Common.{◌≡◌, ◌∙◌, ◌∷◌, ◌++◌, [], ap, arith, inl, inr, refl, subst, sym, List, ℕ, Option, Some, None}
 use Rattle.std.specs.Prelude.{⊤, false, if◌then◌else◌}
 use Rattle.std.specs.Borrow.{Bor}
 use Rattle.std.specs.Str.{bytes_eq}
@@ -10,7 +10,7 @@ use Rattle.spa_format.proofs.Refused.{refused_behind_members}
 use Rattle.spa_recordings.specs.Streaming.{EndsAtPod}
 use Rattle.spa_recordings.specs.declared.reading.Reading.{Reading}
 use Rattle.spa_recordings.specs.declared.reading.Reading.TheVariants.{Exact}
-use Rattle.pod_commands.specs.Answers.{AreBrokenAgain, AreFiles, IsMadeBy, IsUnknown, IsWrittenAs, MayReadTwice, Outlet, outlet}
+use Rattle.pod_commands.specs.Answers.{AreFiles, IsMadeBy, IsUnknown, IsWrittenAs, MayReadTwice, Outlet, outlet}
 use Rattle.pod_commands.specs.Inputs.{AreMade, StopsAt, content_of, left_behind}
 use Rattle.pod_commands.specs.Making.{MakesAll}
 use Rattle.pod_commands.specs.Requests.{dash}

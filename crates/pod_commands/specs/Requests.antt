@@ -135,7 +135,8 @@ IsNoNumber given =
 abbrev pub IsNoTime : Option Text → Type 0
 IsNoTime given = IsSomeAnd given (λ when. (when ≢ codes "auto") × (when ≢ codes "always") × (when ≢ codes "never"))
 
--- an option has a value that is none of its own; of `--nth`, clap refuses such a value
+-- An option has a value that is none of its own. Of `--nth` clap refuses such a value before; that is tested, and no clause of clap's says it of the
+-- options of a word.
 abbrev pub AreNone : List Row → Type 0
 AreNone rows = IsNoNumber (first_of (codes "nth") rows) ⊎ IsNoTime (first_of (codes "color") rows)
 

@@ -1,5 +1,5 @@
 -- What is written of inputs as they come.
-use Rattle.std.specs.Prelude.{◌≡◌, ◌⊎◌, ⊤, ℕ, List, [], Option, None, take}
+use Rattle.std.specs.Prelude.{◌≡◌, ⊤, ℕ, List, [], Option, None, take}
 use Rattle.std.specs.Io.KnownBytes.{Appends}
 use Rattle.std.specs.Borrow.{Bor}
 use Rattle.spa_device.specs.Whole.{IsAllOf}
@@ -12,7 +12,6 @@ use Rattle.spa_recordings.specs.declared.reading.Reading.TheVariants.{Exact}
 use Rattle.spa_recordings.specs.declared.streaming.Stop.{Stop}
 use Rattle.spa_recordings.specs.declared.streaming.Stop.TheVariants as stop
 use Rattle.spa_refusals.specs.Refusals.{IsRefusalOf}
-use Rattle.spa_refusals.specs.declared.refusal.Refusal.{Refusal}
 use Rattle.pod_commands.specs.Colours.{PrintsIn, ShowsIn}
 use Rattle.pod_commands.specs.Inputs.{StopsAt}
 use Rattle.pod_commands.specs.declared.answer.Failure.{Failure}

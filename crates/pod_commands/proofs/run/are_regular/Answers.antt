@@ -1,4 +1,4 @@
-use Rattle.std.proofs.Common.{◌≡◌, ◌∙◌, ℕ, List, [], sym}
+use Rattle.std.proofs.Common.{◌∙◌, ℕ, List, [], sym}
 use Rattle.std.specs.Borrow.{Bor}
 use Rattle.pod_commands.proofs.Made.{next_left, none_left}
 use Rattle.pod_commands.proofs.Twice.{all_files, one_file_more}

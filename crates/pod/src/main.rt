@@ -6,7 +6,7 @@ use pod_commands::files::SystemFiles;
 use pod_commands::run::run;
 use std::alloc::AllocError;
 use std::env;
-use std::io::{self, ErrorKind};
+use std::io::{self, ErrorKind, IsTerminal};
 use std::process::ExitCode;
 
 /// Hands the words behind the program's name, the standard streams and the system's files to `run`, writes the line of its answer, and
@@ -24,12 +24,15 @@ fn status(rt: &HostRuntime) -> Option<u8> {
         .collect(rt.alloc());
     let words = words.ok()?;
     let mut files = SystemFiles { rt };
+    let output = rt.stdout();
+    let is_terminal = output.is_terminal();
     let (answer, mut output) = run(
         rt.alloc(),
         words.as_slice(),
         &mut rt.stdin(),
         &mut files,
-        rt.stdout(),
+        output,
+        is_terminal,
     );
     let _ = tell(&mut output, &mut rt.stderr(), &answer);
     Some(answer.status())

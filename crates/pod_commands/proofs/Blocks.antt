@@ -1,17 +1,26 @@
 -- What is written of a block.
-use Rattle.std.proofs.Common.{◌≡◌, ◌≤◌, ◌∙◌, ◌++◌, [], ap, append-nil, arith, length, refl, subst, sym, take, List, ℕ, Option, Some, None}
+use Rattle.std.proofs.Common.{◌≡◌, [], append-nil, arith, refl, subst, sym, take, List, ℕ, Option, Some, None}
 use Rattle.std.specs.Io.KnownBytes.{Appends}
 use Rattle.std.specs.Prelude.{IfErr, IfOk, Result}
 use Rattle.spa_recordings.specs.Streaming.{BeginsBlock, IsNotMade, WritesMade}
+use Rattle.spa_format.specs.Pod.{AreMembers}
+use Rattle.spa_format.specs.Tree.{Trees}
 use Rattle.spa_recordings.specs.declared.streaming.NotMade.{NotMade}
+use Rattle.spa_recordings.specs.declared.streaming.NotMade.TheVariants as not_made
 use Rattle.spa_text_commands.specs.Answers.{ShowsAll}
 use Rattle.spa_text_commands.specs.Texts.{Prints}
-use Rattle.spa_text_commands.specs.declared.printing.Layout.{Layout}
-use Rattle.spa_text_commands.specs.declared.selection.Printout.{Printout}
 use Rattle.spa_text_commands.specs.declared.showing.Printed.{Printed}
+use Rattle.pod_commands.specs.Colours.{InColours}
 use Rattle.pod_commands.specs.Streaming.{MayRefuse, WritesOf}
+use Rattle.pod_commands.specs.declared.request.Printing.{Printing}
+use Rattle.pod_commands.specs.declared.request.Style.{Style}
 use Rattle.pod_commands.specs.declared.request.Streaming.{Streaming}
-use Rattle.pod_commands.specs.declared.request.Streaming.TheVariants.{Json, Print}
+use Rattle.pod_commands.specs.declared.request.Streaming.TheVariants.{Json, Print, Check}
+use Rattle.pod_commands.proofs.Running.{keeps_itself}
+
+pub appends_nothing : (a : Option (List ℕ)) → Appends a a []
+appends_nothing None = tt
+appends_nothing (Some a) = sym (append-nil a)
 
 -- all of a block is a first part of it
 begun : (Makes : List ℕ → List ℕ → ℕ → Type 0) (block out : List ℕ) (refused : ℕ) (old new : Option (List ℕ)) → Makes block out refused →
@@ -19,25 +28,25 @@ begun : (Makes : List ℕ → List ℕ → ℕ → Type 0) (block out : List ℕ
 begun Makes block out refused old new m w =
     ([], out, record { first = block; parts = sym (append-nil block); refused = refused; made = m }, w.0, w.1)
 
-pub texts_written : (layout : Layout) (count place : ℕ) (block out : List ℕ) (old new : Option (List ℕ)) → Prints layout block out →
-    Appends old new out → WritesMade (WritesOf (Json layout) count place) block old new 0
-texts_written layout count place block out old new p w = record { out = out; made = (p, refl); written = w; few = omega arith }
+pub texts_written : (style : Style) (count place : ℕ) (block text out : List ℕ) (old new : Option (List ℕ)) → Prints style.layout block text →
+    InColours style.colours text out → Appends old new out → WritesMade (WritesOf (Json style) count place) block old new 0
+texts_written style count place block text out old new p c w = record { out = out; made = ((text, p, c), refl); written = w; few = omega arith }
 
-pub texts_begun : (layout : Layout) (count place : ℕ) (block out : List ℕ) (old new : Option (List ℕ)) → Prints layout block out →
-    ((n : ℕ) × Appends old new (take n out)) → BeginsBlock (WritesOf (Json layout) count place) block old new
-texts_begun layout count place block out old new p w = begun (WritesOf (Json layout) count place) block out 0 old new (p, refl) w
+pub texts_begun : (style : Style) (count place : ℕ) (block text out : List ℕ) (old new : Option (List ℕ)) → Prints style.layout block text →
+    InColours style.colours text out → ((n : ℕ) × Appends old new (take n out)) → BeginsBlock (WritesOf (Json style) count place) block old new
+texts_begun style count place block text out old new p c w = begun (WritesOf (Json style) count place) block out 0 old new ((text, p, c), refl) w
 
-pub printed_written : (printout : Printout) (count place : ℕ) (block : List ℕ) (printed : Printed) (old new : Option (List ℕ)) →
-    ShowsAll printout count place block printed → Appends old new printed.bytes.items →
-    WritesMade (WritesOf (Print printout) count place) block old new printed.refused
-printed_written printout count place block printed old new s w =
-    record { out = printed.bytes.items; made = (s.whole, s.prints); written = w; few = s.few }
+pub printed_written : (printing : Printing) (count place : ℕ) (block out : List ℕ) (printed : Printed) (old new : Option (List ℕ)) →
+    ShowsAll printing.printout count place block printed → InColours printing.colours printed.bytes.items out → Appends old new out →
+    WritesMade (WritesOf (Print printing) count place) block old new printed.refused
+printed_written printing count place block out printed old new s c w =
+    record { out = out; made = (printed.bytes.items, (s.whole, s.prints), c); written = w; few = s.few }
 
-pub printed_begun : (printout : Printout) (count place : ℕ) (block : List ℕ) (printed : Printed) (old new : Option (List ℕ)) →
-    ShowsAll printout count place block printed → ((n : ℕ) × Appends old new (take n printed.bytes.items)) →
-    BeginsBlock (WritesOf (Print printout) count place) block old new
-printed_begun printout count place block printed old new s w =
-    begun (WritesOf (Print printout) count place) block printed.bytes.items printed.refused old new (s.whole, s.prints) w
+pub printed_begun : (printing : Printing) (count place : ℕ) (block out : List ℕ) (printed : Printed) (old new : Option (List ℕ)) →
+    ShowsAll printing.printout count place block printed → InColours printing.colours printed.bytes.items out →
+    ((n : ℕ) × Appends old new (take n out)) → BeginsBlock (WritesOf (Print printing) count place) block old new
+printed_begun printing count place block out printed old new s c w =
+    begun (WritesOf (Print printing) count place) block out printed.refused old new (printed.bytes.items, (s.whole, s.prints), c) w
 
 -- what is written by another name
 pub written_by : (s t : Streaming) (count place : ℕ) (block : List ℕ) (old new : Option (List ℕ)) (r : Result ℕ NotMade) → s ≡ t →
@@ -49,3 +58,15 @@ pub unmade_by : (s t : Streaming) (count place : ℕ) (block after : List ℕ) (
     IfErr r (IsNotMade (MayRefuse s) (WritesOf s count place) block after old new)
 unmade_by s t count place block after old new r e h =
     subst (λ z. IfErr r (IsNotMade (MayRefuse z) (WritesOf z count place) block after old new)) (sym e) h
+
+-- nothing is written of a block of pods
+pub checked : (s : Streaming) (count place : ℕ) (block : List ℕ) (known : Option (List ℕ)) → s ≡ Check → ((vs : Trees) × AreMembers vs block) →
+    WritesMade (WritesOf s count place) block known known 0
+checked s count place block known e pods =
+    subst (λ z. WritesMade (WritesOf z count place) block known known 0) (sym e)
+    record { out = []; made = (refl, pods, refl); written = appends_nothing known; few = omega arith }
+
+pub unchecked : (s : Streaming) (count place : ℕ) (block : List ℕ) (known : Option (List ℕ)) → s ≡ Check →
+    IsNotMade (MayRefuse s) (WritesOf s count place) block block known known not_made.Refused
+unchecked s count place block known e =
+    subst (λ z. IsNotMade (MayRefuse z) (WritesOf z count place) block block known known not_made.Refused) (sym e) (tt, refl, keeps_itself known)

@@ -1,4 +1,5 @@
 mod Blocks
+mod Coloured
 mod Known
 mod Made
 mod Requested
@@ -6,4 +7,5 @@ mod Paired
 mod Running
 mod Streamed
 mod Told
+mod Twice
 mod Worked

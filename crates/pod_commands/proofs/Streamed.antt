@@ -3,18 +3,17 @@ use Rattle.std.proofs.Common.{◌≡◌, ◌≢◌, ◌⊎◌, ◌∙◌, ◌+�
 use Rattle.std.specs.Borrow.{Bor}
 use Rattle.std.specs.Io.KnownBytes.{Appends}
 use Rattle.spa_device.specs.Whole.{IsAllOf}
-use Rattle.spa_pod_commands.specs.Answers.{Writes}
 use Rattle.std.specs.Prelude.{IfErr, IfOk, Result, Ok, Err}
 use Rattle.spa_recordings.specs.declared.reading.Reading.{Reading}
 use Rattle.spa_recordings.specs.Streaming.{EndsAtPod, MakesFirst, Stops, Streams}
 use Rattle.spa_recordings.specs.declared.streaming.Stop.{Stop}
 use Rattle.spa_recordings.specs.declared.streaming.Stop.TheVariants as stop
-use Rattle.pod_commands.specs.Answers.{AreUnshown, Gets, Gives, IsPlain, IsPrinted, IsShown, IsShownIn, IsStreamed, IsUnread, IsUnwritten, IsWrittenAs, Outlet, outlet}
-use Rattle.pod_commands.specs.Inputs.{AreMade, IsKnown, IsOpened, StopsAt, content_of, left_behind}
+use Rattle.pod_commands.specs.Answers.{Gets, Gives, IsPlain, IsPrinted, IsShown, IsShownIn, IsStreamed, IsUnread, IsWrittenAs, Outlet, outlet}
+use Rattle.pod_commands.specs.Inputs.{AreMade, IsKnown, IsOpened, content_of, left_behind}
 use Rattle.pod_commands.specs.Sending.{IsSent}
 use Rattle.pod_commands.specs.StreamLaws.{nothing_written}
 use Rattle.pod_commands.specs.Streaming.{EndsIn, HasNoPod, IsBroken, IsBrokenAt, IsFailureOf, IsRefusedAs, IsWritten, MayRefuse, StreamsAs}
-use Rattle.spa_text_commands.specs.declared.selection.Printout.{Printout}
+use Rattle.pod_commands.specs.declared.request.Printing.{Printing}
 use Rattle.pod_commands.specs.declared.answer.Failure.{Failure}
 use Rattle.pod_commands.specs.declared.answer.Failure.TheVariants.{Pods, Texts, Pair, Lists, OutOfMemory, Unread, Unwritten}
 use Rattle.pod_commands.specs.declared.answer.Answer.{Answer}
@@ -24,6 +23,7 @@ use Rattle.pod_commands.specs.declared.request.Streaming.{Streaming}
 use Rattle.pod_commands.specs.declared.request.Streaming.TheVariants as streaming
 use Rattle.pod_commands.proofs.Made.{MadeSoFar}
 use Rattle.pod_commands.proofs.Made as step
+use Rattle.pod_commands.proofs.Blocks.{appends_nothing}
 use Rattle.pod_commands.proofs.Running.{untouched}
 
 pub appends_more : (a b c : Option (List ℕ)) (xs ys : List ℕ) → Appends a b xs → Appends b c ys → Appends a c (xs ++ ys)
@@ -31,10 +31,6 @@ appends_more None b c xs ys k l = tt
 appends_more (Some a) None c xs ys k l = absurd k
 appends_more (Some a) (Some b) None xs ys k l = absurd l
 appends_more (Some a) (Some b) (Some c) xs ys k l = l ∙ ap (λ zs. zs ++ ys) k ∙ append_assoc a xs ys
-
-pub appends_nothing : (a : Option (List ℕ)) → Appends a a []
-appends_nothing None = tt
-appends_nothing (Some a) = sym (append-nil a)
 
 -- how far the work is: these bytes are written, and they are what is made of the inputs so far
 pub record StreamedSoFar (s : Streaming) (remaining : Option (List ℕ)) (holds : List ℕ → Option (List ℕ)) (names : List (Bor (List ℕ)))
@@ -216,36 +212,36 @@ streamed s reading fate target answer remaining names old new before after p w =
 -- ---- Lines that go to a file
 
 -- the lines of all went to the file, or that couldn't be written
-pub shown_in : (printout : Printout) (remaining : Option (List ℕ)) (names : List (Bor (List ℕ))) (o : Outlet) (lines out : List ℕ) (refused : ℕ) (given answer : Answer) →
+pub shown_in : (printing : Printing) (remaining : Option (List ℕ)) (names : List (Bor (List ℕ))) (o : Outlet) (lines out : List ℕ) (refused : ℕ) (given answer : Answer) →
     (((refused ≡ 0) × (given ≡ Done)) ⊎ ((refused ≢ 0) × (given ≡ Shown refused))) →
-    AreMade (StreamsAs (streaming.Print printout)) remaining o.before names out refused → Appends (Some []) (Some lines) out → IsSent lines given answer o →
-    IsShownIn printout answer remaining names o
-shown_in printout remaining names o lines out refused given answer (inl e) made is (inl k) =
-    subst (λ a. IsShownIn printout a remaining names o) (sym (k.0 ∙ e.1))
-    (out, subst (AreMade (StreamsAs (streaming.Print printout)) remaining o.before names out) e.0 made, subst (Gets o.target o) is k.1)
-shown_in printout remaining names o lines out refused given answer (inr e) made is (inl k) =
-    subst (λ a. IsShownIn printout a remaining names o) (sym (k.0 ∙ e.1)) (e.0, (out, made, subst (Gets o.target o) is k.1))
-shown_in printout remaining names o lines out refused given answer e made is (inr k) =
-    subst (λ a. IsShownIn printout a remaining names o) (sym k.1) (inr (k.2, (lines, (refused, subst (λ z. AreMade (StreamsAs (streaming.Print printout)) remaining o.before names z refused) (sym is) made), k.3)))
+    AreMade (StreamsAs (streaming.Print printing)) remaining o.before names out refused → Appends (Some []) (Some lines) out → IsSent lines given answer o →
+    IsShownIn printing answer remaining names o
+shown_in printing remaining names o lines out refused given answer (inl e) made is (inl k) =
+    subst (λ a. IsShownIn printing a remaining names o) (sym (k.0 ∙ e.1))
+    (out, subst (AreMade (StreamsAs (streaming.Print printing)) remaining o.before names out) e.0 made, subst (Gets o.target o) is k.1)
+shown_in printing remaining names o lines out refused given answer (inr e) made is (inl k) =
+    subst (λ a. IsShownIn printing a remaining names o) (sym (k.0 ∙ e.1)) (e.0, (out, made, subst (Gets o.target o) is k.1))
+shown_in printing remaining names o lines out refused given answer e made is (inr k) =
+    subst (λ a. IsShownIn printing a remaining names o) (sym k.1) (inr (k.2, (lines, (refused, subst (λ z. AreMade (StreamsAs (streaming.Print printing)) remaining o.before names z refused) (sym is) made), k.3)))
 
 -- not all inputs are shown
-pub unshown : (printout : Printout) (target : Option (Bor (List ℕ))) (remaining : Option (List ℕ)) (holds : List ℕ → Option (List ℕ)) (names : List (Bor (List ℕ)))
-    (old first last : Option (List ℕ)) (why : Failure) → IsBroken (streaming.Print printout) remaining holds names first last why →
-    IsShownIn printout (Refused why) remaining names (outlet target old old holds holds)
-unshown printout target remaining holds names old first last why b = inl (inr (b.0, b.1), untouched target old holds)
+pub unshown : (printing : Printing) (target : Option (Bor (List ℕ))) (remaining : Option (List ℕ)) (holds : List ℕ → Option (List ℕ)) (names : List (Bor (List ℕ)))
+    (old first last : Option (List ℕ)) (why : Failure) → IsBroken (streaming.Print printing) remaining holds names first last why →
+    IsShownIn printing (Refused why) remaining names (outlet target old old holds holds)
+unshown printing target remaining holds names old first last why b = inl (inr (b.0, b.1), untouched target old holds)
 
-pub unshown_lines : (printout : Printout) (target : Option (Bor (List ℕ))) (remaining : Option (List ℕ)) (holds : List ℕ → Option (List ℕ)) (names : List (Bor (List ℕ)))
-    (old : Option (List ℕ)) → IsShownIn printout (Refused OutOfMemory) remaining names (outlet target old old holds holds)
-unshown_lines printout target remaining holds names old = inl (inl refl, untouched target old holds)
+pub unshown_lines : (printing : Printing) (target : Option (Bor (List ℕ))) (remaining : Option (List ℕ)) (holds : List ℕ → Option (List ℕ)) (names : List (Bor (List ℕ)))
+    (old : Option (List ℕ)) → IsShownIn printing (Refused OutOfMemory) remaining names (outlet target old old holds holds)
+unshown_lines printing target remaining holds names old = inl (inl refl, untouched target old holds)
 
 -- with other options it is misuse, and without them it is done
-pub not_printed : (printout : Printout) (reading : Reading) (fate : Fate) (target : Option (Bor (List ℕ))) (remaining : Option (List ℕ))
+pub not_printed : (printing : Printing) (reading : Reading) (fate : Fate) (target : Option (Bor (List ℕ))) (remaining : Option (List ℕ))
     (holds : List ℕ → Option (List ℕ)) (names : List (Bor (List ℕ))) (old : Option (List ℕ)) → ¬ (IsPlain reading fate None) →
-    IsPrinted printout reading fate Misused remaining names (outlet target old old holds holds)
-not_printed printout reading fate target remaining holds names old n = inr (n, (refl, untouched target old holds))
+    IsPrinted printing reading fate Misused remaining names (outlet target old old holds holds)
+not_printed printing reading fate target remaining holds names old n = inr (n, (refl, untouched target old holds))
 
-pub printed : (printout : Printout) (reading : Reading) (fate : Fate) (target : Option (Bor (List ℕ))) (answer : Answer) (remaining : Option (List ℕ))
+pub printed : (printing : Printing) (reading : Reading) (fate : Fate) (target : Option (Bor (List ℕ))) (answer : Answer) (remaining : Option (List ℕ))
     (names : List (Bor (List ℕ))) (old new : Option (List ℕ)) (before after : List ℕ → Option (List ℕ)) → IsPlain reading fate None →
-    IsShown printout target answer remaining names (outlet target old new before after) →
-    IsPrinted printout reading fate answer remaining names (outlet target old new before after)
-printed printout reading fate target answer remaining names old new before after p w = inl (p, w)
+    IsShown printing target answer remaining names (outlet target old new before after) →
+    IsPrinted printing reading fate answer remaining names (outlet target old new before after)
+printed printing reading fate target answer remaining names old new before after p w = inl (p, w)

@@ -3,7 +3,8 @@ use Rattle.std.proofs.Common.{◌≡◌, ◌∙◌, ◌∷◌, ◌++◌, [], app
 use Rattle.std.specs.Io.KnownBytes.{Appends}
 use Rattle.spa_refusals.specs.declared.several.NamedRefusal.{NamedRefusal}
 use Rattle.pod_commands.specs.Answers.{line_of_pod, lines_of_pods}
-use Rattle.pod_commands.proofs.Streamed.{appends_more, appends_nothing}
+use Rattle.pod_commands.proofs.Blocks.{appends_nothing}
+use Rattle.pod_commands.proofs.Streamed.{appends_more}
 
 -- lines were written, which with those of the pods that are left are the lines of all
 pub record ToldSoFar (old new : Option (List ℕ)) (pods left : List NamedRefusal) : Type 0 where

@@ -1,5 +1,5 @@
 -- What is made of inputs whose refused pods are left out or kept, name by name.
-use Rattle.std.proofs.Common.{◌≡◌, ◌∙◌, ◌∷◌, ◌++◌, ◌+◌, ◌≤◌, [], append_assoc, append-nil, ap, arith, drop, inl, length, length-append, refl, sym, subst, List, ℕ, Option}
+use Rattle.std.proofs.Common.{◌≡◌, ◌∙◌, ◌∷◌, ◌++◌, ◌+◌, [], append_assoc, append-nil, ap, arith, drop, inl, length, length-append, refl, sym, subst, List, ℕ, Option}
 use Rattle.std.proofs.lemmas.List.{drop-drop, drop_at}
 use Rattle.spa_format.specs.Front.{front_of, rest_of}
 use Rattle.spa_format.proofs.Fronts.{front_and_rest}
@@ -12,7 +12,7 @@ use Rattle.spa_recordings.specs.Reading.{IsNoPod}
 use Rattle.spa_recordings.specs.declared.reading.Reading.{Reading}
 use Rattle.spa_recordings.specs.declared.reading.Reading.TheVariants.{Exact, Lenient}
 use Rattle.spa_refusals.specs.Refusals.{IsNothing}
-use Rattle.spa_refusals.specs.Several.{AreRefused, AreSaid}
+use Rattle.spa_refusals.specs.Several.{AreRefused}
 use Rattle.spa_refusals.specs.declared.several.NamedRefusal.{NamedRefusal}
 use Rattle.pod_commands.specs.Inputs.{IsKnown, content_of, left_behind}
 use Rattle.pod_commands.specs.Making.{Makes}

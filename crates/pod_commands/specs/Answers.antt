@@ -1,5 +1,5 @@
 -- What a run writes, and what it says of that: docs/PROVED.md, "The programs".
-use Rattle.std.specs.Prelude.{◌≡◌, ◌≢◌, ◌⊎◌, ⊤, ℕ, codes, List, [], ◌∷◌, ◌++◌, Option, Some, None, Ok, if◌then◌else◌, take}
+use Rattle.std.specs.Prelude.{◌≡◌, ◌≢◌, ◌⊎◌, ⊤, ℕ, Bool, false, codes, List, [], ◌∷◌, ◌++◌, Option, Some, None, Ok, if◌then◌else◌, take}
 use Rattle.std.specs.Borrow.{Bor}
 use Rattle.std.specs.Io.KnownBytes.{Appends, Keeps}
 use Rattle.std.specs.Fmt.{decimal}
@@ -19,7 +19,6 @@ use Rattle.spa_refusals.specs.Refusals.{refusal_text}
 use Rattle.spa_refusals.specs.declared.several.NamedRefusal.{NamedRefusal}
 use Rattle.spa_text_commands.specs.Answers as text
 use Rattle.spa_text_commands.specs.Differences.{Differ, SayTheSame}
-use Rattle.spa_text_commands.specs.declared.selection.Printout.{Printout}
 use Rattle.spa_meet_commands.specs.Answers as meet
 use Rattle.spa_meet_commands.specs.Lists.{AreListsRefused, ListsGive}
 use Rattle.spa_meet_commands.specs.declared.answer.Failure.{Failure as MeetFailure}
@@ -37,6 +36,8 @@ use Rattle.pod_commands.specs.declared.answer.Failure.TheVariants.{Pods, Texts, 
 use Rattle.pod_commands.specs.declared.request.Fate.{Fate}
 use Rattle.pod_commands.specs.declared.request.Fate.TheVariants.{Stops, GoesOn}
 use Rattle.pod_commands.specs.declared.request.Making.{Making}
+use Rattle.pod_commands.specs.declared.request.Making.TheVariants.{Rewrite}
+use Rattle.pod_commands.specs.declared.request.Printing.{Printing}
 use Rattle.pod_commands.specs.declared.request.Request.{Request}
 use Rattle.pod_commands.specs.declared.request.Streaming.{Streaming}
 use Rattle.pod_commands.specs.declared.request.Streaming.TheVariants as streaming
@@ -166,6 +167,44 @@ IsMadeWhole reading making answer remaining names o =
     OnAnswer answer (Gives (λ out. AreMade (MakesAll reading making) remaining o.before names out 0) o) ⊥
     (Refuses (λ out. AreMade (MakesAll reading making) remaining o.before names out 0) (AreUnmade reading making remaining o.before names) o)
 
+-- ---- Files that are read twice
+
+-- each name is a file's
+abbrev pub AreFiles : List (Bor (List ℕ)) → Type 0
+AreFiles [] = ⊤
+AreFiles (n ∷ ns) = (bytes_eq n.now dash ≡ false) × AreFiles ns
+
+-- where files alone are rewritten, exactly and to the standard output, they may be read twice
+pub record MayReadTwice (reading : Reading) (making : Making) (names : List (Bor (List ℕ))) (target : Option (Bor (List ℕ))) : Type 0 where
+  pub exact : reading ≡ Exact
+  pub rewrite : making ≡ Rewrite
+  pub to_output : target ≡ None
+  pub files : AreFiles names
+
+-- in the first pass one of them isn't read, or isn't pods
+abbrev pub AreUnaccepted : (remaining : Option (List ℕ)) → (holds : List ℕ → Option (List ℕ)) → List (Bor (List ℕ)) → Failure → Type 0
+AreUnaccepted remaining holds names why =
+    (out : List ℕ) × StopsAt (StreamsAs streaming.Check) (EndsIn streaming.Check) remaining holds names out why
+
+-- pods are refused only of a file whose bytes aren't known
+abbrev pub IsUnknown : (holds : List ℕ → Option (List ℕ)) → Failure → Type 0
+IsUnknown holds (Pods n why) = holds n.now ≡ None
+IsUnknown holds _ = ⊤
+
+-- All of them are accepted, and the second pass ends in one that can't be read or written again, or has other bytes by then; what was made till it
+-- ended was written.
+pub record AreBrokenAgain (remaining : Option (List ℕ)) (names : List (Bor (List ℕ))) (o : Outlet) (why : Failure) : Type 0 where
+  pub accepted : AreMade (StreamsAs streaming.Check) remaining o.before names [] 0
+  pub broken : IsBroken streaming.Rewrite remaining o.before names o.old o.new why
+  pub changed : IsUnknown o.before why
+  pub no_file : KeepsFiles o
+
+-- what is said where they aren't rewritten: in the first pass nothing is written
+abbrev pub IsRefusedInPasses : Answer → (remaining : Option (List ℕ)) → List (Bor (List ℕ)) → Outlet → Type 0
+IsRefusedInPasses (Refused why) remaining names o =
+    (AreUnaccepted remaining o.before names why × IsUntouched o) ⊎ AreBrokenAgain remaining names o why
+IsRefusedInPasses _ remaining names o = ⊥
+
 -- what it says of work that goes on behind refused pods: these are some, or there are none
 abbrev pub IsMadeInPart : Reading → OfRefused → Making → Answer → (remaining : Option (List ℕ)) → List (Bor (List ℕ)) → Outlet → Type 0
 IsMadeInPart reading refused making Done remaining names o = Gives (λ out. AreWorked reading refused making remaining o.before names out []) o
@@ -176,7 +215,8 @@ IsMadeInPart reading refused making (Refused why) remaining names o =
 IsMadeInPart reading refused making _ remaining names o = ⊥
 
 abbrev pub IsMadeBy : Reading → Fate → Making → Answer → (remaining : Option (List ℕ)) → List (Bor (List ℕ)) → Outlet → Type 0
-IsMadeBy reading Stops making answer remaining names o = IsMadeWhole reading making answer remaining names o
+IsMadeBy reading Stops making answer remaining names o =
+    IsMadeWhole reading making answer remaining names o ⊎ (MayReadTwice reading making names o.target × IsRefusedInPasses answer remaining names o)
 IsMadeBy reading (GoesOn refused) making answer remaining names o = IsMadeInPart reading refused making answer remaining names o
 
 -- what it says of work that is written as inputs come: all was written, of which no pod is refused, or so many of those that are shown; or what was
@@ -195,34 +235,34 @@ IsStreamed streaming reading fate answer remaining names o =
     ⊎ (¬ (IsPlain reading fate o.target) × IsMisuse answer o)
 
 -- why not all inputs are printed in a file: the work stops at one of them, or memory for what is printed ran out
-abbrev pub AreUnshown : Printout → (remaining : Option (List ℕ)) → (holds : List ℕ → Option (List ℕ)) → List (Bor (List ℕ)) → Failure → Type 0
-AreUnshown printout remaining holds names why =
+abbrev pub AreUnshown : Printing → (remaining : Option (List ℕ)) → (holds : List ℕ → Option (List ℕ)) → List (Bor (List ℕ)) → Failure → Type 0
+AreUnshown printing remaining holds names why =
     (why ≡ OutOfMemory)
-    ⊎ ((out : List ℕ) × StopsAt (StreamsAs (streaming.Print printout)) (EndsIn (streaming.Print printout)) remaining holds names out why)
+    ⊎ ((out : List ℕ) × StopsAt (StreamsAs (streaming.Print printing)) (EndsIn (streaming.Print printing)) remaining holds names out why)
 
 -- what it says of inputs that are printed in a file
-abbrev pub IsShownIn : Printout → Answer → (remaining : Option (List ℕ)) → List (Bor (List ℕ)) → Outlet → Type 0
-IsShownIn printout Done remaining names o = Gives (λ out. AreMade (StreamsAs (streaming.Print printout)) remaining o.before names out 0) o
-IsShownIn printout (Shown refused) remaining names o =
-    (refused ≢ 0) × Gives (λ out. AreMade (StreamsAs (streaming.Print printout)) remaining o.before names out refused) o
-IsShownIn printout (Refused why) remaining names o =
-    Refuses (λ out. (refused : ℕ) × AreMade (StreamsAs (streaming.Print printout)) remaining o.before names out refused)
-    (AreUnshown printout remaining o.before names) o why
-IsShownIn printout _ remaining names o = ⊥
+abbrev pub IsShownIn : Printing → Answer → (remaining : Option (List ℕ)) → List (Bor (List ℕ)) → Outlet → Type 0
+IsShownIn printing Done remaining names o = Gives (λ out. AreMade (StreamsAs (streaming.Print printing)) remaining o.before names out 0) o
+IsShownIn printing (Shown refused) remaining names o =
+    (refused ≢ 0) × Gives (λ out. AreMade (StreamsAs (streaming.Print printing)) remaining o.before names out refused) o
+IsShownIn printing (Refused why) remaining names o =
+    Refuses (λ out. (refused : ℕ) × AreMade (StreamsAs (streaming.Print printing)) remaining o.before names out refused)
+    (AreUnshown printing remaining o.before names) o why
+IsShownIn printing _ remaining names o = ⊥
 
 -- inputs are printed as they come, or where a file is written, all of them in it
-abbrev pub IsShown : Printout → Option (Bor (List ℕ)) → Answer → (remaining : Option (List ℕ)) → List (Bor (List ℕ)) → Outlet → Type 0
-IsShown printout None answer remaining names o = IsWrittenAs (streaming.Print printout) answer remaining names o
-IsShown printout (Some name) answer remaining names o = IsShownIn printout answer remaining names o
+abbrev pub IsShown : Printing → Option (Bor (List ℕ)) → Answer → (remaining : Option (List ℕ)) → List (Bor (List ℕ)) → Outlet → Type 0
+IsShown printing None answer remaining names o = IsWrittenAs (streaming.Print printing) answer remaining names o
+IsShown printing (Some name) answer remaining names o = IsShownIn printing answer remaining names o
 
 -- what it says of that where other options may be given: with these it is misuse
-abbrev pub IsPrinted : Printout → Reading → Fate → Answer → (remaining : Option (List ℕ)) → List (Bor (List ℕ)) → Outlet → Type 0
-IsPrinted printout reading fate answer remaining names o =
-    (IsPlain reading fate None × IsShown printout o.target answer remaining names o) ⊎ (¬ (IsPlain reading fate None) × IsMisuse answer o)
+abbrev pub IsPrinted : Printing → Reading → Fate → Answer → (remaining : Option (List ℕ)) → List (Bor (List ℕ)) → Outlet → Type 0
+IsPrinted printing reading fate answer remaining names o =
+    (IsPlain reading fate None × IsShown printing o.target answer remaining names o) ⊎ (¬ (IsPlain reading fate None) × IsMisuse answer o)
 
 -- what it says of a word's work on inputs of these names, where this is left of the standard input
 abbrev pub IsDone : Word → Answer → (remaining : Option (List ℕ)) → List (Bor (List ℕ)) → Outlet → Type 0
-IsDone (Print printout manner) answer remaining names o = IsPrinted printout manner.reading manner.fate answer remaining names o
+IsDone (Print printing manner) answer remaining names o = IsPrinted printing manner.reading manner.fate answer remaining names o
 IsDone (Make making manner) answer remaining names o = IsMadeBy manner.reading manner.fate making answer remaining names o
 IsDone (Stream streaming manner) answer remaining names o = IsStreamed streaming manner.reading manner.fate answer remaining names o
 IsDone Diff answer remaining names o = IsCompared answer remaining names o
@@ -230,16 +270,16 @@ IsDone (Agree work) answer remaining names o = IsAgreed work answer remaining na
 
 -- What an answer says of a run: what the words ask for was done, or refused; clap refuses them for one of the causes that stand, help
 -- and the version among them; they name no word; or memory ran out.
-pub data IsAnswer (words : List (Bor (List ℕ))) (remaining old new : Option (List ℕ)) (before after : List ℕ → Option (List ℕ)) : Answer → Type 0 where
-  asked : (request : Request) (answer : Answer) → Asks words request →
+pub data IsAnswer (words : List (Bor (List ℕ))) (is_terminal : Bool) (remaining old new : Option (List ℕ)) (before after : List ℕ → Option (List ℕ)) : Answer → Type 0 where
+  asked : (request : Request) (answer : Answer) → Asks words is_terminal request →
       IsDone request.word answer remaining request.names.items (outlet request.target old new before after) →
-      IsAnswer words remaining old new before after answer
+      IsAnswer words is_terminal remaining old new before after answer
   said : (error : Error) → IsAmong (kind_of error) (fault_of program (texts words)) → Keeps old new → ((name : List ℕ) → after name ≡ before name) →
-      IsAnswer words remaining old new before after (Said error)
+      IsAnswer words is_terminal remaining old new before after (Said error)
   nothing : AsksNothing words → Keeps old new → ((name : List ℕ) → after name ≡ before name) →
-      IsAnswer words remaining old new before after Misused
+      IsAnswer words is_terminal remaining old new before after Misused
   no_memory : Keeps old new → ((name : List ℕ) → after name ≡ before name) →
-      IsAnswer words remaining old new before after (Refused OutOfMemory)
+      IsAnswer words is_terminal remaining old new before after (Refused OutOfMemory)
 
 -- ---- What is said
 

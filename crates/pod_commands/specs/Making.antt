@@ -7,8 +7,9 @@ use Rattle.spa_recordings.specs.GoingOn.{MakesOf}
 use Rattle.spa_recordings.specs.declared.reading.Reading.{Reading}
 use Rattle.spa_recordings.specs.declared.reading.Reading.TheVariants.{Exact, Lenient}
 use Rattle.spa_refusals.specs.Refusals.{IsFirstRefusal}
-use Rattle.spa_text_commands.specs.Texts.{Prints, Reads, RefusesTexts}
+use Rattle.spa_text_commands.specs.Texts.{Reads, RefusesTexts}
 use Rattle.spa_text_read.specs.declared.fitting.Strictness.{Strictness}
+use Rattle.pod_commands.specs.Colours.{PrintsIn}
 use Rattle.pod_commands.specs.declared.request.Making.{Making}
 use Rattle.pod_commands.specs.declared.request.Making.TheVariants.{Json, Read, Rewrite, Fixate, Check}
 use Rattle.pod_commands.specs.declared.answer.Failure.{Failure}
@@ -16,7 +17,7 @@ use Rattle.pod_commands.specs.declared.answer.Failure.TheVariants.{Pods, Texts, 
 
 -- what is made of an input; of one that is checked nothing
 abbrev pub Makes : Making → (input out : List ℕ) → Type 0
-Makes (Json layout) input out = Prints layout input out
+Makes (Json style) input out = PrintsIn style input out
 Makes (Read strictness) input out = Reads strictness input out
 Makes Rewrite input out = Rewrites input out
 Makes Fixate input out = Fixates input out
@@ -39,7 +40,7 @@ AreNoTexts strictness name input _ = ⊥
 
 -- what an input of this name is refused for
 abbrev pub RefusesIn : Making → (name input : List ℕ) → Failure → Type 0
-RefusesIn (Json layout) name input why = AreNoPods Exact name input why
+RefusesIn (Json style) name input why = AreNoPods Exact name input why
 RefusesIn (Read strictness) name input why = AreNoTexts strictness name input why
 RefusesIn Rewrite name input why = AreNoPods Exact name input why
 RefusesIn Fixate name input why = AreNoPods Exact name input why

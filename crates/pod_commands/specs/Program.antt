@@ -26,6 +26,10 @@ key = record (new_rule (codes "key")) { long = Some (codes "key"); value_names =
 abbrev pub hex : Rule
 hex = record (new_rule (codes "hex")) { long = Some (codes "hex"); action = Some SetTrue }
 
+-- `--color WHEN`
+abbrev pub color : Rule
+color = record (new_rule (codes "color")) { long = Some (codes "color"); value_names = 1 }
+
 -- `--lenient`, `--keep-going`, `--keep-refused` and `--stream`
 abbrev pub lenient : Rule
 lenient = record (new_rule (codes "lenient")) { long = Some (codes "lenient"); action = Some SetTrue }
@@ -55,9 +59,9 @@ over_pods name = with_rule (with_rule (word name) lenient) keep_going
 abbrev pub to_pods : Text → App
 to_pods name = with_rule (over_pods name) keep_refused
 
--- `show` and `json` print parts of inputs
+-- `show` and `json` print parts of inputs, and in colours
 abbrev pub with_parts : App → App
-with_parts app = with_rule (with_rule (with_rule app nth) key) hex
+with_parts app = with_rule (with_rule (with_rule (with_rule app nth) key) hex) color
 
 -- the words `show`, `rewrite` and `json` take `--stream` too
 abbrev pub show : App

@@ -1,5 +1,5 @@
 -- What the words ask for.
-use Rattle.std.specs.Prelude.{◌≡◌, ◌<◌, ◌^◌, ◌⊎◌, ◌||◌, ⊤, ℕ, codes, Bool, true, false, not, List, [], ◌∷◌, Option, Some, None, IsSomeAnd, is_some, if◌then◌else◌, option_map, unwrap_or}
+use Rattle.std.specs.Prelude.{◌≡◌, ◌≢◌, ◌<◌, ◌^◌, ◌⊎◌, ◌||◌, ⊤, ℕ, codes, Bool, true, false, not, List, [], ◌∷◌, Option, Some, None, IsSomeAnd, is_some, if◌then◌else◌, option_map, unwrap_or}
 use Rattle.std.specs.Str.{bytes_eq}
 use Rattle.std.specs.Str.Parse.{IsNumeral, digits_value, without_leading_plus}
 use Rattle.std.specs.Borrow.{Bor}
@@ -7,6 +7,8 @@ use Rattle.clap.specs.Walk.{texts}
 use Rattle.clap.specs.Words.{Row, Text, all_of, first_of, subcommand_of}
 use Rattle.clap.specs.Faults.{fault_of}
 use Rattle.pod_commands.specs.Program.{program}
+use Rattle.pod_commands.specs.declared.colours.Colours.{Colours}
+use Rattle.pod_commands.specs.declared.colours.Colours.TheVariants.{Off, On}
 use Rattle.pod_commands.specs.declared.request.Fate.{Fate}
 use Rattle.pod_commands.specs.declared.request.Fate.TheVariants.{Stops, GoesOn}
 use Rattle.pod_commands.specs.declared.request.Making.TheVariants.{Json, Read, Rewrite, Fixate, Check}
@@ -15,7 +17,9 @@ use Rattle.pod_commands.specs.declared.request.Word.{Word}
 use Rattle.pod_commands.specs.declared.request.Word.TheVariants.{Print, Make, Stream, Diff, Agree}
 use Rattle.pod_commands.specs.declared.request.Manner.{Manner}
 use Rattle.pod_commands.specs.declared.request.Options.{Options}
+use Rattle.pod_commands.specs.declared.request.Printing.{Printing}
 use Rattle.pod_commands.specs.declared.request.Request.{Request}
+use Rattle.pod_commands.specs.declared.request.Style.{Style}
 use Rattle.spa_recordings.specs.declared.going_on.Refused.TheVariants.{LeftOut, Kept}
 use Rattle.spa_recordings.specs.declared.reading.Reading.{Reading}
 use Rattle.spa_recordings.specs.declared.reading.Reading.TheVariants.{Exact, Lenient}
@@ -37,15 +41,16 @@ word_of_form Bytes = codes "json"
 
 -- the text of a word
 abbrev pub name_of : Word → Text
-name_of (Print printout manner) = word_of_form printout.form
-name_of (Make (Json layout) manner) = codes "json"
+name_of (Print printing manner) = word_of_form printing.printout.form
+name_of (Make (Json style) manner) = codes "json"
 name_of (Make (Read strictness) manner) = codes "read"
 name_of (Make Rewrite manner) = codes "rewrite"
 name_of (Make Fixate manner) = codes "fixate"
 name_of (Make Check manner) = codes "check"
-name_of (Stream (Streaming.Json layout) manner) = codes "json"
+name_of (Stream (Streaming.Json style) manner) = codes "json"
 name_of (Stream Streaming.Rewrite manner) = codes "rewrite"
-name_of (Stream (Streaming.Print printout) manner) = word_of_form printout.form
+name_of (Stream (Streaming.Print printing) manner) = word_of_form printing.printout.form
+name_of (Stream Streaming.Check manner) = codes "check"
 name_of Diff = codes "diff"
 name_of (Agree Negotiate) = codes "meet"
 name_of (Agree Filter) = codes "filter"
@@ -76,12 +81,22 @@ HasForm options LinesAndBytes = options.hex ≡ true
 HasForm options (form.Text layout) = (options.hex ≡ false) × (layout ≡ options.layout) × (is_plain options ≡ false)
 HasForm options Bytes = options.hex ≡ true
 
--- what is printed of which pods: of all where no part is asked for
+-- how texts are printed, and what is printed in a form
+abbrev pub style_of : Options → Style
+style_of options = record { layout = options.layout; colours = options.colours }
+
+abbrev pub printing_of : Options → Form → Printing
+printing_of options form = record { printout = record { form = form; selection = options.selection }; colours = options.colours }
+
+abbrev pub HasPrinting : Options → Printing → Type 0
+HasPrinting options printing = HasForm options printing.printout.form × (printing ≡ printing_of options printing.printout.form)
+
+-- what is printed of which pods, and how: of all where no part is asked for
 abbrev pub HasPrintout : Options → Word → Type 0
-HasPrintout options (Print printout manner) = HasForm options printout.form × (printout.selection ≡ options.selection)
-HasPrintout options (Stream (Streaming.Print printout) manner) = HasForm options printout.form × (printout.selection ≡ options.selection)
-HasPrintout options (Make (Json layout) manner) = (layout ≡ options.layout) × (is_plain options ≡ true)
-HasPrintout options (Stream (Streaming.Json layout) manner) = (layout ≡ options.layout) × (is_plain options ≡ true)
+HasPrintout options (Print printing manner) = HasPrinting options printing
+HasPrintout options (Stream (Streaming.Print printing) manner) = HasPrinting options printing
+HasPrintout options (Make (Json style) manner) = (style ≡ style_of options) × (is_plain options ≡ true)
+HasPrintout options (Stream (Streaming.Json style) manner) = (style ≡ style_of options) × (is_plain options ≡ true)
 HasPrintout options _ = ⊤
 
 -- a number is what digits say
@@ -89,9 +104,24 @@ abbrev pub IsNumber : Option Text → Option ℕ → Type 0
 IsNumber None number = number ≡ None
 IsNumber (Some text) number = number ≡ Some (digits_value 10 (without_leading_plus text))
 
+-- texts are coloured where they go to a terminal, or as `--color` says
+abbrev pub colours_by : (to_terminal : Bool) → Colours
+colours_by to_terminal = if to_terminal then On else Off
+
+abbrev pub AreColours : Option Text → (to_terminal : Bool) → Colours → Type 0
+AreColours None to_terminal colours = colours ≡ colours_by to_terminal
+AreColours (Some when) to_terminal colours =
+    ((when ≡ codes "auto") × (colours ≡ colours_by to_terminal)) ⊎ ((when ≡ codes "always") × (colours ≡ On)) ⊎ ((when ≡ codes "never") × (colours ≡ Off))
+
+-- the standard output is a terminal, and no file is written
+abbrev pub goes_to_terminal : (is_terminal : Bool) → (output : Option Text) → Bool
+goes_to_terminal is_terminal None = is_terminal
+goes_to_terminal is_terminal (Some name) = false
+
 -- these options are given
-pub record AreGiven (rows : List Row) (options : Options) : Type 0 where
+pub record AreGiven (rows : List Row) (is_terminal : Bool) (options : Options) : Type 0 where
   pub layout : options.layout ≡ layout_in rows
+  pub colours : AreColours (first_of (codes "color") rows) (goes_to_terminal is_terminal (first_of (codes "output") rows)) options.colours
   pub hex : options.hex ≡ is_given (codes "hex") rows
   pub nth : IsNumber (first_of (codes "nth") rows) options.selection.nth
   pub key : option_map (λ s. s.now) options.selection.key ≡ first_of (codes "key") rows
@@ -101,8 +131,14 @@ abbrev pub IsNoNumber : Option Text → Type 0
 IsNoNumber given =
     IsSomeAnd given (λ text. ¬ (IsNumeral 10 (without_leading_plus text) × (digits_value 10 (without_leading_plus text) < 2 ^ 64)))
 
-abbrev pub HasNoNumber : List Row → Type 0
-HasNoNumber rows = IsNoNumber (first_of (codes "nth") rows)
+-- colours are asked for by another word
+abbrev pub IsNoTime : Option Text → Type 0
+IsNoTime given = IsSomeAnd given (λ when. (when ≢ codes "auto") × (when ≢ codes "always") × (when ≢ codes "never"))
+
+-- An option has a value that is none of its own. Of `--nth` clap refuses such a value before; that is tested, and no clause of clap's says it of the
+-- options of a word.
+abbrev pub AreNone : List Row → Type 0
+AreNone rows = IsNoNumber (first_of (codes "nth") rows) ⊎ IsNoTime (first_of (codes "color") rows)
 
 -- how inputs are read: leniently where `--lenient` is given
 abbrev pub reading_by : Bool → Reading
@@ -127,15 +163,15 @@ HasMannerOf reading fate _ manner = (manner.reading ≡ reading) × (manner.fate
 abbrev pub HasManner : Reading → Fate → Word → Type 0
 HasManner reading fate (Make (Read strictness) manner) = (manner.reading ≡ Exact) × (manner.fate ≡ Stops)
 HasManner reading fate (Make making manner) = (manner.reading ≡ reading) × (manner.fate ≡ fate)
-HasManner reading fate (Print printout manner) = HasMannerOf reading fate printout.form manner
-HasManner reading fate (Stream (Streaming.Print printout) manner) = HasMannerOf reading fate printout.form manner
+HasManner reading fate (Print printing manner) = HasMannerOf reading fate printing.printout.form manner
+HasManner reading fate (Stream (Streaming.Print printing) manner) = HasMannerOf reading fate printing.printout.form manner
 HasManner reading fate (Stream streaming manner) = (manner.reading ≡ reading) × (manner.fate ≡ fate)
 HasManner reading fate _ = ⊤
 
 -- what is written as input comes is so where `--stream` is given, and else not
 abbrev pub HasStream : Bool → Word → Type 0
-HasStream streams (Print printout manner) = streams ≡ false
-HasStream streams (Make (Json layout) manner) = streams ≡ false
+HasStream streams (Print printing manner) = streams ≡ false
+HasStream streams (Make (Json style) manner) = streams ≡ false
 HasStream streams (Make Rewrite manner) = streams ≡ false
 HasStream streams (Stream streaming manner) = streams ≡ true
 HasStream streams _ = ⊤
@@ -163,12 +199,12 @@ abbrev pub names_in : List Row → List Text
 names_in rows = or_input (unwrap_or (all_of (codes "FILE") rows) [])
 
 -- the words are the program's, and ask for this
-pub record Asks (words : List (Bor (List ℕ))) (request : Request) : Type 0 where
+pub record Asks (words : List (Bor (List ℕ))) (is_terminal : Bool) (request : Request) : Type 0 where
   pub accepted : fault_of program (texts words) ≡ []
   pub rows : List Row
   pub word : subcommand_of program (texts words) ≡ Some (name_of request.word, rows)
   pub options : Options
-  pub given : AreGiven rows options
+  pub given : AreGiven rows is_terminal options
   pub printout : HasPrintout options request.word
   pub manner : HasManner (reading_in rows) (fate_in rows) request.word
   pub stream : HasStream (is_given (codes "stream") rows) request.word
@@ -176,13 +212,13 @@ pub record Asks (words : List (Bor (List ℕ))) (request : Request) : Type 0 whe
   pub names : texts request.names.items ≡ names_in rows
   pub target : option_map (λ s. s.now) request.target ≡ first_of (codes "output") rows
 
--- clap accepts the words, and they name no word of the program's or no number, which clap never does
+-- clap accepts the words, and they name no word of the program's, which clap never does, or an option has a value that is none of its own
 pub record AsksNothing (words : List (Bor (List ℕ))) : Type 0 where
   pub accepted : fault_of program (texts words) ≡ []
   pub nothing : ((word : Word) (rows : List Row) → subcommand_of program (texts words) ≡ Some (name_of word, rows) → ⊥)
-      ⊎ ((name : Text) × (rows : List Row) × (subcommand_of program (texts words) ≡ Some (name, rows)) × HasNoNumber rows)
+      ⊎ ((name : Text) × (rows : List Row) × (subcommand_of program (texts words) ≡ Some (name, rows)) × AreNone rows)
 
 -- All of each input is printed as JSON. Only private clauses cite it.
-abbrev pub IsAllAsJson : Layout → Manner → (streams : Bool) → Word → Type 0
-IsAllAsJson layout manner streams word =
-    word ≡ (if streams then Stream (Streaming.Json layout) manner else Make (Json layout) manner)
+abbrev pub IsAllAsJson : Style → Manner → (streams : Bool) → Word → Type 0
+IsAllAsJson style manner streams word =
+    word ≡ (if streams then Stream (Streaming.Json style) manner else Make (Json style) manner)

@@ -1,18 +1,18 @@
 -- What is written of inputs as they come.
-use Rattle.std.specs.Prelude.{◌≡◌, ◌⊎◌, ⊤, ℕ, List, Option, None, take}
+use Rattle.std.specs.Prelude.{◌≡◌, ⊤, ℕ, List, [], Option, None, take}
 use Rattle.std.specs.Io.KnownBytes.{Appends}
 use Rattle.std.specs.Borrow.{Bor}
 use Rattle.spa_device.specs.Whole.{IsAllOf}
 use Rattle.spa_format.specs.Front.{IsRefused}
+use Rattle.spa_format.specs.Pod.{AreMembers}
+use Rattle.spa_format.specs.Tree.{Trees}
 use Rattle.spa_recordings.specs.Rewritings.{RewritesAll}
 use Rattle.spa_recordings.specs.Streaming.{EndsAtPod, MakesFirst}
 use Rattle.spa_recordings.specs.declared.reading.Reading.TheVariants.{Exact}
 use Rattle.spa_recordings.specs.declared.streaming.Stop.{Stop}
 use Rattle.spa_recordings.specs.declared.streaming.Stop.TheVariants as stop
 use Rattle.spa_refusals.specs.Refusals.{IsRefusalOf}
-use Rattle.spa_refusals.specs.declared.refusal.Refusal.{Refusal}
-use Rattle.spa_text_commands.specs.Parts.{ShowsPods}
-use Rattle.spa_text_commands.specs.Texts.{Prints}
+use Rattle.pod_commands.specs.Colours.{PrintsIn, ShowsIn}
 use Rattle.pod_commands.specs.Inputs.{StopsAt}
 use Rattle.pod_commands.specs.declared.answer.Failure.{Failure}
 use Rattle.pod_commands.specs.declared.answer.Failure.TheVariants.{Pods, Texts, Pair, Lists, OutOfMemory, Unread, Unwritten}
@@ -21,15 +21,17 @@ use Rattle.pod_commands.specs.declared.request.Streaming.TheVariants as streamin
 
 -- what is made of pods and written as they come, which so many pods and bytes of the input stand before; so many of them are refused
 abbrev pub WritesOf : Streaming → (count place : ℕ) → (pods out : List ℕ) → (refused : ℕ) → Type 0
-WritesOf (streaming.Json layout) count place pods out refused = Prints layout pods out × (refused ≡ 0)
+WritesOf (streaming.Json style) count place pods out refused = PrintsIn style pods out × (refused ≡ 0)
 WritesOf streaming.Rewrite count place pods out refused = RewritesAll pods out refused
-WritesOf (streaming.Print printout) count place pods out refused = ShowsPods printout count place pods out refused
+WritesOf (streaming.Print printing) count place pods out refused = ShowsIn printing count place pods out refused
+WritesOf streaming.Check count place pods out refused = (out ≡ []) × ((vs : Trees) × AreMembers vs pods) × (refused ≡ 0)
 
 -- nothing is made of refused pods, which only what prints parts, or shows pods, passes
 abbrev pub MayRefuse : Streaming → Type 0
-MayRefuse (streaming.Json layout) = ⊤
+MayRefuse (streaming.Json style) = ⊤
 MayRefuse streaming.Rewrite = ⊤
-MayRefuse (streaming.Print printout) = ⊥
+MayRefuse (streaming.Print printing) = ⊥
+MayRefuse streaming.Check = ⊤
 
 -- what is made of an input
 abbrev pub StreamsAs : Streaming → (input out : List ℕ) → (refused : ℕ) → Type 0

@@ -117,9 +117,9 @@ impl From<AllocError> for Failure<'_> {
     }
 }
 
-/// What is said of a word with another number of inputs than it takes, or with options that don't go together.
+/// What is said of a word with another number of inputs than it takes, with options that don't go together, or another word of `--color`.
 const MISUSE: &str =
-    "pod: diff takes two FILEs, meet and filter one or two, --stream, --nth, --key and --hex no other option but --pretty and one another; pod --help says more";
+    "pod: diff takes two FILEs, meet and filter one or two, --color auto, always or never; --stream, --nth, --key and --hex go with --pretty, --color and one another alone; pod --help says more";
 
 /// Writes what is said of this answer: help and the version to the output, a refusal or a misuse to the other writer, of work that was
 /// done nothing.

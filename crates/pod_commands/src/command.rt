@@ -90,6 +90,17 @@ fn hex<'a>(alloc: Global) -> Arg<'a>
         .help("Prints the bytes in hex: below the lines of each pod, or by json as a string")
 }
 
+/// `--color WHEN`
+fn color<'a>(alloc: Global) -> Arg<'a>
+    ensures rule { rule_of result ≡ spec.color }
+    ensures local { result.global ≡ false }
+{
+    Arg::new(alloc, "color")
+        .long("color")
+        .value_name("WHEN")
+        .help("Prints in colours: always, never, or auto, where the output is a terminal")
+}
+
 /// `--lenient`
 fn lenient<'a>(alloc: Global) -> Arg<'a>
     ensures rule { rule_of result ≡ spec.lenient }
@@ -199,7 +210,8 @@ fn with_parts<'a>(alloc: Global, command: Command<'a>) -> Result<Command<'a>, Al
 {
     let with_nth = command.arg(nth(alloc))?;
     let with_key = with_nth.arg(key(alloc))?;
-    with_key.arg(hex(alloc))
+    let with_hex = with_key.arg(hex(alloc))?;
+    with_hex.arg(color(alloc))
 }
 
 /// The word `show`.

@@ -7,8 +7,8 @@ ghost use Rattle.pod_commands.specs.Inputs.{IsKnown, IsOpened, content_of, left_
 use crate::answer::Failure;
 use spa_device::{ReadError, read_whole};
 use std::alloc::Global;
-use std::fs::{self, File};
-use std::io::{self, ErrorKind, Read, Write};
+use std::fs::{self, File, Metadata};
+use std::io::{self, ErrorKind, Read, Take, Write};
 
 /// Files that have names.
 pub trait Files {
@@ -26,19 +26,23 @@ pub trait Files {
     fn open_file(&self, alloc: Global, name: &str) -> io::Result<Self::Opened>
         ensures opened { IfOk result (λ file. IsOpened (holds self.now name.now) (Self.Opened.remaining file)) };
 
+    /// Whether the file of this name is a regular one, which can be read twice.
+    fn is_regular(&self, name: &str) -> bool;
+
     /// Makes these the bytes of the file of this name.
     fn write_file(&mut self, name: &str, bytes: &[u8]) -> io::Result<()>
         ensures written { OnOk result (IsAllOf (holds self.new name.now) bytes.now) };
 }
 
-/// The files of the system, of which nothing is known.
+/// The files of the system, of which nothing is known. A regular file that is opened is read as far as it is long then, so that it ends also where
+/// it is written to meanwhile.
 #[derive(Clone, Copy)]
 pub struct SystemFiles<'a> {
     pub rt: &'a HostRuntime,
 }
 
 impl Files for SystemFiles<'_> {
-    type Opened = File;
+    type Opened = Take<File>;
 
     ghost use Rattle.std.specs.Prelude.{None};
 
@@ -48,14 +52,33 @@ impl Files for SystemFiles<'_> {
         fs::read(self.rt, name)
     }
 
-    fn open_file(&self, _alloc: Global, name: &str) -> io::Result<File> {
-        File::open(self.rt, name)
+    fn open_file(&self, _alloc: Global, name: &str) -> io::Result<Take<File>> {
+        let file = File::open(self.rt, name)?;
+        let metadata = file.metadata()?;
+        let end = if has_length(&metadata) {
+            metadata.len()
+        } else {
+            u64::MAX
+        };
+        Ok(file.take(end))
+    }
+
+    fn is_regular(&self, name: &str) -> bool {
+        match fs::metadata(self.rt, name) {
+            Ok(metadata) => has_length(&metadata),
+            Err(_) => false,
+        }
     }
 
     fn write_file(&mut self, name: &str, bytes: &[u8]) -> io::Result<()> {
         let mut file = File::create(self.rt, name)?;
         file.write_all(bytes)
     }
+}
+
+/// Whether a file is a regular one that says how long it is; those of /proc don't.
+fn has_length(metadata: &Metadata) -> bool {
+    metadata.is_file() && metadata.len() > 0
 }
 
 /// The file of this name, to be read from its beginning.

@@ -3,6 +3,7 @@
 #![tactic(auto)]
 
 pub mod answer;
+pub mod colours;
 mod command;
 pub mod files;
 mod making;

@@ -1,6 +1,7 @@
 //! What is made of each input.
 ghost use Rattle.std.specs.Prelude.{◌≡◌, ◌++◌, IfErr, IfOk, OnOk};
 ghost use Rattle.pod_commands.specs.Answers.{AreUnmade, IsUnread};
+ghost use Rattle.pod_commands.specs.Colours.{PrintsIn};
 ghost use Rattle.pod_commands.specs.Inputs.{AreMade};
 ghost use Rattle.pod_commands.specs.Making.{AreNoPods, Makes, MakesAll, RefusesBy, RefusesIn};
 ghost use Rattle.pod_commands.specs.Working.{AreWorked, WorksOn};
@@ -9,9 +10,10 @@ ghost use Rattle.spa_recordings.specs.GoingOn.{MakesOf};
 ghost use Rattle.spa_recordings.specs.declared.reading.Reading as Reading;
 
 use crate::answer::Failure;
+use crate::colours::in_colours;
 use crate::files::{Files, read_named};
 use crate::refusing::refused;
-use crate::request::Making;
+use crate::request::{Making, Style};
 use spa_in_place::rewrite_in_place;
 use spa_lenient::rewrite_all_leniently;
 use spa_pod_commands::making::{check, fixated};
@@ -93,10 +95,7 @@ fn make<'a>(
     ensures refused { IfErr result (RefusesIn making name.entry.now bytes.items) }
 {
     match making {
-        Making::Json(layout) => match print_all(alloc, layout, bytes.as_slice()) {
-            Ok(texts) => Ok(texts),
-            Err(_) => Err(refused(alloc, Reading::Exact, name, bytes.as_slice())),
-        },
+        Making::Json(style) => print(alloc, style, name, bytes.as_slice()),
         Making::Read(strictness) => match read_all(alloc, strictness, bytes.as_slice()) {
             Ok(pods) => Ok(pods),
             Err(why) => Err(Failure::Texts(name, why)),
@@ -107,6 +106,26 @@ fn make<'a>(
             Ok(()) => Ok(Vec::new(alloc)),
             Err(_) => Err(refused(alloc, Reading::Exact, name, bytes.as_slice())),
         },
+    }
+}
+
+/// The texts of the pods that these bytes consist of, in this style.
+#[tactic(auto, using(crate::proofs::Coloured::printed_in))]
+fn print<'a>(
+    alloc: Global,
+    style: Style,
+    name: &'a str,
+    bytes: &[u8],
+) -> Result<Vec<u8>, Failure<'a>>
+    ensures made { IfOk result (λ out. PrintsIn style bytes.now out.items) }
+    ensures refused { IfErr result (AreNoPods Reading.Exact name.entry.now bytes.now) }
+{
+    let Ok(texts) = print_all(alloc, style.layout, bytes) else {
+        return Err(refused(alloc, Reading::Exact, name, bytes));
+    };
+    match in_colours(alloc, style.colours, texts) {
+        Ok(out) => Ok(out),
+        Err(_) => Err(Failure::OutOfMemory),
     }
 }
 

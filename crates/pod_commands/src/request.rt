@@ -6,13 +6,14 @@ ghost use Rattle.clap.specs.Kinds.{HasKind};
 ghost use Rattle.clap.specs.Walk.{rows_of, texts};
 ghost use Rattle.clap.specs.Matches.{found_of};
 ghost use Rattle.pod_commands.specs.Program.{program};
-ghost use Rattle.pod_commands.specs.Requests.{AreGiven, Asks, AsksNothing, HasManner, HasNoNumber, HasPrintout, HasStream, HasStrictness, IsAllAsJson, IsNoNumber, IsNumber, fate_in, is_given, is_true_text, layout_in, name_of, names_in, reading_in, strictness_in};
+ghost use Rattle.pod_commands.specs.Requests.{AreColours, AreGiven, AreNone, Asks, AsksNothing, HasManner, HasPrintout, HasStream, HasStrictness, IsAllAsJson, IsNoNumber, IsNoTime, IsNumber, fate_in, is_given, is_true_text, layout_in, name_of, names_in, reading_in, strictness_in};
 ghost use Rattle.pod_commands.specs.declared.request.Word.{Word};
 ghost use Rattle.pod_commands.specs.declared.request.Fate.{Fate as FateOf};
 ghost use Rattle.pod_commands.specs.declared.request.Options.{Options as OptionsOf};
 ghost use Rattle.spa_recordings.specs.declared.reading.Reading.{Reading as ReadingOf};
 ghost use Rattle.spa_text_read.specs.declared.fitting.Strictness.{Strictness as StrictnessOf};
 
+use crate::colours::Colours;
 use crate::command::program;
 use clap::{ArgMatches, Error};
 use spa_meet_commands::pair::Work;
@@ -23,11 +24,25 @@ use spa_text_commands::selection::{Form, Printout, Selection};
 use spa_text_read::Strictness;
 use std::alloc::{AllocError, Global};
 
+/// How texts are printed.
+#[derive(Clone, Copy)]
+pub struct Style {
+    pub layout: Layout,
+    pub colours: Colours,
+}
+
+/// What is printed of pods, and whether in colours.
+#[derive(Clone, Copy)]
+pub struct Printing<'a> {
+    pub printout: Printout<'a>,
+    pub colours: Colours,
+}
+
 /// What is made of each input.
 #[derive(Clone, Copy)]
 pub enum Making {
-    /// The texts of its pods, as JSON in this layout.
-    Json(Layout),
+    /// The texts of its pods, as JSON in this style.
+    Json(Style),
     /// The pods of its texts, which are read so.
     Read(Strictness),
     /// The rewritings of its pods.
@@ -57,12 +72,14 @@ pub struct Manner {
 /// What is written block by block, as input comes.
 #[derive(Clone, Copy)]
 pub enum Streaming<'a> {
-    /// The texts of its pods, as JSON in this layout.
-    Json(Layout),
+    /// The texts of its pods, as JSON in this style.
+    Json(Style),
     /// The rewritings of its pods.
     Rewrite,
     /// This of its pods, refused ones too.
-    Print(Printout<'a>),
+    Print(Printing<'a>),
+    /// Nothing: it has to consist of pods.
+    Check,
 }
 
 /// What is done.
@@ -70,7 +87,7 @@ pub enum Streaming<'a> {
 pub enum Word<'a> {
     /// This is printed of pods, refused ones too: as they come, or where a file is written, all of it at the end. No manner but the plain one goes
     /// with it.
-    Print(Printout<'a>, Manner),
+    Print(Printing<'a>, Manner),
     /// This is made of each input, which is read so.
     Make(Making, Manner),
     /// This is written of each input as it comes, which is read so: no manner but the plain one, and no file, goes with it.
@@ -91,13 +108,14 @@ pub struct Request<'a> {
     pub target: Option<&'a str>,
 }
 
-/// What these words ask for, the program's own name not among them: nothing where they name no word of the program's, which `clap`
-/// refuses.
+/// What these words ask for, the program's own name not among them, where the standard output is a terminal, or isn't: nothing where they name no
+/// word of the program's, which `clap` refuses, or `--color` has no word of its own.
 pub(crate) fn request_of<'a>(
     alloc: Global,
     words: &'a [&'a str],
+    is_terminal: bool,
 ) -> Result<Option<Request<'a>>, Error>
-    ensures asked { IfOk result (λ asked. IfSome asked (Asks words.now)) }
+    ensures asked { IfOk result (λ asked. IfSome asked (Asks words.now is_terminal)) }
     ensures nothing { IfOk result (λ asked. IfNone asked (AsksNothing words.now)) }
     ensures refused { IfErr result (HasKind (fault_of program (texts words.now))) }
 {
@@ -106,7 +124,7 @@ pub(crate) fn request_of<'a>(
     let Some((name, given)) = matches.subcommand() else {
         return Ok(None);
     };
-    let Some(options) = options_of(given) else {
+    let Some(options) = options_of(given, is_terminal) else {
         return Ok(None);
     };
     let Some(word) = word_of(
@@ -160,12 +178,36 @@ fn word_of<'a>(
 pub struct Options<'a> {
     /// The layout of texts.
     pub layout: Layout,
+    pub colours: Colours,
     /// Whether bytes are printed in hex.
     pub hex: bool,
     pub selection: Selection<'a>,
 }
 
-impl Options<'_> {
+impl<'a> Options<'a> {
+    /// The style of texts.
+    fn style(&self) -> Style
+        ensures { result ≡ spec.style_of self.now }
+    {
+        Style {
+            layout: self.layout,
+            colours: self.colours,
+        }
+    }
+
+    /// What is printed in this form.
+    fn printing(&self, form: Form) -> Printing<'a>
+        ensures { result ≡ spec.printing_of self.now form }
+    {
+        Printing {
+            printout: Printout {
+                form,
+                selection: self.selection,
+            },
+            colours: self.colours,
+        }
+    }
+
     /// Whether neither a part of an input is asked for nor bytes are.
     fn is_plain(&self) -> bool
         ensures { result ≡ spec.is_plain self.now }
@@ -174,22 +216,65 @@ impl Options<'_> {
     }
 }
 
-/// The options that are given: nothing where a number isn't one, which `clap` refuses.
-fn options_of<'a>(given: &ArgMatches<'a>) -> Option<Options<'a>>
-    ensures given { IfSome result (AreGiven (rows_of (found_of given.now))) }
-    ensures no_number { IfNone result (HasNoNumber (rows_of (found_of given.now))) }
+/// The options that are given, where the standard output is a terminal, or isn't: nothing where a number isn't one, which `clap` refuses, or
+/// `--color` has no word of its own.
+fn options_of<'a>(given: &ArgMatches<'a>, is_terminal: bool) -> Option<Options<'a>>
+    ensures given { IfSome result (AreGiven (rows_of (found_of given.now)) is_terminal) }
+    ensures none { IfNone result (AreNone (rows_of (found_of given.now))) }
 {
     let Some(nth) = number_of(given.get_str("nth")) else {
         return None;
     };
+    let to_terminal = goes_to_terminal(is_terminal, given.get_str("output"));
+    let Some(colours) = colours_of(given.get_str("color"), to_terminal) else {
+        return None;
+    };
     Some(Options {
         layout: layout_of(given),
+        colours,
         hex: is_set(given, "hex"),
         selection: Selection {
             nth,
             key: given.get_str("key"),
         },
     })
+}
+
+/// Whether texts are coloured where `--color` has this word: nothing where it is none of its own.
+fn colours_of(when: Option<&str>, to_terminal: bool) -> Option<Colours>
+    ensures colours { IfSome result (AreColours (option_map (λ s. s.now) when.entry) to_terminal) }
+    ensures none { IfNone result (IsNoTime (option_map (λ s. s.now) when.entry)) }
+{
+    let Some(when) = when else {
+        return Some(colours_by(to_terminal));
+    };
+    match when {
+        "auto" => Some(colours_by(to_terminal)),
+        "always" => Some(Colours::On),
+        "never" => Some(Colours::Off),
+        _ => None,
+    }
+}
+
+/// Whether what is printed goes to a terminal: the standard output is one, and no file is written.
+fn goes_to_terminal(is_terminal: bool, output: Option<&str>) -> bool
+    ensures { result ≡ spec.goes_to_terminal is_terminal (option_map (λ s. s.now) output.entry) }
+{
+    match output {
+        Some(_) => false,
+        None => is_terminal,
+    }
+}
+
+/// The colours of what goes to a terminal, or doesn't.
+fn colours_by(to_terminal: bool) -> Colours
+    ensures { result ≡ spec.colours_by to_terminal }
+{
+    if to_terminal {
+        Colours::On
+    } else {
+        Colours::Off
+    }
 }
 
 /// The number that a text says, if one is given: nothing where it says none.
@@ -219,14 +304,11 @@ fn shown<'a>(options: Options<'a>, streams: bool) -> Word<'a>
     } else {
         Form::Lines
     };
-    let printout = Printout {
-        form,
-        selection: options.selection,
-    };
+    let printing = options.printing(form);
     if streams {
-        Word::Stream(Streaming::Print(printout), PLAIN)
+        Word::Stream(Streaming::Print(printing), PLAIN)
     } else {
-        Word::Print(printout, PLAIN)
+        Word::Print(printing, PLAIN)
     }
 }
 
@@ -239,32 +321,29 @@ fn as_json<'a>(options: Options<'a>, manner: Manner, streams: bool) -> Word<'a>
     ensures strictness { (strictness : StrictnessOf) → HasStrictness strictness result }
 {
     if options.is_plain() {
-        return all_as_json(options.layout, manner, streams);
+        return all_as_json(options.style(), manner, streams);
     }
     let form = if options.hex {
         Form::Bytes
     } else {
         Form::Text(options.layout)
     };
-    let printout = Printout {
-        form,
-        selection: options.selection,
-    };
+    let printing = options.printing(form);
     if streams {
-        Word::Stream(Streaming::Print(printout), manner)
+        Word::Stream(Streaming::Print(printing), manner)
     } else {
-        Word::Print(printout, manner)
+        Word::Print(printing, manner)
     }
 }
 
-/// The word `json` in this layout of whole inputs, with `--stream` or without it.
-fn all_as_json<'a>(layout: Layout, manner: Manner, streams: bool) -> Word<'a>
-    ensures { IsAllAsJson layout manner streams result }
+/// The word `json` in this style of whole inputs, with `--stream` or without it.
+fn all_as_json<'a>(style: Style, manner: Manner, streams: bool) -> Word<'a>
+    ensures { IsAllAsJson style manner streams result }
 {
     if streams {
-        Word::Stream(Streaming::Json(layout), manner)
+        Word::Stream(Streaming::Json(style), manner)
     } else {
-        Word::Make(Making::Json(layout), manner)
+        Word::Make(Making::Json(style), manner)
     }
 }
 

@@ -1,37 +1,41 @@
 //! The program's work, over a reader, files and a writer.
 ghost use Rattle.std.specs.Prelude.{◌≡◌, ◌≢◌, ◌⊎◌, None, false, true};
-ghost use Rattle.pod_commands.specs.Answers.{AreUnmade, Gives, IsAgreed, IsAnswer, IsCompared, IsDone, IsMadeBy, IsMadeInPart, IsPlain, IsPrinted, IsShown, IsShownIn, IsStreamed, IsWrittenAs, OnAnswer, Refuses, outlet};
+ghost use Rattle.pod_commands.specs.Answers.{AreFiles, AreUnmade, Gives, IsAgreed, IsAnswer, IsCompared, IsDone, IsMadeBy, IsMadeInPart, IsPlain, IsPrinted, IsShown, IsShownIn, IsStreamed, IsWrittenAs, MayReadTwice, OnAnswer, Refuses, outlet};
 ghost use Rattle.pod_commands.specs.declared.answer.Answer.TheVariants as answer;
+ghost use Rattle.pod_commands.specs.declared.request.Fate.TheVariants.{Stops};
+ghost use Rattle.pod_commands.specs.declared.request.Making.TheVariants.{Rewrite};
+ghost use Rattle.spa_recordings.specs.declared.reading.Reading.TheVariants.{Exact};
 
 use crate::answer::{Answer, Failure};
 use crate::files::Files;
 use crate::making::{Worked, make_all, make_what_is_read};
 use crate::pairs::{agree, agree_of_lists, compare};
-use crate::request::{Fate, Making, Manner, Request, Streaming, Word, request_of};
+use crate::request::{Fate, Making, Manner, Printing, Request, Streaming, Word, request_of};
 use crate::sending::answered;
 use crate::streaming::stream_all;
 use clap::error::ErrorKind;
 use spa_meet_commands::pair::Work;
 use spa_recordings::going_on as recordings;
 use spa_recordings::reading::Reading;
-use spa_text_commands::selection::Printout;
 use std::alloc::Global;
-use std::io::{Read, Write};
+use std::io::{self, Read, Write};
 
 /// Does what the words ask for, the program's own name not among them.
 ///
 /// The words are settled before anything is read. But for `show`, `--stream`, and `json` with `--nth`, `--key` or `--hex`, nothing is written before all
-/// inputs are read and accepted; a file that is to be written is written at the end, by all words.
+/// inputs are read and accepted; a file that is to be written is written at the end, by all words. Where the device is a terminal, `show` and `json`
+/// print in colours, unless `--color` says other.
 pub fn run<'a, R: Read, S: Files, W: Write + Drop>(
     alloc: Global,
     words: &'a [&'a str],
     input: &mut R,
     files: &mut S,
     device: W,
+    is_terminal: bool,
 ) -> (Answer<'a>, W)
-    ensures { IsAnswer words.entry.now (R.remaining input.old) (W.contents device) (W.contents result.1) (S.holds files.old) (S.holds files.new) result.0 }
+    ensures { IsAnswer words.entry.now is_terminal (R.remaining input.old) (W.contents device) (W.contents result.1) (S.holds files.old) (S.holds files.new) result.0 }
 {
-    match request_of(alloc, words) {
+    match request_of(alloc, words, is_terminal) {
         Ok(Some(request)) => do_work(alloc, request, input, files, device),
         Ok(None) => (Answer::Misused, device),
         Err(error) => match error.kind() {
@@ -56,8 +60,8 @@ fn do_work<'a, R: Read, S: Files, W: Write + Drop>(
     let target = request.target;
     let names = request.names.as_slice();
     match word {
-        Word::Print(printout, manner) => {
-            print(alloc, printout, manner, names, target, input, files, device)
+        Word::Print(printing, manner) => {
+            print(alloc, printing, manner, names, target, input, files, device)
         }
         Word::Make(making, manner) => {
             make(alloc, making, manner, names, target, input, files, device)
@@ -88,6 +92,9 @@ fn make<'a, R: Read, S: Files, W: Write + Drop>(
 {
     match manner.fate {
         Fate::Stops => {
+            if may_read_twice(making, manner.reading, names, target, files) {
+                return rewrite_twice(alloc, names, target, input, files, device);
+            }
             let made = make_all(alloc, making, manner.reading, names, input, files);
             answered(files, target, device, made, Answer::Done)
         }
@@ -98,6 +105,62 @@ fn make<'a, R: Read, S: Files, W: Write + Drop>(
             };
             go_on(alloc, making, manner, names, target, input, files, device)
         }
+    }
+}
+
+/// Whether pods are read exactly and rewritten to the standard output, and each of these names is a regular file's.
+fn may_read_twice<S: Files>(
+    making: Making,
+    reading: Reading,
+    names: &[&str],
+    target: Option<&str>,
+    files: &S,
+) -> bool
+    ensures { result ≡ true → MayReadTwice reading making names.now target.entry }
+{
+    match (reading, making, target) {
+        (Reading::Exact, Making::Rewrite, None) => are_regular(names, files),
+        _ => false,
+    }
+}
+
+/// Whether each of these names is a regular file's.
+fn are_regular<S: Files>(names: &[&str], files: &S) -> bool
+    ensures { result ≡ true → AreFiles names.now }
+{
+    for name in names {
+        if *name == "-" || !files.is_regular(*name) {
+            return false;
+        }
+    }
+    true
+}
+
+/// Rewrites the files of these names, which are read twice: nothing is written before all are accepted, and neither pass holds more than a block.
+fn rewrite_twice<'a, R: Read, S: Files, W: Write + Drop>(
+    alloc: Global,
+    names: &[&'a str],
+    target: Option<&'a str>,
+    input: &mut R,
+    files: &mut S,
+    device: W,
+) -> (Answer<'a>, W)
+    requires { MayReadTwice Exact Rewrite names.now target }
+    ensures { IsMadeBy Exact Stops Rewrite result.0 (R.remaining input.old) names.now
+        (outlet target.entry (W.contents device) (W.contents result.1) (S.holds files.old) (S.holds files.new)) }
+{
+    let mut nowhere = io::sink();
+    match stream_all(alloc, Streaming::Check, names, input, files, &mut nowhere) {
+        Ok(_) => write_as(
+            alloc,
+            Streaming::Rewrite,
+            names,
+            target,
+            input,
+            files,
+            device,
+        ),
+        Err(why) => (Answer::Refused(why), device),
     }
 }
 
@@ -194,7 +257,7 @@ fn shown<'a>(refused: usize) -> Answer<'a>
 #[tactic(auto, using(crate::proofs::Streamed::printed, crate::proofs::Streamed::not_printed))]
 fn print<'a, R: Read, S: Files, W: Write + Drop>(
     alloc: Global,
-    printout: Printout<'a>,
+    printing: Printing<'a>,
     manner: Manner,
     names: &[&'a str],
     target: Option<&'a str>,
@@ -202,59 +265,59 @@ fn print<'a, R: Read, S: Files, W: Write + Drop>(
     files: &mut S,
     device: W,
 ) -> (Answer<'a>, W)
-    ensures { IsPrinted printout.entry manner.reading manner.fate result.0 (R.remaining input.old) names.now
+    ensures { IsPrinted printing.entry manner.reading manner.fate result.0 (R.remaining input.old) names.now
         (outlet target.entry (W.contents device) (W.contents result.1) (S.holds files.old) (S.holds files.new)) }
 {
     if !is_plain(manner, None) {
         return (Answer::Misused, device);
     }
-    show(alloc, printout, names, target, input, files, device)
+    show(alloc, printing, names, target, input, files, device)
 }
 
 /// Prints this of the inputs of these names: as they come, or where a file is written, all of it at the end.
 fn show<'a, R: Read, S: Files, W: Write + Drop>(
     alloc: Global,
-    printout: Printout<'a>,
+    printing: Printing<'a>,
     names: &[&'a str],
     target: Option<&'a str>,
     input: &mut R,
     files: &mut S,
     device: W,
 ) -> (Answer<'a>, W)
-    ensures { IsShown printout.entry target.entry result.0 (R.remaining input.old) names.now
+    ensures { IsShown printing.entry target.entry result.0 (R.remaining input.old) names.now
         (outlet target.entry (W.contents device) (W.contents result.1) (S.holds files.old) (S.holds files.new)) }
 {
     match target {
         None => write_as(
             alloc,
-            Streaming::Print(printout),
+            Streaming::Print(printing),
             names,
             None,
             input,
             files,
             device,
         ),
-        Some(_) => show_in_file(alloc, printout, names, target, input, files, device),
+        Some(_) => show_in_file(alloc, printing, names, target, input, files, device),
     }
 }
 
 /// Prints this of the inputs of these names in the file that is written.
 fn show_in_file<'a, R: Read, S: Files, W: Write + Drop>(
     alloc: Global,
-    printout: Printout<'a>,
+    printing: Printing<'a>,
     names: &[&'a str],
     target: Option<&'a str>,
     input: &mut R,
     files: &mut S,
     device: W,
 ) -> (Answer<'a>, W)
-    ensures { IsShownIn printout.entry result.0 (R.remaining input.old) names.now
+    ensures { IsShownIn printing.entry result.0 (R.remaining input.old) names.now
         (outlet target.entry (W.contents device) (W.contents result.1) (S.holds files.old) (S.holds files.new)) }
 {
     let mut printed = Vec::new(alloc);
     match stream_all(
         alloc,
-        Streaming::Print(printout),
+        Streaming::Print(printing),
         names,
         input,
         files,

@@ -8,16 +8,17 @@ ghost use Rattle.spa_format.specs.Front.{IsRefused};
 ghost use Rattle.spa_recordings.specs.Streaming.{IsNotMade, Streams, WritesMade};
 
 use crate::answer::Failure;
+use crate::colours::in_colours;
 use crate::files::{Files, open_named};
-use crate::request::Streaming;
+use crate::request::{Printing, Streaming, Style};
+use spa_pod_commands::making::check;
 use spa_pod_commands::output::write;
 use spa_recordings::reading::Reading;
 use spa_recordings::streaming::{BlockWriter, NotMade, Rewriter, Stop, stream};
 use spa_refusals::refusal_of;
 use spa_text_commands::answer;
-use spa_text_commands::printing::{Layout, print_all};
-use spa_text_commands::selection::Printout;
-use spa_text_commands::showing::show_pods;
+use spa_text_commands::printing::print_all;
+use spa_text_commands::showing::{Printed, show_pods};
 use std::alloc::Global;
 use std::io::{Read, Write};
 
@@ -154,11 +155,15 @@ impl BlockWriter for Streaming<'_> {
         output: &mut W,
     ) -> Result<usize, NotMade> {
         match self {
-            Streaming::Json(layout) => write_texts(alloc, *layout, count, place, &*block, output),
+            Streaming::Json(style) => write_texts(alloc, *style, count, place, &*block, output),
             Streaming::Rewrite => Rewriter.write_block(alloc, count, place, block, output),
-            Streaming::Print(printout) => {
-                write_printed(alloc, *printout, count, place, &*block, output)
+            Streaming::Print(printing) => {
+                write_printed(alloc, *printing, count, place, &*block, output)
             }
+            Streaming::Check => match check(alloc, &*block) {
+                Ok(()) => Ok(0),
+                Err(_) => Err(NotMade::Refused),
+            },
         }
     }
 
@@ -171,22 +176,25 @@ impl BlockWriter for Streaming<'_> {
 #[tactic(auto, using(crate::proofs::Blocks::texts_written, crate::proofs::Blocks::texts_begun))]
 fn write_texts<W: Write>(
     alloc: Global,
-    layout: Layout,
+    style: Style,
     count: usize,
     place: usize,
     block: &[u8],
     output: &mut W,
 ) -> Result<usize, NotMade>
-    ensures written { IfOk result (WritesMade (WritesOf (streaming.Json layout) count place) block.now (W.contents output.old) (W.contents output.new)) }
-    ensures refused { IfErr result (IsNotMade (MayRefuse (streaming.Json layout)) (WritesOf (streaming.Json layout) count place) block.now block.now
+    ensures written { IfOk result (WritesMade (WritesOf (streaming.Json style) count place) block.now (W.contents output.old) (W.contents output.new)) }
+    ensures refused { IfErr result (IsNotMade (MayRefuse (streaming.Json style)) (WritesOf (streaming.Json style) count place) block.now block.now
         (W.contents output.old) (W.contents output.new)) }
 {
-    let texts = match print_all(alloc, layout, block) {
+    let texts = match print_all(alloc, style.layout, block) {
         Ok(texts) => texts,
         Err(answer::Failure::OutOfMemory) => return Err(NotMade::OutOfMemory),
         Err(_) => return Err(NotMade::Refused),
     };
-    match write(output, texts.as_slice()) {
+    let Ok(made) = in_colours(alloc, style.colours, texts) else {
+        return Err(NotMade::OutOfMemory);
+    };
+    match write(output, made.as_slice()) {
         Ok(()) => Ok(0),
         Err(_) => Err(NotMade::Unwritten),
     }
@@ -197,7 +205,7 @@ fn write_texts<W: Write>(
 #[tactic(auto, using(crate::proofs::Blocks::printed_written, crate::proofs::Blocks::printed_begun))]
 fn write_printed<W: Write>(
     alloc: Global,
-    printout: Printout<'_>,
+    printing: Printing<'_>,
     count: usize,
     place: usize,
     block: &[u8],
@@ -205,16 +213,20 @@ fn write_printed<W: Write>(
 ) -> Result<usize, NotMade>
     requires count { count + length block.now < 2 ^ 64 }
     requires place { place + length block.now < 2 ^ 64 }
-    ensures written { IfOk result (WritesMade (WritesOf (streaming.Print printout.entry) count place) block.now (W.contents output.old) (W.contents output.new)) }
-    ensures refused { IfErr result (IsNotMade (MayRefuse (streaming.Print printout.entry)) (WritesOf (streaming.Print printout.entry) count place) block.now block.now
+    ensures written { IfOk result (WritesMade (WritesOf (streaming.Print printing.entry) count place) block.now (W.contents output.old) (W.contents output.new)) }
+    ensures refused { IfErr result (IsNotMade (MayRefuse (streaming.Print printing.entry)) (WritesOf (streaming.Print printing.entry) count place) block.now block.now
         (W.contents output.old) (W.contents output.new)) }
 {
-    let Ok(printed) = show_pods(alloc, printout, count, place, block) else {
+    let Ok(printed) = show_pods(alloc, printing.printout, count, place, block) else {
         // What the whole pods that a block consists of are printed as is there, unless memory runs out.
         return Err(NotMade::OutOfMemory);
     };
-    match write(output, printed.bytes.as_slice()) {
-        Ok(()) => Ok(printed.refused),
+    let Printed { bytes, refused } = printed;
+    let Ok(made) = in_colours(alloc, printing.colours, bytes) else {
+        return Err(NotMade::OutOfMemory);
+    };
+    match write(output, made.as_slice()) {
+        Ok(()) => Ok(refused),
         Err(_) => Err(NotMade::Unwritten),
     }
 }

@@ -1,7 +1,7 @@
 //! Rows of what `pod` does: standard input has a label, the program's words, what it is given and, where that is little, the room for
 //! what it writes on each line, and standard output the status, what is said and what is written, behind the label.
 //!
-//! `%` among what is given is an input that can't be read. A file that is written stands behind what is written, with its name.
+//! The label of a run to a terminal begins with `terminal`. `%` among what is given is an input that can't be read. A file that is written stands behind what is written, with its name.
 #![tactic(auto)]
 
 use pod_commands::answer::tell;
@@ -34,6 +34,10 @@ impl Files for Spelt {
 
     fn open_file(&self, alloc: Global, name: &str) -> io::Result<Cursor<Vec<u8>>> {
         Ok(Cursor::new(self.read_file(alloc, name)?))
+    }
+
+    fn is_regular(&self, _name: &str) -> bool {
+        true
     }
 
     fn write_file(&mut self, name: &str, bytes: &[u8]) -> io::Result<()> {
@@ -79,15 +83,17 @@ fn answer_row(alloc: Global, row: &str, answers: &mut Vec<u8>) -> io::Result<()>
     let given = parts.next().unwrap_or("");
     let room = parts.next().and_then(|it| it.parse().ok()).unwrap_or(ROOM);
     write!(answers, "{label}: ")?;
-    answer_run(alloc, words, given, room, answers)
+    let is_terminal = label.starts_with("terminal");
+    answer_run(alloc, words, given, room, is_terminal, answers)
 }
 
-/// Adds the status of a run, what it says, and what it writes into this room: pods as words.
+/// Adds the status of a run, to a terminal or not, what it says, and what it writes into this room: pods as words.
 fn answer_run(
     alloc: Global,
     words: &str,
     given: &str,
     room: usize,
+    is_terminal: bool,
     answers: &mut Vec<u8>,
 ) -> io::Result<()> {
     let words = words_of(alloc, words)?;
@@ -103,7 +109,14 @@ fn answer_run(
     let mut files = Spelt { written: kept };
     let mut written = [0; ROOM];
     let device = Device::new(&mut written[..room.min(ROOM)], ALL);
-    let (answer, mut device) = run(alloc, words.as_slice(), &mut input, &mut files, device);
+    let (answer, mut device) = run(
+        alloc,
+        words.as_slice(),
+        &mut input,
+        &mut files,
+        device,
+        is_terminal,
+    );
     let mut said = [0; ROOM];
     let mut faults = Device::new(&mut said, ALL);
     tell(&mut device, &mut faults, &answer)?;

@@ -8,3 +8,5 @@ mod shown;
 mod streamed;
 #[cfg(test)]
 mod streams;
+#[cfg(test)]
+mod twice;

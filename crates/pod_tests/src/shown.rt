@@ -18,7 +18,14 @@ fn shows(
     wanted: Wanted<'_>,
 ) -> Result<bool, AllocError> {
     let device = Device::new(room, ALL);
-    let (answer, mut device) = run(rt.alloc(), &["show"], &mut source, &mut Broken, device);
+    let (answer, mut device) = run(
+        rt.alloc(),
+        &["show"],
+        &mut source,
+        &mut Broken,
+        device,
+        false,
+    );
     let mut line = [0; 100];
     let mut faults = Device::new(&mut line, PIECE);
     let is_told = tell(&mut device, &mut faults, &answer).is_ok();

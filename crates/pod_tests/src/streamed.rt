@@ -34,7 +34,7 @@ fn streams(
 ) -> Result<bool, AllocError> {
     let device = Device::new(room, ALL);
     let words = [word, "--stream"];
-    let (answer, mut device) = run(rt.alloc(), &words, &mut source, &mut Broken, device);
+    let (answer, mut device) = run(rt.alloc(), &words, &mut source, &mut Broken, device, false);
     let mut line = [0; 200];
     let mut faults = Device::new(&mut line, PIECE);
     let is_told = tell(&mut device, &mut faults, &answer).is_ok();

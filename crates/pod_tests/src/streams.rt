@@ -26,6 +26,10 @@ impl Files for Broken {
         Err(refused(name))
     }
 
+    fn is_regular(&self, _name: &str) -> bool {
+        false
+    }
+
     fn write_file(&mut self, _name: &str, _bytes: &[u8]) -> io::Result<()> {
         Err(Error::from(ErrorKind::NotFound))
     }
@@ -66,7 +70,7 @@ fn assert_run(
         Device::unflushed(room, PIECE)
     };
     let mut faults = Device::new(line_room, PIECE);
-    let (answer, mut output) = run(alloc, &*words, &mut input, &mut Broken, device);
+    let (answer, mut output) = run(alloc, &*words, &mut input, &mut Broken, device, false);
     // Where the line can't be written, nothing changes.
     let _ = tell(&mut output, &mut faults, &answer);
     let line = if faults.taken() == INPUT_WANTING.as_bytes() {

@@ -1,6 +1,6 @@
 use Rattle.std.proofs.Common.{◌∷◌, ◌∙◌, ◌+◌, ap, drop, sym}
-use Rattle.pod_commands.proofs.Made.{next_left, none_left}
-use Rattle.pod_commands.proofs.Told.{begins, ends, further}
+use Rattle.pod_commands.proofs.Made.{next_left}
+use Rattle.pod_commands.proofs.Told.{begins, further}
 use Rattle.pod_commands.proofs.answer.tell_pods.Goals as goal
 
 pub loop-pod-init : goal.loop-pod-init

@@ -1,4 +1,4 @@
-use Rattle.std.proofs.Common.{◌≡◌, ℕ, List, [], get_or, inl, refl, subst}
+use Rattle.std.proofs.Common.{ℕ, List, [], get_or, inl, refl, subst}
 use Rattle.std.specs.Borrow.{Bor}
 use Rattle.pod_commands.specs.Answers.{IsUnread}
 use Rattle.pod_commands.specs.Working.{WorksOn}

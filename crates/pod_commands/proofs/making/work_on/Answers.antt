@@ -1,4 +1,4 @@
-use Rattle.std.proofs.Common.{◌≡◌, ◌∙◌, ◌++◌, ap, subst, sym}
+use Rattle.std.proofs.Common.{◌∙◌, ◌++◌, ap, subst, sym}
 use Rattle.spa_refusals.specs.Several.{AreRefused, AreSaid}
 use Rattle.pod_commands.proofs.Worked.{all_refused}
 use Rattle.pod_commands.proofs.making.work_on.Goals as goal

@@ -35,7 +35,7 @@ returns-in_default-options_of-clause-nothing c =
     c.in_ok-matches.ensures.matches c.in-Some.ensures.name c.in-Some.ensures.rows in
     record {
       accepted = no_fault app ws c.in_ok-command.ensures c.in_ok-matches.ensures.kinds;
-      nothing = inr (c.in-Some.name.now, rows_of (found_of c.in-Some.given.now), found, c.in_default-options_of.ensures.no_number);
+      nothing = inr (c.in-Some.name.now, rows_of (found_of c.in-Some.given.now), found, c.in_default-options_of.ensures.none);
     }
 
 pub returns-clause-asked : goal.returns-clause-asked

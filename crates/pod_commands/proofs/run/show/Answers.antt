@@ -5,7 +5,7 @@ use Rattle.pod_commands.proofs.run.show.Goals as goal
 pub returns-in-None : goal.returns-in-None
 returns-in-None g c =
     subst
-    (λ t. IsShown c.args.printout t c.write_as.result.0 (g.R.Read.remaining c.args.input.now) c.args.names.now
+    (λ t. IsShown c.args.printing t c.write_as.result.0 (g.R.Read.remaining c.args.input.now) c.args.names.now
     (outlet t (g.W.Write.contents c.args.device) (g.W.Write.contents c.write_as.result.1) (g.S.Files.holds c.args.files.now)
     (g.S.Files.holds c.write_as.new.files)))
     (sym c.in-None.is) c.write_as.ensures
@@ -13,7 +13,7 @@ returns-in-None g c =
 pub returns-in-Some : goal.returns-in-Some
 returns-in-Some g c =
     subst
-    (λ t. IsShown c.args.printout t c.show_in_file.result.0 (g.R.Read.remaining c.args.input.now) c.args.names.now
+    (λ t. IsShown c.args.printing t c.show_in_file.result.0 (g.R.Read.remaining c.args.input.now) c.args.names.now
     (outlet c.args.target (g.W.Write.contents c.args.device) (g.W.Write.contents c.show_in_file.result.1) (g.S.Files.holds c.args.files.now)
     (g.S.Files.holds c.show_in_file.new.files)))
     (sym c.in-Some.is) c.show_in_file.ensures

@@ -10,14 +10,14 @@ returns-in-Ok g c =
     (g.S.Files.holds c.answered.new.files) in
     let made = c.in-Ok.ensures.streamed in
     let lines = c.stream_all.new.output.items in
-    shown_in c.args.printout (g.R.Read.remaining c.args.input.now) c.args.names.now o lines made.0 c.in-Ok.refused c.shown.result c.answered.result.0 c.shown.ensures made.1
+    shown_in c.args.printing (g.R.Read.remaining c.args.input.now) c.args.names.now o lines made.0 c.in-Ok.refused c.shown.result c.answered.result.0 c.shown.ensures made.1
     (subst (λ z. Appends (Some z) (Some lines) made.0) c.new-printed.ensures.items made.2) c.answered.ensures.made
 
 pub returns-in-Err-Unwritten : goal.returns-in-Err-Unwritten
 returns-in-Err-Unwritten g c =
-    unshown_lines c.args.printout c.args.target (g.R.Read.remaining c.args.input.now) (g.S.Files.holds c.args.files.now) c.args.names.now (g.W.Write.contents c.args.device)
+    unshown_lines c.args.printing c.args.target (g.R.Read.remaining c.args.input.now) (g.S.Files.holds c.args.files.now) c.args.names.now (g.W.Write.contents c.args.device)
 
 pub returns : goal.returns
 returns g c =
-    unshown c.args.printout c.args.target (g.R.Read.remaining c.args.input.now) (g.S.Files.holds c.args.files.now) c.args.names.now (g.W.Write.contents c.args.device) _ _
+    unshown c.args.printing c.args.target (g.R.Read.remaining c.args.input.now) (g.S.Files.holds c.args.files.now) c.args.names.now (g.W.Write.contents c.args.device) _ _
     c.in-Err.why c.in-Err.ensures.broken

@@ -1,0 +1,185 @@
+-- Files that are read twice.
+use Rattle.std.proofs.Common.{◌≡◌, ◌∙◌, ◌∷◌, ◌++◌, [], ap, arith, inl, inr, refl, subst, sym, List, ℕ, Option, Some, None}
+use Rattle.std.specs.Prelude.{⊤, false, if◌then◌else◌}
+use Rattle.std.specs.Borrow.{Bor}
+use Rattle.std.specs.Str.{bytes_eq}
+use Rattle.spa_device.specs.Whole.{IsAllOf}
+use Rattle.spa_format.specs.Pod.{AreMembers}
+use Rattle.spa_format.specs.Tree.{Trees}
+use Rattle.spa_format.proofs.Refused.{refused_behind_members}
+use Rattle.spa_recordings.specs.Streaming.{EndsAtPod}
+use Rattle.spa_recordings.specs.declared.reading.Reading.{Reading}
+use Rattle.spa_recordings.specs.declared.reading.Reading.TheVariants.{Exact}
+use Rattle.pod_commands.specs.Answers.{AreFiles, IsMadeBy, IsUnknown, IsWrittenAs, MayReadTwice, Outlet, outlet}
+use Rattle.pod_commands.specs.Inputs.{AreMade, StopsAt, content_of, left_behind}
+use Rattle.pod_commands.specs.Making.{MakesAll}
+use Rattle.pod_commands.specs.Requests.{dash}
+use Rattle.pod_commands.specs.Streaming.{EndsIn, IsBroken, StreamsAs}
+use Rattle.pod_commands.specs.declared.answer.Answer.{Answer}
+use Rattle.pod_commands.specs.declared.answer.Answer.TheVariants.{Done, Differs, Passed, Shown, Refused, Misused, Said}
+use Rattle.pod_commands.specs.declared.answer.Failure.{Failure}
+use Rattle.pod_commands.specs.declared.answer.Failure.TheVariants.{Pods}
+use Rattle.pod_commands.specs.declared.request.Fate.{Fate}
+use Rattle.pod_commands.specs.declared.request.Fate.TheVariants.{Stops}
+use Rattle.pod_commands.specs.declared.request.Making.{Making}
+use Rattle.pod_commands.specs.declared.request.Making.TheVariants.{Rewrite}
+use Rattle.pod_commands.specs.declared.request.Streaming.TheVariants as streaming
+use Rattle.spa_refusals.specs.declared.refusal.Refusal.{Refusal}
+use Rattle.pod_commands.proofs.Running.{untouched}
+
+-- ---- Files stay as they are, whatever is left of the standard input
+
+of_file : (P : Option (List ℕ) → Type 0) (name : List ℕ) (r s : Option (List ℕ)) (holds : List ℕ → Option (List ℕ)) → bytes_eq name dash ≡ false →
+    P (content_of r holds name) → P (content_of s holds name)
+of_file P name r s holds e h =
+    subst (λ b. P (if b then s else holds name)) (sym e) (subst (λ b. P (if b then r else holds name)) e h)
+
+behind_file : (P : Option (List ℕ) → Type 0) (name : List ℕ) (r : Option (List ℕ)) → bytes_eq name dash ≡ false → P (left_behind r name) → P r
+behind_file P name r e h = subst (λ b. P (if b then None else r)) e h
+
+before_file : (P : Option (List ℕ) → Type 0) (name : List ℕ) (r : Option (List ℕ)) → bytes_eq name dash ≡ false → P r → P (left_behind r name)
+before_file P name r e h = subst (λ b. P (if b then None else r)) (sym e) h
+
+-- what is made of files, and is more
+pub made_of_files : (P Q : List ℕ → List ℕ → ℕ → Type 0) (r s : Option (List ℕ)) (holds : List ℕ → Option (List ℕ)) (names : List (Bor (List ℕ)))
+    (out : List ℕ) (n : ℕ) → ((input made : List ℕ) (i : ℕ) → P input made i → Q input made i) → AreFiles names → AreMade P r holds names out n →
+    AreMade Q s holds names out n
+made_of_files P Q r s holds [] out n more files h = h
+made_of_files P Q r s holds (x ∷ xs) out n more files h = (
+  h.0,
+  h.1,
+  h.2,
+  h.3,
+  h.4,
+  of_file (λ o. IsAllOf o h.0) x.now r s holds files.0 h.5,
+  more h.0 h.1 h.3 h.6,
+  h.7,
+  h.8,
+  before_file (λ o. AreMade Q o holds xs h.2 h.4) x.now s files.0
+      (made_of_files P Q r s holds xs h.2 h.4 more files.1 (behind_file (λ o. AreMade P o holds xs h.2 h.4) x.now r files.0 h.9)),
+)
+
+pub stops_at_files : (P : List ℕ → List ℕ → ℕ → Type 0) (S : List ℕ → List ℕ → List ℕ → Failure → Type 0) (r s : Option (List ℕ))
+    (holds : List ℕ → Option (List ℕ)) (names : List (Bor (List ℕ))) (out : List ℕ) (why : Failure) → AreFiles names →
+    StopsAt P S r holds names out why → StopsAt P S s holds names out why
+stops_at_files P S r s holds [] out why files h = absurd h
+stops_at_files P S r s holds (x ∷ xs) out why files (inl h) = inl (h.0, of_file (λ o. IsAllOf o h.0) x.now r s holds files.0 h.1, h.2)
+stops_at_files P S r s holds (x ∷ xs) out why files (inr h) =
+    inr (
+      h.0,
+      h.1,
+      h.2,
+      h.3,
+      of_file (λ o. IsAllOf o h.0) x.now r s holds files.0 h.4,
+      h.5,
+      h.6,
+      before_file (λ o. StopsAt P S o holds xs h.2 why) x.now s files.0
+          (stops_at_files P S r s holds xs h.2 why files.1 (behind_file (λ o. StopsAt P S o holds xs h.2 why) x.now r files.0 h.7)),
+    )
+
+-- ---- Nothing is made of what is checked, and no pod is counted
+
+none_checked : (r : Option (List ℕ)) (holds : List ℕ → Option (List ℕ)) (names : List (Bor (List ℕ))) (out : List ℕ) (n : ℕ) →
+    AreMade (StreamsAs streaming.Check) r holds names out n → (out ≡ []) × (n ≡ 0)
+none_checked r holds [] out n h = h
+none_checked r holds (x ∷ xs) out n h =
+    let t = none_checked (left_behind r x.now) holds xs h.2 h.4 h.9 in
+    let i = h.6.2 in
+    let j = t.1 in
+    let k = h.8 in
+    (h.7 ∙ ap (λ z. z ++ h.2) h.6.0 ∙ t.0, omega (arith, i, j, k))
+
+none_refused : (r : Option (List ℕ)) (holds : List ℕ → Option (List ℕ)) (names : List (Bor (List ℕ))) (out : List ℕ) (n : ℕ) →
+    AreMade (StreamsAs streaming.Rewrite) r holds names out n → n ≡ 0
+none_refused r holds [] out n h = h.1
+none_refused r holds (x ∷ xs) out n h =
+    let j = none_refused (left_behind r x.now) holds xs h.2 h.4 h.9 in
+    let i = h.6.1 in
+    let k = h.8 in
+    omega (arith, i, j, k)
+
+-- ---- What was accepted isn't refused, where it is known
+
+differs : (R : Type 0) (content : Option (List ℕ)) (first second out : List ℕ) (vs : Trees) (number place : ℕ) (read : List ℕ) → IsAllOf content first →
+    IsAllOf content second → AreMembers vs first → EndsAtPod R (StreamsAs streaming.Rewrite) second out number place read → content ≡ None
+differs R None first second out vs number place read f s m e = refl
+differs R (Some b) first second out vs number place read f s m e =
+    let made = e.made in
+    absurd (refused_behind_members made.made.0.0 vs made.first e.left made.made.0.1 e.ahead.some e.ahead.refused
+    (subst (AreMembers vs) (f ∙ sym s ∙ made.parts) m))
+
+pods_unknown : (r : Option (List ℕ)) (holds : List ℕ → Option (List ℕ)) (names : List (Bor (List ℕ))) (made out : List ℕ) (n : ℕ) (name : Bor (List ℕ))
+    (why : Refusal) → AreFiles names → AreMade (StreamsAs streaming.Check) r holds names made n →
+    StopsAt (StreamsAs streaming.Rewrite) (EndsIn streaming.Rewrite) r holds names out (Pods name why) → holds name.now ≡ None
+pods_unknown r holds [] made out n name why files m s = absurd s
+pods_unknown r holds (x ∷ xs) made out n name why files m (inl s) =
+    let d = differs ⊤ (content_of r holds x.now) m.0 s.0 out m.6.1.0 why.number why.place s.2.1 m.5 s.1 m.6.1.1 s.2.2 in
+    subst (λ z. holds z ≡ None) (sym s.2.0) (subst (λ b. (if b then r else holds x.now) ≡ None) files.0 d)
+pods_unknown r holds (x ∷ xs) made out n name why files m (inr s) =
+    pods_unknown (left_behind r x.now) holds xs m.2 s.2 m.4 name why files.1 m.9 s.7
+
+unknown : (r : Option (List ℕ)) (holds : List ℕ → Option (List ℕ)) (names : List (Bor (List ℕ))) (made out : List ℕ) (n : ℕ) (why : Failure) →
+    AreFiles names → AreMade (StreamsAs streaming.Check) r holds names made n →
+    StopsAt (StreamsAs streaming.Rewrite) (EndsIn streaming.Rewrite) r holds names out why → IsUnknown holds why
+unknown r holds names made out n (Pods name why) files m s = pods_unknown r holds names made out n name why files m s
+unknown r holds names made out n _ files m s = tt
+
+-- ---- The passes
+
+rewritten : (input out : List ℕ) (n : ℕ) → StreamsAs streaming.Rewrite input out n → MakesAll Exact Rewrite input out n
+rewritten input out n h = ((input, refl, h.0), h.1)
+
+pub read_again : (answer : Answer) (r s : Option (List ℕ)) (names : List (Bor (List ℕ))) (o : Outlet) (made : List ℕ) (n : ℕ) →
+    MayReadTwice Exact Rewrite names o.target → AreMade (StreamsAs streaming.Check) r o.before names made n →
+    IsWrittenAs streaming.Rewrite answer s names o → IsMadeBy Exact Stops Rewrite answer r names o
+read_again Done r s names o made n may m h =
+    inl (h.0, made_of_files (StreamsAs streaming.Rewrite) (MakesAll Exact Rewrite) s r o.before names h.0 0 rewritten may.files h.1, h.2)
+read_again (Shown k) r s names o made n may m h = absurd (h.0 (none_refused s o.before names h.1.0 k h.1.1))
+read_again (Refused why) r s names o made n may m h =
+    let none = none_checked r o.before names made n m in
+    let stops = stops_at_files (StreamsAs streaming.Rewrite) (EndsIn streaming.Rewrite) s r o.before names h.0.0 why may.files h.0.1 in
+    inr (
+      may,
+      inr record {
+        accepted =
+            subst (λ z. AreMade (StreamsAs streaming.Check) r o.before names z 0) none.0
+            (subst (AreMade (StreamsAs streaming.Check) r o.before names made) none.1 m);
+        broken = (h.0.0, stops, h.0.2);
+        changed = unknown r o.before names made h.0.0 n why may.files m stops;
+        no_file = h.1;
+      },
+    )
+read_again Differs r s names o made n may m h = absurd h
+read_again (Passed pods) r s names o made n may m h = absurd h
+read_again Misused r s names o made n may m h = absurd h
+read_again (Said error) r s names o made n may m h = absurd h
+
+pub read_once : (target : Option (Bor (List ℕ))) (r : Option (List ℕ)) (holds : List ℕ → Option (List ℕ)) (names : List (Bor (List ℕ)))
+    (old first last : Option (List ℕ)) (why : Failure) → MayReadTwice Exact Rewrite names target → IsBroken streaming.Check r holds names first last why →
+    IsMadeBy Exact Stops Rewrite (Refused why) r names (outlet target old old holds holds)
+read_once target r holds names old first last why may b = inr (may, inl ((b.0, b.1), untouched target old holds))
+
+-- which pass it is doesn't depend on how it is asked for
+pub as_asked : (reading : Reading) (fate : Fate) (making : Making) (answer : Answer) (r : Option (List ℕ)) (names : List (Bor (List ℕ))) (o : Outlet) →
+    fate ≡ Stops → MayReadTwice reading making names o.target → IsMadeBy Exact Stops Rewrite answer r names o →
+    IsMadeBy reading fate making answer r names o
+as_asked reading fate making answer r names o stops may h =
+    subst (λ z. IsMadeBy z fate making answer r names o) (sym may.exact)
+    (subst (λ z. IsMadeBy Exact z making answer r names o) (sym stops) (subst (λ z. IsMadeBy Exact Stops z answer r names o) (sym may.rewrite) h))
+
+pub as_rewritten : (reading : Reading) (making : Making) (names : List (Bor (List ℕ))) (target : Option (Bor (List ℕ))) →
+    MayReadTwice reading making names target → MayReadTwice Exact Rewrite names target
+as_rewritten reading making names target may = record { exact = refl; rewrite = refl; to_output = may.to_output; files = may.files }
+
+-- ---- Names, one after another
+
+-- where those that are left are files, all are
+abbrev pub AreFilesSoFar : (names left : List (Bor (List ℕ))) → Type 0
+AreFilesSoFar names left = AreFiles left → AreFiles names
+
+pub one_file_more : (names left behind : List (Bor (List ℕ))) (name : Bor (List ℕ)) → left ≡ name ∷ behind → bytes_eq name.now dash ≡ false →
+    AreFilesSoFar names left → AreFilesSoFar names behind
+one_file_more names left behind name e is so others = so (subst AreFiles (sym e) (is, others))
+
+pub all_files : (names left : List (Bor (List ℕ))) → left ≡ [] → AreFilesSoFar names left → AreFiles names
+all_files names left e so = so (subst AreFiles (sym e) tt)

@@ -1,9 +1,9 @@
 -- Texts that end with their first line.
-use Rattle.std.proofs.Common.{◌≡◌, ◌≢◌, ◌≤◌, ◌<◌, ℕ, ◌+◌, ◌-◌, List, [], ◌∷◌, ◌++◌, refl, sym, inl, inr, arith, length, take, ◌∙◌, ap, subst, length-append, append_assoc}
+use Rattle.std.proofs.Common.{◌≡◌, ◌≢◌, ◌≤◌, ℕ, ◌+◌, ◌-◌, List, [], ◌∷◌, ◌++◌, refl, sym, inl, inr, arith, length, take, ◌∙◌, ap, length-append, append_assoc}
 use Rattle.std.proofs.lemmas.Bool.Decides.{nat_tests}
-use Rattle.std.specs.Prelude.{◌⊎◌, Bool, true, false, ◌==◌, ◌&&◌, ◌||◌, if◌then◌else◌}
-use Rattle.json.specs.Ascii.{quote, backslash}
-use Rattle.spa_text_commands.specs.Extent.{BeginsText, Place, outside, within, escaped, behind_text, first_text, open_behind, place_behind}
+use Rattle.std.specs.Prelude.{◌⊎◌, true, false, ◌==◌, ◌&&◌, ◌||◌, if◌then◌else◌}
+use Rattle.json.specs.Ascii.{backslash}
+use Rattle.spa_text_commands.specs.Extent.{BeginsText, outside, within, escaped, behind_text, first_text, place_behind}
 use Rattle.spa_text_commands.specs.Splitting.{ClosesString}
 use Rattle.spa_text_commands.proofs.Extents.{Passed, one_passed, text_passed}
 

@@ -74,16 +74,19 @@ def memory(command, path):
             while piece := given.read(1 << 16):
                 child.stdin.write(piece)
         child.stdin.flush()
-        of_child = pathlib.Path(f"/proc/{child.pid}")
         left = bytearray(4)
         while True:
             fcntl.ioctl(child.stdin, termios.FIONREAD, left)
-            if not any(left) and (of_child / "stat").read_text(encoding="utf-8").rpartition(")")[2].split()[0] == "S":
+            if not any(left) and waits(child):
                 break
             time.sleep(0.01)
         found = memory_of(child)
         child.stdin.close()
     return found
+
+
+def waits(child):
+    return pathlib.Path(f"/proc/{child.pid}/stat").read_text(encoding="utf-8").rpartition(")")[2].split()[0] == "S"
 
 
 def memory_of(child):
@@ -95,7 +98,7 @@ def memory_before_output(command, path):
     """The same of a command that writes more than a pipe takes, once that is full and the command waits."""
     with subprocess.Popen(words_of(command, path), stdin=subprocess.DEVNULL, stdout=subprocess.PIPE, env=ENVIRONMENT) as child:
         left = bytearray(4)
-        while int.from_bytes(left, sys.byteorder) < 1 << 16:
+        while not (any(left) and waits(child)):
             time.sleep(0.01)
             fcntl.ioctl(child.stdout, termios.FIONREAD, left)
         found = memory_of(child)

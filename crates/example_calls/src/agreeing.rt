@@ -25,11 +25,7 @@ pub fn agreed(alloc: Global, ours: &[u8], theirs: &[u8]) -> Result<Vec<u8>, Filt
 }
 
 /// The sample rate on which two sides agree by the narrower rules of `negotiate_pods`, whose answer has plain values. None: the answer has none.
-pub fn agreed_rate(
-    alloc: Global,
-    ours: &[u8],
-    theirs: &[u8],
-) -> Result<Option<i32>, NegotiateError>
+pub fn agreed_rate(alloc: Global, ours: &[u8], theirs: &[u8]) -> Result<Option<i32>, NegotiateError>
     ensures accepted { OnOk result (BeginBoth ours.now theirs.now CanMeet) }
     ensures refused { IfErr result (OnNoMeeting (¬ (BeginBoth ours.now theirs.now CanMeet))) }
 {

@@ -18,7 +18,7 @@ use Rattle.spa_value.specs.declared.value.Value.{Value}
 use Rattle.spa_read.specs.Opening.{CountsShort}
 use Rattle.spa_bodies.specs.Reading.{MayLackMemory, TakesMemory}
 use Rattle.spa_bodies.specs.Refusing.{RefusesBody}
-use Rattle.spa_read.specs.Nesting.{IsAlike, IsReadUpTo, LacksKey, Reaches, Reads, RefusesBehind, RefusesIn, so_far, with_child}
+use Rattle.spa_read.specs.Nesting.{IsAlike, IsReadUpTo, LacksKey, Reaches, ReadsPods, RefusesBehind, RefusesIn, so_far, with_child}
 use Rattle.spa_read.specs.Reading.{OpensIn, StandsLeniently}
 use Rattle.spa_read.specs.Reading as lenient
 use Rattle.spa_read.specs.declared.inside.Inside.{Inside}
@@ -147,9 +147,9 @@ key_short_at false t i ps left here body rest o r some short =
 
 -- one more of them
 pub one_read : (m : Bool) (from i reached roomy to : Inside) (left now place body rest : List ℕ) (type opened before all : ℕ) (v : Tree) →
-    Reads m from left opened i now before → so_far reached ≡ so_far i → Reaches reached now place →
+    ReadsPods m from left opened i now before → so_far reached ≡ so_far i → Reaches reached now place →
     OpensIn m place type body rest → (type ≢ struct_type) × (type ≢ object_type) → type_of v ≡ type → IsBody v body →
-    IsAlike reached roomy → so_far to ≡ with_child roomy v → all ≡ before + 1 → Reads m from left opened to rest all
+    IsAlike reached roomy → so_far to ≡ with_child roomy v → all ≡ before + 1 → ReadsPods m from left opened to rest all
 one_read m from i reached roomy to left now place body rest type opened before all v h s x o n t b a g e =
     let grown : so_far to ≡ with_child reached v = g ∙ a.next v in
     let no_struct : type_of v ≢ struct_type = λ y. n.0 (sym t ∙ y) in
@@ -176,7 +176,7 @@ one_read m from i reached roomy to left now place body rest type opened before a
 -- Refusals behind them.
 
 pub refused_behind : (m : Bool) (from i reached : Inside) (left now place at : List ℕ) (opened before more all : ℕ) (why : Refusal) →
-    Reads m from left opened i now before → so_far reached ≡ so_far i → Reaches reached now place →
+    ReadsPods m from left opened i now before → so_far reached ≡ so_far i → Reaches reached now place →
     all ≡ before + more → RefusesIn m place at more why → RefusesBehind m (so_far from) left opened at all why
 refused_behind m from i reached left now place at opened before more all why h s x e q here body rest n o r c =
     let count = h.count in
@@ -186,21 +186,21 @@ refused_behind m from i reached left now place at opened before more all why h s
     (subst (λ t. IsReadUpTo m t body now) (sym s) (h.read body r)) (omega arith) q
 
 pub short_behind : (m : Bool) (from i reached : Inside) (left now place : List ℕ) (opened before all : ℕ) →
-    Reads m from left opened i now before → so_far reached ≡ so_far i → Reaches reached now place →
+    ReadsPods m from left opened i now before → so_far reached ≡ so_far i → Reaches reached now place →
     CountsShort place before all → RefusesBehind m (so_far from) left opened place all refusal.Short
 short_behind m from i reached left now place opened before all h s x c =
     refused_behind m from i reached left now place place opened before c.opened all refusal.Short h s x c.count
     (short_at m place before all c)
 
 pub leaf_behind : (m : Bool) (from i reached : Inside) (left now place body rest : List ℕ) (type opened before all : ℕ) (why : Refusal) →
-    Reads m from left opened i now before → so_far reached ≡ so_far i → Reaches reached now place →
+    ReadsPods m from left opened i now before → so_far reached ≡ so_far i → Reaches reached now place →
     OpensIn m place type body rest → (type ≢ struct_type) × (type ≢ object_type) → RefusesBody type body why →
     all ≡ before + 1 → RefusesBehind m (so_far from) left opened place all why
 leaf_behind m from i reached left now place body rest type opened before all why h s x o n q e =
     refused_behind m from i reached left now place place opened before 1 all why h s x e
     (leaf_at m place body rest type why o n.0 n.1 q)
 
-pub key_short_behind : (m : Bool) (from i : Inside) (left now : List ℕ) (opened before : ℕ) → Reads m from left opened i now before →
+pub key_short_behind : (m : Bool) (from i : Inside) (left now : List ℕ) (opened before : ℕ) → ReadsPods m from left opened i now before →
     now ≢ [] → LacksKey i now → RefusesBehind m (so_far from) left opened now before refusal.Short
 key_short_behind m from (inside.Struct vs) left now opened before h some l here body rest n o r c = absurd l
 key_short_behind m from (inside.Object p) left now opened before h some l here body rest n o r c =

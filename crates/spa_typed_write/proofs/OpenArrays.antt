@@ -5,7 +5,7 @@ use Rattle.std.proofs.lemmas.List.{drop-append-le, drop_at, length-take-le, take
 use Rattle.spa_format.specs.Words.{header_size, padding, size_limit, word_bytes}
 use Rattle.spa_format.specs.Encoding.{framed}
 use Rattle.spa_format.specs.Tree.{array_type}
-use Rattle.spa_typed_write.specs.Unfinished.{IsUnfinishedArray, UnfinishedArray, array_at, array_held}
+use Rattle.spa_typed_write.specs.Unfinished.{IsUnfinishedArray, UnfinishedArray, array_at, array_output_bytes}
 use Rattle.spa_format.proofs.Encodings.{two_words_length}
 
 -- what stands there once the two headers are appended
@@ -33,7 +33,7 @@ array_begun_is size left old child b k fits is =
     let body = ap (λ (w : UnfinishedArray). length w.body) at in
     record {
       room = omega (arith, ap length is, length-append old (head ++ child), length-append head child, two);
-      split = is ∙ sym (ap (array_held size) at ∙ ap (λ m. old ++ ((word_bytes (m + left * size) ++ word_bytes array_type) ++ child)) k);
+      split = is ∙ sym (ap (array_output_bytes size) at ∙ ap (λ m. old ++ ((word_bytes (m + left * size) ++ word_bytes array_type) ++ child)) k);
       fits = omega (arith, fits, body, k);
     }
 

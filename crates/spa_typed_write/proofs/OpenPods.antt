@@ -5,7 +5,7 @@ use Rattle.spa_format.specs.Words.{header_size, word_bytes}
 use Rattle.spa_format.specs.Encoding.{encoded_body, encoding_of, framed}
 use Rattle.spa_format.specs.Tree.{Tree, type_of}
 use Rattle.spa_bodies.specs.Written.{IsWholeSize, begun_length}
-use Rattle.spa_typed_write.specs.Unfinished.{IsUnfinished, Unfinished, held, unfinished_at}
+use Rattle.spa_typed_write.specs.Unfinished.{IsUnfinished, Unfinished, output_bytes, open_pod_at}
 use Rattle.spa_format.proofs.Encodings.{length-framed, two_words_length}
 use Rattle.spa_bodies.proofs.Frames.{sized_encoding}
 
@@ -15,7 +15,7 @@ behind_length a b t is = ap length is ∙ length-append a t
 
 -- what stands there once a header is appended
 pub begun_at : (type : ℕ) (old b : List ℕ) → b ≡ old ++ (word_bytes 0 ++ word_bytes type) →
-    unfinished_at type (length old) b ≡ record { type = type; before = old; body = [] }
+    open_pod_at type (length old) b ≡ record { type = type; before = old; body = [] }
 begun_at type old b is =
     let head = word_bytes 0 ++ word_bytes type in
     let size = two_words_length 0 type in
@@ -33,7 +33,7 @@ begun_is type old b is =
     let at = begun_at type old b is in
     record {
       room = omega (arith, ap length is, length-append old head, size);
-      split = is ∙ ap (λ l. old ++ l) (sym (append-nil head)) ∙ sym (ap held at);
+      split = is ∙ ap (λ l. old ++ l) (sym (append-nil head)) ∙ sym (ap output_bytes at);
       whole = rw (ap (λ (w : Unfinished). w.body) at) refl;
     }
 
@@ -56,7 +56,7 @@ pub grown_to : (type start : ℕ) (b t c : List ℕ) → IsUnfinished type start
 grown_to type start b t c h e is = subst (IsUnfinished type start) (sym is) (grown_is type start b t h e)
 
 pub grown_at : (type start : ℕ) (b t c : List ℕ) → IsUnfinished type start b → c ≡ b ++ t →
-    unfinished_at type start c ≡ record { type = type; before = take start b; body = drop (start + header_size) b ++ t }
+    open_pod_at type start c ≡ record { type = type; before = take start b; body = drop (start + header_size) b ++ t }
 grown_at type start b t c h is =
     let front : take start c ≡ take start b =
     ap (take start) is ∙ take-append-le start b t (omega (arith, h.room)) in
@@ -95,7 +95,7 @@ pub closed_there : (type start : ℕ) (b c : List ℕ) → IsUnfinished type sta
 closed_there type start b c h e =
     let old = take start b in
     let body = drop (start + header_size) b in
-    let all = held (unfinished_at type start b) in
+    let all = output_bytes (open_pod_at type start b) in
     let kept : length old ≡ start = length-take-le start b (omega (arith, h.room)) in
     let size : begun_length b start ≡ length body =
     omega (arith, h.room, length-drop (start + header_size) b) in

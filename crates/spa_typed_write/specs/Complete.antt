@@ -13,23 +13,25 @@ use Rattle.spa_bodies.specs.Written.{IsExtended, Refusing}
 abbrev pub Unwritable : Tree → GenError → Type 0
 Unwritable v = RefusedFor (HasNul v) (IsTooLarge v) (λ _. ⊥)
 
--- why a value isn't written behind the `held` bytes of an output of fixed size: it can't be written, or it doesn't fit
+-- why a value isn't written behind the first `used` bytes of an output of fixed size: it can't be written, or it doesn't fit
 abbrev pub RefusesAtLimit : ℕ → ℕ → Tree → GenError → Type 0
-RefusesAtLimit held limit v =
-    RefusedFor (HasNul v) (IsTooLarge v) (λ e. (e ≡ Full) × (limit < held + length (encoding_of v)))
+RefusesAtLimit used limit v =
+    RefusedFor (HasNul v) (IsTooLarge v) (λ e. (e ≡ Full) × (limit < used + length (encoding_of v)))
 
 -- The refusal of `n` bytes: a text in them holds NUL, a size doesn't fit a word of 32 bits, or the output as it was may refuse `n` bytes.
 -- It is a record, so that lemmas find its arguments.
 pub record RefusesBytes {S : Type 0} (refuses : Refusing S) (old : S) (nul large : Type 0) (n : ℕ) (e : GenError) : Type 0 where
   pub cause : RefusedFor nul large (λ _. ⊥) e ⊎ MayRefuse refuses old n e
 
--- the refusal of a value's encoding, of members' encodings and of properties
+-- why a value isn't written: it can't be written, or the output may refuse its bytes
 abbrev pub RefusesValue : {S : Type 0} → Refusing S → S → Tree → GenError → Type 0
 RefusesValue refuses old v = RefusesBytes refuses old (HasNul v) (IsTooLarge v) (length (encoding_of v))
 
+-- why members aren't written: one of them can't be written, or the output may refuse their bytes
 abbrev pub RefusesMembers : {S : Type 0} → Refusing S → S → Trees → GenError → Type 0
 RefusesMembers refuses old vs = RefusesBytes refuses old (SomeHasNul vs) (SomeTooLarge vs) (length (member_encodings vs))
 
+-- why properties aren't written: a value can't be written, or the output may refuse their bytes
 abbrev pub RefusesProperties : {S : Type 0} → Refusing S → S → Properties → GenError → Type 0
 RefusesProperties refuses old ps = RefusesBytes refuses old (SomeValueHasNul ps) (SomeValueTooLarge ps) (length (property_encodings ps))
 

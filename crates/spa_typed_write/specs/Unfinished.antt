@@ -12,9 +12,9 @@ pub record Unfinished : Type 0 where
   pub before : List ℕ
   pub body : List ℕ
 
--- the bytes of the output
-abbrev pub held : Unfinished → List ℕ
-held w = w.before ++ ((word_bytes 0 ++ word_bytes w.type) ++ w.body)
+-- the bytes of the output: those before the open pod, its header, and its body so far
+abbrev pub output_bytes : Unfinished → List ℕ
+output_bytes w = w.before ++ ((word_bytes 0 ++ word_bytes w.type) ++ w.body)
 
 -- these bytes were appended to the body so far; a writer that has failed takes none
 abbrev pub Grows : Option Unfinished → List ℕ → Option Unfinished → Type 0
@@ -28,9 +28,9 @@ pub record UnfinishedArray : Type 0 where
   pub body : List ℕ
   pub left : ℕ
 
--- the bytes of the output, where an element has `size` bytes
-abbrev pub array_held : ℕ → UnfinishedArray → List ℕ
-array_held size w = w.before ++ ((word_bytes (length w.body + w.left * size) ++ word_bytes array_type) ++ w.body)
+-- the bytes of the output: those before the open array, its header, and its body so far; an element has `size` bytes
+abbrev pub array_output_bytes : ℕ → UnfinishedArray → List ℕ
+array_output_bytes size w = w.before ++ ((word_bytes (length w.body + w.left * size) ++ word_bytes array_type) ++ w.body)
 
 -- one of the elements that were left was appended to the body so far
 abbrev pub GrowsByElement : Option UnfinishedArray → List ℕ → Option UnfinishedArray → Type 0
@@ -46,19 +46,19 @@ pub record MayRefuseBehind {S : Type 0} (content : S → List ℕ) (refuses : Re
   pub refused : MayRefuse refuses output n e
 
 -- the open struct or object of this type that begins at the offset `start` of these bytes
-abbrev pub unfinished_at : ℕ → ℕ → List ℕ → Unfinished
-unfinished_at type start b =
+abbrev pub open_pod_at : ℕ → ℕ → List ℕ → Unfinished
+open_pod_at type start b =
     record { type = type; before = take start b; body = drop (start + header_size) b }
 
 -- the open struct or object in an output; None where the output was given up
-abbrev pub unfinished : {S : Type 0} → (S → List ℕ) → ℕ → ℕ → Option S → Option Unfinished
-unfinished content type start None = None
-unfinished content type start (Some o) = Some (unfinished_at type start (content o))
+abbrev pub open_pod_in : {S : Type 0} → (S → List ℕ) → ℕ → ℕ → Option S → Option Unfinished
+open_pod_in content type start None = None
+open_pod_in content type start (Some o) = Some (open_pod_at type start (content o))
 
 -- at the offset `start` there is the header of an open struct or object of this type, and behind it a multiple of 8 bytes
 pub record IsUnfinished (type start : ℕ) (b : List ℕ) : Type 0 where
   pub room : start + header_size ≤ length b
-  pub split : b ≡ held (unfinished_at type start b)
+  pub split : b ≡ output_bytes (open_pod_at type start b)
   pub whole : IsWholeSize (length (drop (start + header_size) b))
 
 -- the open array that begins at the offset `start` of these bytes
@@ -67,12 +67,12 @@ array_at start left b =
     record { before = take start b; body = drop (start + header_size) b; left = left }
 
 -- the open array in an output; None where the output was given up
-abbrev pub unfinished_array : {S : Type 0} → (S → List ℕ) → ℕ → ℕ → Option S → Option UnfinishedArray
-unfinished_array content start left None = None
-unfinished_array content start left (Some o) = Some (array_at start left (content o))
+abbrev pub open_array_in : {S : Type 0} → (S → List ℕ) → ℕ → ℕ → Option S → Option UnfinishedArray
+open_array_in content start left None = None
+open_array_in content start left (Some o) = Some (array_at start left (content o))
 
 -- at the offset `start` there is the header of an open array whose elements have `size` bytes each, and its size word counts those that are left
 pub record IsUnfinishedArray (size start left : ℕ) (b : List ℕ) : Type 0 where
   pub room : start + header_size ≤ length b
-  pub split : b ≡ array_held size (array_at start left b)
+  pub split : b ≡ array_output_bytes size (array_at start left b)
   pub fits : length (drop (start + header_size) b) + left * size < size_limit

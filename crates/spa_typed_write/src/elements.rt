@@ -7,7 +7,7 @@ ghost use Rattle.spa_format.specs.Kind.{fixed_body};
 ghost use Rattle.spa_format.specs.Tree.{array_type};
 ghost use Rattle.spa_format.specs.Typed.{IsTypedFixed};
 ghost use Rattle.spa_format.specs.Words.{header_size, padding, size_limit, word_bytes};
-ghost use Rattle.spa_typed_write.specs.Unfinished.{GrowsByElement, MayRefuseBehind, array_held};
+ghost use Rattle.spa_typed_write.specs.Unfinished.{GrowsByElement, MayRefuseBehind, array_output_bytes};
 
 use crate::serializer::{PodSerializer, SerializeSuccess};
 use spa_bytes::{HEADER_LEN, joined, two_words};
@@ -27,11 +27,11 @@ pub struct ArrayPodSerializer<O: PodOutput, P: FixedSizedPod> {
 
 impl<O: PodOutput, P: FixedSizedPod> Model for ArrayPodSerializer<O, P> {
     ghost use Rattle.std.specs.Prelude.{IfSome, Option};
-    ghost use Rattle.spa_typed_write.specs.Unfinished.{IsUnfinishedArray, UnfinishedArray, unfinished_array};
+    ghost use Rattle.spa_typed_write.specs.Unfinished.{IsUnfinishedArray, UnfinishedArray, open_array_in};
 
     ghost Value = { Option UnfinishedArray };
 
-    ghost view = { λ w. unfinished_array O.content w.start w.left w.out };
+    ghost view = { λ w. open_array_in O.content w.start w.left w.out };
 
     ghost invariant = { λ w. IfSome w.out (λ o. IsUnfinishedArray P.CanonicalType.SIZE w.start w.left (O.content o)) };
 }
@@ -43,9 +43,13 @@ impl<O: PodOutput> PodSerializer<O> {
         self,
         length: u32,
     ) -> Result<ArrayPodSerializer<O, P>, GenError>
-        ensures begun { IfOk result (λ w. w ≡ Some (record { before = O.content self; body = word_bytes P.CanonicalType.SIZE ++ word_bytes P.CanonicalType.TYPE; left = length })) }
+        ensures begun { IfOk result
+            (λ w. w ≡ Some (record { before = O.content self; body = word_bytes P.CanonicalType.SIZE ++ word_bytes P.CanonicalType.TYPE; left = length })) }
         ensures fits { OnOk result (header_size + length * P.CanonicalType.SIZE < size_limit) }
-        ensures cause { IfErr result (λ e. ((e ≡ TooLarge) × (size_limit ≤ header_size + length * P.CanonicalType.SIZE)) ⊎ ((header_size + length * P.CanonicalType.SIZE < size_limit) × MayRefuse O.refuses self (header_size + header_size) e)) }
+        ensures cause { IfErr result
+            (λ e. ((e ≡ TooLarge) × (size_limit ≤ header_size + length * P.CanonicalType.SIZE))
+            ⊎ ((header_size + length * P.CanonicalType.SIZE < size_limit)
+            × MayRefuse O.refuses self (header_size + header_size) e)) }
     {
         let PodSerializer { mut out } = self;
         let size = HEADER_LEN as u64 + u64::from(length) * P::CanonicalType::SIZE as u64;
@@ -68,11 +72,15 @@ impl<O: PodOutput, P: FixedSizedPod> ArrayPodSerializer<O, P> {
     /// Writes the next element, and answers its size in bytes. Refused as `Failed` after a refusal, as `WrongCount` where no element is left,
     /// and else with the output's error where that refuses the element's body.
     pub fn serialize_element(&mut self, element: &P) -> Result<u64, GenError>
-        ensures element { OnOk result (GrowsByElement self.old (fixed_body (P.CanonicalType.fixed (P.to_canonical element.now))) self.new) }
+        ensures element { OnOk result (GrowsByElement self.old
+            (fixed_body (P.CanonicalType.fixed (P.to_canonical element.now))) self.new) }
         ensures count { IfOk result (λ count. count ≡ P.CanonicalType.SIZE) }
         ensures typed { OnOk result (IsTypedFixed (P.CanonicalType.fixed (P.to_canonical element.now))) }
         ensures failed { OnErr result (self.new ≡ None) }
-        ensures cause { IfErr result (λ e. MatchOption self.old (e ≡ Failed) (λ w. ((w.left ≡ 0) × (e ≡ WrongCount)) ⊎ ((0 < w.left) × MayRefuseBehind O.content O.refuses (array_held P.CanonicalType.SIZE w) P.CanonicalType.SIZE e))) }
+        ensures cause { IfErr result (λ e. MatchOption self.old (e ≡ Failed)
+            (λ w. ((w.left ≡ 0) × (e ≡ WrongCount))
+            ⊎ ((0 < w.left) × MayRefuseBehind O.content O.refuses
+            (array_output_bytes P.CanonicalType.SIZE w) P.CanonicalType.SIZE e))) }
     {
         let Some(mut out) = self.out.take() else {
             return Err(GenError::Failed);
@@ -90,10 +98,14 @@ impl<O: PodOutput, P: FixedSizedPod> ArrayPodSerializer<O, P> {
     /// refuses the padding.
     pub fn end(self) -> Result<SerializeSuccess<O>, GenError>
         ensures all { OnOk result (MatchOption self ⊥ (λ w. w.left ≡ 0)) }
-        ensures pod { IfOk result (λ s. MatchOption self ⊥ (λ w. O.content s.output ≡ w.before ++ framed array_type w.body)) }
+        ensures pod { IfOk result (λ s. MatchOption self ⊥
+            (λ w. O.content s.output ≡ w.before ++ framed array_type w.body)) }
         ensures count { IfOk result (λ s. MatchOption self ⊥ (λ w. s.count ≡ length (framed array_type w.body))) }
         ensures fits { OnOk result (MatchOption self ⊥ (λ w. length w.body < size_limit)) }
-        ensures cause { IfErr result (λ e. MatchOption self (e ≡ Failed) (λ w. ((0 < w.left) × (e ≡ WrongCount)) ⊎ ((w.left ≡ 0) × MayRefuseBehind O.content O.refuses (array_held P.CanonicalType.SIZE w) (length (padding (length w.body))) e))) }
+        ensures cause { IfErr result (λ e. MatchOption self (e ≡ Failed)
+            (λ w. ((0 < w.left) × (e ≡ WrongCount))
+            ⊎ ((w.left ≡ 0) × MayRefuseBehind O.content O.refuses (array_output_bytes P.CanonicalType.SIZE w)
+            (length (padding (length w.body))) e))) }
     {
         let ArrayPodSerializer {
             out,

@@ -95,7 +95,8 @@ pub(crate) fn write_elements<T: CanonicalFixedSizedPod, O: PodOutput>(
     out: &mut O,
     values: &[T],
 ) -> Result<(), GenError>
-    ensures written { OnOk result (IsWritten O.content O.refuses out.old (tree.array T.kind (map T.fixed values.now)) out.new) }
+    ensures written { OnOk result (IsWritten O.content O.refuses out.old
+        (tree.array T.kind (map T.fixed values.now)) out.new) }
     ensures refused { IfErr result (RefusesValue O.refuses out.old (tree.array T.kind (map T.fixed values.now))) }
 {
     put_elements(out, values)
@@ -106,7 +107,8 @@ pub(crate) fn write_alternatives<T: ChoiceElement, O: PodOutput>(
     out: &mut O,
     choice: &Choice<T>,
 ) -> Result<(), GenError>
-    ensures written { OnOk result (IsWritten O.content O.refuses out.old (choice_tree T.kind T.fixed choice.now) out.new) }
+    ensures written { OnOk result (IsWritten O.content O.refuses out.old
+        (choice_tree T.kind T.fixed choice.now) out.new) }
     ensures refused { IfErr result (RefusesValue O.refuses out.old (choice_tree T.kind T.fixed choice.now)) }
 {
     put_alternatives(out, choice)

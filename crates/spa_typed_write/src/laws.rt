@@ -25,8 +25,10 @@ pub fn values_are_written_where_they_fit<const N: usize>(
     ensures encoding { IfOk result (λ done. done.0.items ≡ out.entry.items ++ encoding_of (view value.now)) }
     ensures count { IfOk result (λ done. done.1 ≡ length (encoding_of (view value.now))) }
     ensures writable { IsOk result → IsWritable (view value.now) }
-    ensures room { IsWritable (view value.now) → length out.entry.items + length (encoding_of (view value.now)) ≤ N → IsOk result }
-    ensures cause { IfErr result (RefusedFor (HasNul (view value.now)) (IsTooLarge (view value.now)) (λ e. (e ≡ Full) × (N < length out.entry.items + length (encoding_of (view value.now))))) }
+    ensures room { IsWritable (view value.now) → length out.entry.items + length (encoding_of (view value.now)) ≤ N
+        → IsOk result }
+    ensures cause { IfErr result (RefusedFor (HasNul (view value.now)) (IsTooLarge (view value.now))
+        (λ e. (e ≡ Full) × (N < length out.entry.items + length (encoding_of (view value.now))))) }
 {
     PodSerializer::serialize(out, value)
 }
@@ -41,7 +43,8 @@ pub fn values_are_written_into_memory(
     ensures count { IfOk result (λ done. done.1 ≡ length (encoding_of (view value.now))) }
     ensures writable { IsOk result → IsWritable (view value.now) }
     ensures memory { IsWritable (view value.now) → IfErr result (λ e. e ≡ OutOfMemory) }
-    ensures cause { IfErr result (RefusedFor (HasNul (view value.now)) (IsTooLarge (view value.now)) (λ e. e ≡ OutOfMemory)) }
+    ensures cause { IfErr result (RefusedFor (HasNul (view value.now)) (IsTooLarge (view value.now))
+        (λ e. e ≡ OutOfMemory)) }
 {
     PodSerializer::<Vec<u8>>::serialize(out, value)
 }
@@ -52,8 +55,10 @@ pub fn pods_are_written_where_they_fit<P: PodSerialize, const N: usize>(
     pod: &P,
 ) -> Result<(ArrayVec<u8, N>, u64), GenError>
     ensures encoding { IfOk result (λ done. done.0.items ≡ out.entry.items ++ encoding_of (P.value pod.now)) }
-    ensures room { ((e : GenError) → ¬ (P.refuses pod.now e)) → length out.entry.items + length (encoding_of (P.value pod.now)) ≤ N → IsOk result }
-    ensures full { ((e : GenError) → ¬ (P.refuses pod.now e)) → IfErr result (λ e. (e ≡ Full) × (N < length out.entry.items + length (encoding_of (P.value pod.now)))) }
+    ensures room { ((e : GenError) → ¬ (P.refuses pod.now e))
+        → length out.entry.items + length (encoding_of (P.value pod.now)) ≤ N → IsOk result }
+    ensures full { ((e : GenError) → ¬ (P.refuses pod.now e))
+        → IfErr result (λ e. (e ≡ Full) × (N < length out.entry.items + length (encoding_of (P.value pod.now)))) }
 {
     PodSerializer::serialize(out, pod)
 }
@@ -69,7 +74,8 @@ pub fn declared_pods_are_written_where_they_fit<P: SerializeAs, const N: usize>(
     ensures count { IfOk result (λ done. done.1 ≡ length (encoding_of (P.says pod.now))) }
     ensures typed { IsOk result → IsTyped (P.says pod.now) }
     ensures writable { IsOk result → IsWritable (P.says pod.now) }
-    ensures room { IsWritable (P.says pod.now) → length out.entry.items + length (encoding_of (P.says pod.now)) ≤ N → IsOk result }
+    ensures room { IsWritable (P.says pod.now) → length out.entry.items + length (encoding_of (P.says pod.now)) ≤ N
+        → IsOk result }
     ensures cause { IfErr result (RefusesAtLimit (length out.entry.items) N (P.says pod.now)) }
 {
     PodSerializer::serialize(out, pod)

@@ -78,8 +78,10 @@ fn write_property<A: ExactSerialize, R: SerializeProperties, O: PodOutput>(
     value: &A,
     others: &R,
 ) -> Result<(), GenError>
-    ensures written { OnOk result (ArePropertiesWritten O.content O.refuses out.old (property key 0 (A.value value.now) (R.properties others.now)) out.new) }
-    ensures refused { IfErr result (RefusesProperties O.refuses out.old (property key 0 (A.value value.now) (R.properties others.now))) }
+    ensures written { OnOk result (ArePropertiesWritten O.content O.refuses out.old
+        (property key 0 (A.value value.now) (R.properties others.now)) out.new) }
+    ensures refused { IfErr result (RefusesProperties O.refuses out.old
+        (property key 0 (A.value value.now) (R.properties others.now))) }
 {
     if let Err(e) = put_two(out, key, 0) {
         return Err(e);
@@ -137,7 +139,8 @@ pub fn write_object<P: SerializeProperties, O: PodOutput>(
     id: u32,
     properties: &P,
 ) -> Result<(), GenError>
-    ensures written { OnOk result (IsWritten O.content O.refuses out.old (object type_ id (P.properties properties.now)) out.new) }
+    ensures written { OnOk result (IsWritten O.content O.refuses out.old
+        (object type_ id (P.properties properties.now)) out.new) }
     ensures refused { IfErr result (RefusesValue O.refuses out.old (object type_ id (P.properties properties.now))) }
 {
     let start = match begin(out, SpaTypes::Object.0) {
@@ -159,11 +162,13 @@ impl<O: PodOutput> PodSerializer<O> {
         self,
         members: &M,
     ) -> Result<SerializeSuccess<O>, GenError>
-        ensures encoding { IfOk result (λ s. O.content s.output ≡ O.content self ++ encoding_of (struct (M.members members.now))) }
+        ensures encoding { IfOk result
+            (λ s. O.content s.output ≡ O.content self ++ encoding_of (struct (M.members members.now))) }
         ensures count { IfOk result (λ s. s.count ≡ length (encoding_of (struct (M.members members.now)))) }
         ensures typed { OnOk result (IsTyped (struct (M.members members.now))) }
         ensures writable { OnOk result (IsWritable (struct (M.members members.now))) }
-        ensures cause { IfErr result (λ e. Unwritable (struct (M.members members.now)) e ⊎ MayRefuse O.refuses self (length (encoding_of (struct (M.members members.now)))) e) }
+        ensures cause { IfErr result (λ e. Unwritable (struct (M.members members.now)) e
+            ⊎ MayRefuse O.refuses self (length (encoding_of (struct (M.members members.now)))) e) }
     {
         let PodSerializer { mut out } = self;
         let start = out.len();
@@ -180,11 +185,14 @@ impl<O: PodOutput> PodSerializer<O> {
         id: u32,
         properties: &P,
     ) -> Result<SerializeSuccess<O>, GenError>
-        ensures encoding { IfOk result (λ s. O.content s.output ≡ O.content self ++ encoding_of (object type_ id (P.properties properties.now))) }
-        ensures count { IfOk result (λ s. s.count ≡ length (encoding_of (object type_ id (P.properties properties.now)))) }
+        ensures encoding { IfOk result
+            (λ s. O.content s.output ≡ O.content self ++ encoding_of (object type_ id (P.properties properties.now))) }
+        ensures count { IfOk result
+            (λ s. s.count ≡ length (encoding_of (object type_ id (P.properties properties.now)))) }
         ensures typed { OnOk result (IsTyped (object type_ id (P.properties properties.now))) }
         ensures writable { OnOk result (IsWritable (object type_ id (P.properties properties.now))) }
-        ensures cause { IfErr result (λ e. Unwritable (object type_ id (P.properties properties.now)) e ⊎ MayRefuse O.refuses self (length (encoding_of (object type_ id (P.properties properties.now)))) e) }
+        ensures cause { IfErr result (λ e. Unwritable (object type_ id (P.properties properties.now)) e
+            ⊎ MayRefuse O.refuses self (length (encoding_of (object type_ id (P.properties properties.now)))) e) }
     {
         let PodSerializer { mut out } = self;
         let start = out.len();

@@ -7,7 +7,7 @@ ghost use Rattle.spa_format.specs.Tree.{object_type, struct_type};
 ghost use Rattle.spa_format.specs.Typed.{IsTyped};
 ghost use Rattle.spa_format.specs.Words.{header_size, size_limit, word_bytes};
 ghost use Rattle.spa_format.specs.Writable.{IsWritable};
-ghost use Rattle.spa_typed_write.specs.Unfinished.{Grows, MayRefuseBehind, held};
+ghost use Rattle.spa_typed_write.specs.Unfinished.{Grows, MayRefuseBehind, output_bytes};
 
 use crate::open_pod::OpenPod;
 use crate::serializer::{PodSerialize, PodSerializer, SerializeSuccess};
@@ -51,7 +51,8 @@ impl<O: PodOutput> PodSerializer<O> {
     /// Begins a struct. Refused only with the output's error, where that refuses the 8 bytes of the header.
     #[inline(always)]
     pub fn serialize_struct(self) -> Result<StructPodSerializer<O>, GenError>
-        ensures begun { IfOk result (λ w. w ≡ Some (record { type = struct_type; before = O.content self; body = [] })) }
+        ensures begun { IfOk result
+            (λ w. w ≡ Some (record { type = struct_type; before = O.content self; body = [] })) }
         ensures cause { IfErr result (MayRefuse O.refuses self header_size) }
     {
         let PodSerializer { out } = self;
@@ -64,9 +65,12 @@ impl<O: PodOutput> PodSerializer<O> {
     /// the 8 bytes of type and id behind it.
     #[inline(always)]
     pub fn serialize_object(self, type_: u32, id: u32) -> Result<ObjectPodSerializer<O>, GenError>
-        ensures begun { IfOk result (λ w. w ≡ Some (record { type = object_type; before = O.content self; body = word_bytes type_ ++ word_bytes id })) }
+        ensures begun { IfOk result
+            (λ w. w ≡ Some (record { type = object_type; before = O.content self; body = word_bytes type_ ++ word_bytes id })) }
         ensures words { OnOk result ((type_ < size_limit) × (id < size_limit)) }
-        ensures cause { IfErr result (λ e. MayRefuse O.refuses self header_size e ⊎ MayRefuseBehind O.content O.refuses (O.content self ++ (word_bytes 0 ++ word_bytes object_type)) header_size e) }
+        ensures cause { IfErr result (λ e. MayRefuse O.refuses self header_size e
+            ⊎ MayRefuseBehind O.content O.refuses (O.content self ++
+            (word_bytes 0 ++ word_bytes object_type)) header_size e) }
     {
         let PodSerializer { out } = self;
         let mut pod = OpenPod::begin_pod(out, SpaTypes::Object.0)?;
@@ -85,7 +89,9 @@ impl<O: PodOutput> StructPodSerializer<O> {
         ensures typed { OnOk result (IsTyped (P.value field.now)) }
         ensures writable { OnOk result (IsWritable (P.value field.now)) }
         ensures failed { OnErr result (self.new ≡ None) }
-        ensures cause { IfErr result (λ e. MatchOption self.old (e ≡ Failed) (λ w. P.refuses field.now e ⊎ MayRefuseBehind O.content O.refuses (held w) (length (encoding_of (P.value field.now))) e)) }
+        ensures cause { IfErr result (λ e. MatchOption self.old (e ≡ Failed)
+            (λ w. P.refuses field.now e
+            ⊎ MayRefuseBehind O.content O.refuses (output_bytes w) (length (encoding_of (P.value field.now))) e)) }
     {
         self.pod.put(field)
     }
@@ -94,10 +100,12 @@ impl<O: PodOutput> StructPodSerializer<O> {
     /// never otherwise.
     #[inline(always)]
     pub fn end(self) -> Result<SerializeSuccess<O>, GenError>
-        ensures pod { IfOk result (λ s. MatchOption self ⊥ (λ w. O.content s.output ≡ w.before ++ framed w.type w.body)) }
+        ensures pod { IfOk result (λ s. MatchOption self ⊥
+            (λ w. O.content s.output ≡ w.before ++ framed w.type w.body)) }
         ensures count { IfOk result (λ s. MatchOption self ⊥ (λ w. s.count ≡ length (framed w.type w.body))) }
         ensures fits { OnOk result (MatchOption self ⊥ (λ w. length w.body < size_limit)) }
-        ensures cause { IfErr result (λ e. MatchOption self (e ≡ Failed) (λ w. (e ≡ TooLarge) × (size_limit ≤ length w.body))) }
+        ensures cause { IfErr result (λ e. MatchOption self (e ≡ Failed)
+            (λ w. (e ≡ TooLarge) × (size_limit ≤ length w.body))) }
     {
         let StructPodSerializer { pod } = self;
         pod.close()
@@ -115,13 +123,17 @@ impl<O: PodOutput> ObjectPodSerializer<O> {
         value: &P,
         flags: PropertyFlags,
     ) -> Result<u64, GenError>
-        ensures property { OnOk result (Grows self.old (word_bytes key ++ (word_bytes flags.0 ++ encoding_of (P.value value.now))) self.new) }
+        ensures property { OnOk result (Grows self.old
+            (word_bytes key ++ (word_bytes flags.0 ++ encoding_of (P.value value.now))) self.new) }
         ensures count { IfOk result (λ count. count ≡ header_size + length (encoding_of (P.value value.now))) }
         ensures words { OnOk result ((key < size_limit) × (flags.0 < size_limit)) }
         ensures typed { OnOk result (IsTyped (P.value value.now)) }
         ensures writable { OnOk result (IsWritable (P.value value.now)) }
         ensures failed { OnErr result (self.new ≡ None) }
-        ensures cause { IfErr result (λ e. MatchOption self.old (e ≡ Failed) (λ w. P.refuses value.now e ⊎ (MayRefuseBehind O.content O.refuses (held w) header_size e ⊎ MayRefuseBehind O.content O.refuses (held w ++ (word_bytes key ++ word_bytes flags.0)) (length (encoding_of (P.value value.now))) e))) }
+        ensures cause { IfErr result (λ e. MatchOption self.old (e ≡ Failed)
+            (λ w. P.refuses value.now e ⊎ (MayRefuseBehind O.content O.refuses (output_bytes w) header_size e
+            ⊎ MayRefuseBehind O.content O.refuses (output_bytes w ++ (word_bytes key ++ word_bytes flags.0))
+            (length (encoding_of (P.value value.now))) e))) }
     {
         self.pod.put_property(key, flags.bits(), value)
     }
@@ -130,10 +142,12 @@ impl<O: PodOutput> ObjectPodSerializer<O> {
     /// never otherwise.
     #[inline(always)]
     pub fn end(self) -> Result<SerializeSuccess<O>, GenError>
-        ensures pod { IfOk result (λ s. MatchOption self ⊥ (λ w. O.content s.output ≡ w.before ++ framed w.type w.body)) }
+        ensures pod { IfOk result (λ s. MatchOption self ⊥
+            (λ w. O.content s.output ≡ w.before ++ framed w.type w.body)) }
         ensures count { IfOk result (λ s. MatchOption self ⊥ (λ w. s.count ≡ length (framed w.type w.body))) }
         ensures fits { OnOk result (MatchOption self ⊥ (λ w. length w.body < size_limit)) }
-        ensures cause { IfErr result (λ e. MatchOption self (e ≡ Failed) (λ w. (e ≡ TooLarge) × (size_limit ≤ length w.body))) }
+        ensures cause { IfErr result (λ e. MatchOption self (e ≡ Failed)
+            (λ w. (e ≡ TooLarge) × (size_limit ≤ length w.body))) }
     {
         let ObjectPodSerializer { pod } = self;
         pod.close()

@@ -6,7 +6,7 @@ ghost use Rattle.spa_format.specs.Encoding.{encoding_of, framed};
 ghost use Rattle.spa_format.specs.Typed.{IsTyped};
 ghost use Rattle.spa_format.specs.Words.{header_size, size_limit, word_bytes};
 ghost use Rattle.spa_format.specs.Writable.{IsWritable};
-ghost use Rattle.spa_typed_write.specs.Unfinished.{Grows, MayRefuseBehind, held};
+ghost use Rattle.spa_typed_write.specs.Unfinished.{Grows, MayRefuseBehind, output_bytes};
 
 use crate::serializer::{PodSerialize, PodSerializer, SerializeSuccess};
 use spa_bodies::{begin, close};
@@ -23,11 +23,11 @@ pub(crate) struct OpenPod<O: PodOutput> {
 
 impl<O: PodOutput> Model for OpenPod<O> {
     ghost use Rattle.std.specs.Prelude.{IfSome, Option};
-    ghost use Rattle.spa_typed_write.specs.Unfinished.{IsUnfinished, Unfinished, unfinished};
+    ghost use Rattle.spa_typed_write.specs.Unfinished.{IsUnfinished, Unfinished, open_pod_in};
 
     ghost Value = { Option Unfinished };
 
-    ghost view = { λ w. unfinished O.content w.type_ w.start w.out };
+    ghost view = { λ w. open_pod_in O.content w.type_ w.start w.out };
 
     ghost invariant = { λ w. IfSome w.out (λ o. IsUnfinished w.type_ w.start (O.content o)) };
 }
@@ -53,7 +53,8 @@ impl<O: PodOutput> OpenPod<O> {
         ensures grown { OnOk result (Grows self.old (word_bytes first ++ word_bytes second) self.new) }
         ensures words { OnOk result ((first < size_limit) × (second < size_limit)) }
         ensures failed { OnErr result (self.new ≡ None) }
-        ensures cause { IfErr result (λ e. MatchOption self.old (e ≡ Failed) (λ w. MayRefuseBehind O.content O.refuses (held w) header_size e)) }
+        ensures cause { IfErr result (λ e. MatchOption self.old (e ≡ Failed)
+            (λ w. MayRefuseBehind O.content O.refuses (output_bytes w) header_size e)) }
     {
         let Some(mut out) = self.out.take() else {
             return Err(GenError::Failed);
@@ -71,7 +72,9 @@ impl<O: PodOutput> OpenPod<O> {
         ensures typed { OnOk result (IsTyped (P.value value.now)) }
         ensures writable { OnOk result (IsWritable (P.value value.now)) }
         ensures failed { OnErr result (self.new ≡ None) }
-        ensures cause { IfErr result (λ e. MatchOption self.old (e ≡ Failed) (λ w. P.refuses value.now e ⊎ MayRefuseBehind O.content O.refuses (held w) (length (encoding_of (P.value value.now))) e)) }
+        ensures cause { IfErr result (λ e. MatchOption self.old (e ≡ Failed)
+            (λ w. P.refuses value.now e
+            ⊎ MayRefuseBehind O.content O.refuses (output_bytes w) (length (encoding_of (P.value value.now))) e)) }
     {
         let Some(out) = self.out.take() else {
             return Err(GenError::Failed);
@@ -89,13 +92,17 @@ impl<O: PodOutput> OpenPod<O> {
         flags: u32,
         value: &P,
     ) -> Result<u64, GenError>
-        ensures property { OnOk result (Grows self.old (word_bytes key ++ (word_bytes flags ++ encoding_of (P.value value.now))) self.new) }
+        ensures property { OnOk result (Grows self.old
+            (word_bytes key ++ (word_bytes flags ++ encoding_of (P.value value.now))) self.new) }
         ensures count { IfOk result (λ count. count ≡ header_size + length (encoding_of (P.value value.now))) }
         ensures words { OnOk result ((key < size_limit) × (flags < size_limit)) }
         ensures typed { OnOk result (IsTyped (P.value value.now)) }
         ensures writable { OnOk result (IsWritable (P.value value.now)) }
         ensures failed { OnErr result (self.new ≡ None) }
-        ensures cause { IfErr result (λ e. MatchOption self.old (e ≡ Failed) (λ w. P.refuses value.now e ⊎ (MayRefuseBehind O.content O.refuses (held w) header_size e ⊎ MayRefuseBehind O.content O.refuses (held w ++ (word_bytes key ++ word_bytes flags)) (length (encoding_of (P.value value.now))) e))) }
+        ensures cause { IfErr result (λ e. MatchOption self.old (e ≡ Failed)
+            (λ w. P.refuses value.now e ⊎ (MayRefuseBehind O.content O.refuses (output_bytes w) header_size e
+            ⊎ MayRefuseBehind O.content O.refuses (output_bytes w ++ (word_bytes key ++ word_bytes flags))
+            (length (encoding_of (P.value value.now))) e))) }
     {
         let Some(mut out) = self.out.take() else {
             return Err(GenError::Failed);
@@ -111,10 +118,12 @@ impl<O: PodOutput> OpenPod<O> {
     /// Closes the pod: writes its size word. Refused as `Failed` after a refusal, and as `TooLarge` where the body has 4294967296 bytes or more.
     #[inline(always)]
     pub(crate) fn close(self) -> Result<SerializeSuccess<O>, GenError>
-        ensures pod { IfOk result (λ s. MatchOption self ⊥ (λ w. O.content s.output ≡ w.before ++ framed w.type w.body)) }
+        ensures pod { IfOk result (λ s. MatchOption self ⊥
+            (λ w. O.content s.output ≡ w.before ++ framed w.type w.body)) }
         ensures count { IfOk result (λ s. MatchOption self ⊥ (λ w. s.count ≡ length (framed w.type w.body))) }
         ensures fits { OnOk result (MatchOption self ⊥ (λ w. length w.body < size_limit)) }
-        ensures cause { IfErr result (λ e. MatchOption self (e ≡ Failed) (λ w. (e ≡ TooLarge) × (size_limit ≤ length w.body))) }
+        ensures cause { IfErr result (λ e. MatchOption self (e ≡ Failed)
+            (λ w. (e ≡ TooLarge) × (size_limit ≤ length w.body))) }
     {
         let OpenPod { out, start, .. } = self;
         let Some(mut out) = out else {

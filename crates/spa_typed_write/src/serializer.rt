@@ -28,7 +28,8 @@ pub trait PodSerialize {
         &self,
         serializer: PodSerializer<O>,
     ) -> Result<SerializeSuccess<O>, GenError>
-        ensures encoding { IfOk result (λ s. O.content s.output ≡ O.content serializer ++ encoding_of (value self.now)) }
+        ensures encoding { IfOk result
+            (λ s. O.content s.output ≡ O.content serializer ++ encoding_of (value self.now)) }
         ensures count { IfOk result (λ s. s.count ≡ length (encoding_of (value self.now))) }
         ensures typed { OnOk result (IsTyped (value self.now)) }
         ensures writable { OnOk result (IsWritable (value self.now)) }
@@ -71,10 +72,12 @@ impl<O: PodOutput> PodSerializer<O> {
         ensures typed { OnOk result (IsTyped (P.value pod.now)) }
         ensures writable { OnOk result (IsWritable (P.value pod.now)) }
         // The encoding reads back as the value's normal form, whatever follows it.
-        ensures front { OnOk result ((r : List ℕ) → front_of (encoding_of (P.value pod.now) ++ r) ≡ encoding_of (P.value pod.now)) }
+        ensures front { OnOk result ((r : List ℕ)
+            → front_of (encoding_of (P.value pod.now) ++ r) ≡ encoding_of (P.value pod.now)) }
         ensures back { OnOk result (IsPod (encoding_of (P.value pod.now)) (normal_of (P.value pod.now))) }
         // It is refused as the type refuses the value, or as the output may refuse this many bytes.
-        ensures cause { IfErr result (λ e. P.refuses pod.now e ⊎ MayRefuse O.refuses out (length (encoding_of (P.value pod.now))) e) }
+        ensures cause { IfErr result (λ e. P.refuses pod.now e
+            ⊎ MayRefuse O.refuses out (length (encoding_of (P.value pod.now))) e) }
     {
         encodings_read_back();
         let SerializeSuccess { out, len } = pod.serialize(PodSerializer { out })?;

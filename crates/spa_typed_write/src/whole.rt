@@ -32,11 +32,15 @@ impl<O: PodOutput> PodSerializer<O> {
         self,
         pod: &P,
     ) -> Result<SerializeSuccess<O>, GenError>
-        ensures encoding { IfOk result (λ s. O.content s.output ≡ O.content self ++ encoding_of (tree.fixed (P.CanonicalType.fixed (P.to_canonical pod.now)))) }
-        ensures count { IfOk result (λ s. s.count ≡ length (encoding_of (tree.fixed (P.CanonicalType.fixed (P.to_canonical pod.now))))) }
+        ensures encoding { IfOk result
+            (λ s. O.content s.output ≡ O.content self ++ encoding_of
+            (tree.fixed (P.CanonicalType.fixed (P.to_canonical pod.now)))) }
+        ensures count { IfOk result
+            (λ s. s.count ≡ length (encoding_of (tree.fixed (P.CanonicalType.fixed (P.to_canonical pod.now))))) }
         ensures typed { OnOk result (IsTyped (tree.fixed (P.CanonicalType.fixed (P.to_canonical pod.now)))) }
         ensures writable { OnOk result (IsWritable (tree.fixed (P.CanonicalType.fixed (P.to_canonical pod.now)))) }
-        ensures cause { IfErr result (MayRefuse O.refuses self (length (encoding_of (tree.fixed (P.CanonicalType.fixed (P.to_canonical pod.now)))))) }
+        ensures cause { IfErr result (MayRefuse O.refuses self
+            (length (encoding_of (tree.fixed (P.CanonicalType.fixed (P.to_canonical pod.now)))))) }
     {
         let PodSerializer { mut out } = self;
         let start = out.len();
@@ -47,11 +51,14 @@ impl<O: PodOutput> PodSerializer<O> {
     /// Writes a text. Refused as `NulInText` where it holds NUL, as `TooLarge` where it has 4294967295 bytes or more,
     /// and else with the output's error where that refuses the encoding.
     pub fn serialize_string(self, text: &str) -> Result<SerializeSuccess<O>, GenError>
-        ensures encoding { IfOk result (λ s. O.content s.output ≡ O.content self ++ encoding_of (tree.string text.now)) }
+        ensures encoding { IfOk result
+            (λ s. O.content s.output ≡ O.content self ++ encoding_of (tree.string text.now)) }
         ensures count { IfOk result (λ s. s.count ≡ length (encoding_of (tree.string text.now))) }
         ensures typed { OnOk result (IsTyped (tree.string text.now)) }
         ensures writable { OnOk result (IsWritable (tree.string text.now)) }
-        ensures cause { IfErr result (λ e. RefusedFor (HasNul (tree.string text.now)) (IsTooLarge (tree.string text.now)) (λ _. ⊥) e ⊎ MayRefuse O.refuses self (length (encoding_of (tree.string text.now))) e) }
+        ensures cause { IfErr result
+            (λ e. RefusedFor (HasNul (tree.string text.now)) (IsTooLarge (tree.string text.now)) (λ _. ⊥) e
+            ⊎ MayRefuse O.refuses self (length (encoding_of (tree.string text.now))) e) }
     {
         let PodSerializer { mut out } = self;
         let start = out.len();
@@ -62,11 +69,14 @@ impl<O: PodOutput> PodSerializer<O> {
     /// Writes bytes. Refused as `TooLarge` where there are 4294967296 or more, and else with the output's error where that refuses
     /// the encoding.
     pub fn serialize_bytes(self, bytes: &[u8]) -> Result<SerializeSuccess<O>, GenError>
-        ensures encoding { IfOk result (λ s. O.content s.output ≡ O.content self ++ encoding_of (tree.bytes bytes.now)) }
+        ensures encoding { IfOk result
+            (λ s. O.content s.output ≡ O.content self ++ encoding_of (tree.bytes bytes.now)) }
         ensures count { IfOk result (λ s. s.count ≡ length (encoding_of (tree.bytes bytes.now))) }
         ensures typed { OnOk result (IsTyped (tree.bytes bytes.now)) }
         ensures writable { OnOk result (IsWritable (tree.bytes bytes.now)) }
-        ensures cause { IfErr result (λ e. RefusedFor (HasNul (tree.bytes bytes.now)) (IsTooLarge (tree.bytes bytes.now)) (λ _. ⊥) e ⊎ MayRefuse O.refuses self (length (encoding_of (tree.bytes bytes.now))) e) }
+        ensures cause { IfErr result
+            (λ e. RefusedFor (HasNul (tree.bytes bytes.now)) (IsTooLarge (tree.bytes bytes.now)) (λ _. ⊥) e
+            ⊎ MayRefuse O.refuses self (length (encoding_of (tree.bytes bytes.now))) e) }
     {
         let PodSerializer { mut out } = self;
         let start = out.len();
@@ -77,11 +87,14 @@ impl<O: PodOutput> PodSerializer<O> {
     /// Writes a bitmap of these bytes. Refused as `TooLarge` where there are 4294967296 or more, and else with the output's error where
     /// that refuses the encoding.
     pub fn serialize_bitmap(self, bytes: &[u8]) -> Result<SerializeSuccess<O>, GenError>
-        ensures encoding { IfOk result (λ s. O.content s.output ≡ O.content self ++ encoding_of (tree.bitmap bytes.now)) }
+        ensures encoding { IfOk result
+            (λ s. O.content s.output ≡ O.content self ++ encoding_of (tree.bitmap bytes.now)) }
         ensures count { IfOk result (λ s. s.count ≡ length (encoding_of (tree.bitmap bytes.now))) }
         ensures typed { OnOk result (IsTyped (tree.bitmap bytes.now)) }
         ensures writable { OnOk result (IsWritable (tree.bitmap bytes.now)) }
-        ensures cause { IfErr result (λ e. RefusedFor (HasNul (tree.bitmap bytes.now)) (IsTooLarge (tree.bitmap bytes.now)) (λ _. ⊥) e ⊎ MayRefuse O.refuses self (length (encoding_of (tree.bitmap bytes.now))) e) }
+        ensures cause { IfErr result
+            (λ e. RefusedFor (HasNul (tree.bitmap bytes.now)) (IsTooLarge (tree.bitmap bytes.now)) (λ _. ⊥) e
+            ⊎ MayRefuse O.refuses self (length (encoding_of (tree.bitmap bytes.now))) e) }
     {
         let PodSerializer { mut out } = self;
         let start = out.len();
@@ -95,11 +108,15 @@ impl<O: PodOutput> PodSerializer<O> {
         self,
         choice: &Choice<T>,
     ) -> Result<SerializeSuccess<O>, GenError>
-        ensures encoding { IfOk result (λ s. O.content s.output ≡ O.content self ++ encoding_of (choice_tree T.kind T.fixed choice.now)) }
+        ensures encoding { IfOk result
+            (λ s. O.content s.output ≡ O.content self ++ encoding_of (choice_tree T.kind T.fixed choice.now)) }
         ensures count { IfOk result (λ s. s.count ≡ length (encoding_of (choice_tree T.kind T.fixed choice.now))) }
         ensures typed { OnOk result (IsTyped (choice_tree T.kind T.fixed choice.now)) }
         ensures writable { OnOk result (IsWritable (choice_tree T.kind T.fixed choice.now)) }
-        ensures cause { IfErr result (λ e. RefusedFor (HasNul (choice_tree T.kind T.fixed choice.now)) (IsTooLarge (choice_tree T.kind T.fixed choice.now)) (λ _. ⊥) e ⊎ MayRefuse O.refuses self (length (encoding_of (choice_tree T.kind T.fixed choice.now))) e) }
+        ensures cause { IfErr result
+            (λ e. RefusedFor (HasNul (choice_tree T.kind T.fixed choice.now))
+            (IsTooLarge (choice_tree T.kind T.fixed choice.now)) (λ _. ⊥) e
+            ⊎ MayRefuse O.refuses self (length (encoding_of (choice_tree T.kind T.fixed choice.now))) e) }
     {
         let PodSerializer { mut out } = self;
         let start = out.len();
@@ -113,7 +130,8 @@ impl<O: PodOutput> PodSerializer<O> {
         type_: u32,
         address: u64,
     ) -> Result<SerializeSuccess<O>, GenError>
-        ensures encoding { IfOk result (λ s. O.content s.output ≡ O.content self ++ encoding_of (tree.pointer type_ address)) }
+        ensures encoding { IfOk result
+            (λ s. O.content s.output ≡ O.content self ++ encoding_of (tree.pointer type_ address)) }
         ensures count { IfOk result (λ s. s.count ≡ length (encoding_of (tree.pointer type_ address))) }
         ensures typed { OnOk result (IsTyped (tree.pointer type_ address)) }
         ensures writable { OnOk result (IsWritable (tree.pointer type_ address)) }

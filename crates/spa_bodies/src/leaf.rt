@@ -29,8 +29,10 @@ pub fn put_elements<T: CanonicalFixedSizedPod, S: PodSink>(
     values: &[T],
 ) -> Result<(), GenError>
     ensures put { OnOk result (IsPut S.appends sink.old (tree.array T.kind (map T.fixed values.now)) sink.new) }
-    ensures begun { OnErr result (Begun S.appends sink.old (encoding_of (tree.array T.kind (map T.fixed values.now))) sink.new) }
-    ensures refused { IfErr result (RefusesLeaf S.refuses sink.old (tree.array T.kind (map T.fixed values.now)) sink.new) }
+    ensures begun { OnErr result (Begun S.appends sink.old
+        (encoding_of (tree.array T.kind (map T.fixed values.now))) sink.new) }
+    ensures refused { IfErr result (RefusesLeaf S.refuses sink.old
+        (tree.array T.kind (map T.fixed values.now)) sink.new) }
 {
     put_array(sink, values)
 }
@@ -41,7 +43,8 @@ pub fn put_alternatives<T: ChoiceElement, S: PodSink>(
     choice: &Choice<T>,
 ) -> Result<(), GenError>
     ensures put { OnOk result (IsPut S.appends sink.old (choice_tree T.kind T.fixed choice.now) sink.new) }
-    ensures begun { OnErr result (Begun S.appends sink.old (encoding_of (choice_tree T.kind T.fixed choice.now)) sink.new) }
+    ensures begun { OnErr result (Begun S.appends sink.old
+        (encoding_of (choice_tree T.kind T.fixed choice.now)) sink.new) }
     ensures refused { IfErr result (RefusesLeaf S.refuses sink.old (choice_tree T.kind T.fixed choice.now) sink.new) }
 {
     put_choice(sink, choice)

@@ -33,7 +33,8 @@ pub fn put_text<S: PodSink>(sink: &mut S, text: &str) -> Result<(), GenError>
 pub fn put_clean_text<S: PodSink>(sink: &mut S, text: &str) -> Result<(), GenError>
     requires { IsWritable (tree.string text.now) }
     ensures put { OnOk result (IsPut S.appends sink.old (tree.string text.now) sink.new) }
-    ensures stops { IfErr result (λ e. Stops S.appends S.refuses sink.old (encoding_of (tree.string text.now)) sink.new e) }
+    ensures stops { IfErr result
+        (λ e. Stops S.appends S.refuses sink.old (encoding_of (tree.string text.now)) sink.new e) }
 {
     let bytes = text.as_bytes();
     let size = bytes.len() + 1;
@@ -76,7 +77,8 @@ fn put_body<S: PodSink>(sink: &mut S, type_: u32, bytes: &[u8]) -> Result<(), Ge
     ensures put { OnOk result (S.appends sink.old (framed type_ bytes.now) sink.new) }
     ensures fits { OnOk result (length bytes.now < size_limit) }
     ensures begun { OnErr result (Begun S.appends sink.old (framed type_ bytes.now) sink.new) }
-    ensures refused { IfErr result (RefusesPiece ⊥ (size_limit ≤ length bytes.now) (S.refuses sink.old (length (framed type_ bytes.now)) sink.new) sink.old sink.new) }
+    ensures refused { IfErr result (RefusesPiece ⊥ (size_limit ≤ length bytes.now)
+        (S.refuses sink.old (length (framed type_ bytes.now)) sink.new) sink.old sink.new) }
 {
     let Ok(size) = u32::try_from(bytes.len()) else {
         return Err(GenError::TooLarge);

@@ -20,7 +20,9 @@ pub(crate) fn kept<T: Element>(
     others: &[T],
     other: &Offer<'_, T>,
 ) -> Result<Vec<T>, AllocError>
-    ensures { IfOk result (λ kept. IsKept (OfferAdmits T.fixed other.now) (T.fixed first.now ∷ map T.fixed others.now) (map T.fixed kept.items)) }
+    ensures { IfOk result
+        (λ kept. IsKept (OfferAdmits T.fixed other.now) (T.fixed first.now ∷ map T.fixed others.now)
+        (map T.fixed kept.items)) }
 {
     if others.len() <= FEW && is_short(other) {
         return kept_of_few(alloc, first, others, other);
@@ -43,7 +45,9 @@ fn kept_of_few<T: Element>(
     others: &[T],
     other: &Offer<'_, T>,
 ) -> Result<Vec<T>, AllocError>
-    ensures { IfOk result (λ kept. IsKept (OfferAdmits T.fixed other.now) (T.fixed first.now ∷ map T.fixed others.now) (map T.fixed kept.items)) }
+    ensures { IfOk result
+        (λ kept. IsKept (OfferAdmits T.fixed other.now) (T.fixed first.now ∷ map T.fixed others.now)
+        (map T.fixed kept.items)) }
 {
     let mut values = Vec::new(alloc);
     keep_one(&mut values, first, other)?;
@@ -59,7 +63,8 @@ fn keep_one<T: Element>(
     value: &T,
     offer: &Offer<'_, T>,
 ) -> Result<(), AllocError>
-    ensures { OnOk result (IsOneMoreKept (OfferAdmits T.fixed offer.now) (T.fixed value.now) (map T.fixed values.old.items) (map T.fixed values.new.items)) }
+    ensures { OnOk result (IsOneMoreKept (OfferAdmits T.fixed offer.now) (T.fixed value.now)
+        (map T.fixed values.old.items) (map T.fixed values.new.items)) }
 {
     if !admits(offer, value) {
         return Ok(());
@@ -78,7 +83,9 @@ fn kept_of_many<T: Element>(
     others: &[T],
     other: &Offer<'_, T>,
 ) -> Result<Vec<T>, AllocError>
-    ensures { IfOk result (λ kept. IsKept (OfferAdmits T.fixed other.now) (T.fixed first.now ∷ map T.fixed others.now) (map T.fixed kept.items)) }
+    ensures { IfOk result
+        (λ kept. IsKept (OfferAdmits T.fixed other.now) (T.fixed first.now ∷ map T.fixed others.now)
+        (map T.fixed kept.items)) }
 {
     let index = index_of(alloc, other)?;
     let mut values = Vec::new(alloc);
@@ -100,7 +107,8 @@ fn keep<T: Element>(
 ) -> Result<(), AllocError>
     requires indexed { IsIndexed T.fixed offer.now index.now }
     requires seen { HasAll seen.old (map T.fixed values.old.items) }
-    ensures kept { OnOk result (IsOneMoreKept (OfferAdmits T.fixed offer.now) (T.fixed value.now) (map T.fixed values.old.items) (map T.fixed values.new.items)) }
+    ensures kept { OnOk result (IsOneMoreKept (OfferAdmits T.fixed offer.now) (T.fixed value.now)
+        (map T.fixed values.old.items) (map T.fixed values.new.items)) }
     ensures seen { OnOk result (HasAll seen.new (map T.fixed values.new.items)) }
 {
     if !admits_by(offer, index, value) {

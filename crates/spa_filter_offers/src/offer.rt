@@ -113,7 +113,8 @@ pub fn admits<T: Element>(offer: &Offer<'_, T>, x: &T) -> bool
 #[inline(never)]
 pub(crate) fn common_default<T: Element>(a: &Offer<'_, T>, b: &Offer<'_, T>, other: &T) -> T
     requires { OfferAdmits T.fixed a.now (T.fixed other.now) × OfferAdmits T.fixed b.now (T.fixed other.now) }
-    ensures { IsDefault (OfferAdmits T.fixed a.now) (OfferAdmits T.fixed b.now) (default_of T.fixed a.now) (default_of T.fixed b.now) (T.fixed result) }
+    ensures { IsDefault (OfferAdmits T.fixed a.now) (OfferAdmits T.fixed b.now) (default_of T.fixed a.now)
+        (default_of T.fixed b.now) (T.fixed result) }
 {
     let first = default_of(a);
     if admits(a, &first) && admits(b, &first) {

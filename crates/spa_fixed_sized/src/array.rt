@@ -113,11 +113,15 @@ pub fn put_array<T: CanonicalFixedSizedPod, S: PodSink>(
     sink: &mut S,
     values: &[T],
 ) -> Result<(), GenError>
-    ensures ok { OnOk result (S.appends sink.old (framed array_type (array_body T.kind (map T.fixed values.now))) sink.new) }
+    ensures ok { OnOk result (S.appends sink.old
+        (framed array_type (array_body T.kind (map T.fixed values.now))) sink.new) }
     ensures typed { OnOk result (AreOf T.kind (map T.fixed values.now)) }
     ensures fits { OnOk result (length (array_body T.kind (map T.fixed values.now)) < size_limit) }
-    ensures begun { OnErr result (Begun S.appends sink.old (framed array_type (array_body T.kind (map T.fixed values.now))) sink.new) }
-    ensures refused { IfErr result (RefusesPiece ⊥ (size_limit ≤ length (array_body T.kind (map T.fixed values.now))) (λ e. S.refuses sink.old (length (framed array_type (array_body T.kind (map T.fixed values.now)))) sink.new e) sink.old sink.new) }
+    ensures begun { OnErr result (Begun S.appends sink.old
+        (framed array_type (array_body T.kind (map T.fixed values.now))) sink.new) }
+    ensures refused { IfErr result (RefusesPiece ⊥ (size_limit ≤ length (array_body T.kind (map T.fixed values.now)))
+        (λ e. S.refuses sink.old (length
+        (framed array_type (array_body T.kind (map T.fixed values.now)))) sink.new e) sink.old sink.new) }
 {
     let Some(size) = body_len::<T>(HEADER_LEN, values.len()) else {
         return Err(GenError::TooLarge);

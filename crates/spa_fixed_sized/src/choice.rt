@@ -204,11 +204,22 @@ fn put_values<T: CanonicalFixedSizedPod, S: PodSink>(
     more: &[T],
 ) -> Result<(), GenError>
     requires { length first.now ≤ MOST_FIRST }
-    ensures ok { OnOk result (S.appends sink.old (framed choice_type (choice_body shape flags T.kind (map (λ x. T.fixed x.now) first.now ++ map T.fixed more.now))) sink.new) }
-    ensures typed { OnOk result ((flags < size_limit) × AreOf T.kind (map (λ x. T.fixed x.now) first.now ++ map T.fixed more.now)) }
-    ensures fits { OnOk result (length (choice_body shape flags T.kind (map (λ x. T.fixed x.now) first.now ++ map T.fixed more.now)) < size_limit) }
-    ensures begun { OnErr result (Begun S.appends sink.old (framed choice_type (choice_body shape flags T.kind (map (λ x. T.fixed x.now) first.now ++ map T.fixed more.now))) sink.new) }
-    ensures refused { IfErr result (RefusesPiece ⊥ (size_limit ≤ length (choice_body shape flags T.kind (map (λ x. T.fixed x.now) first.now ++ map T.fixed more.now))) (λ e. S.refuses sink.old (length (framed choice_type (choice_body shape flags T.kind (map (λ x. T.fixed x.now) first.now ++ map T.fixed more.now)))) sink.new e) sink.old sink.new) }
+    ensures ok { OnOk result (S.appends sink.old
+        (framed choice_type (choice_body shape flags T.kind (map
+        (λ x. T.fixed x.now) first.now ++ map T.fixed more.now))) sink.new) }
+    ensures typed { OnOk result ((flags < size_limit)
+        × AreOf T.kind (map (λ x. T.fixed x.now) first.now ++ map T.fixed more.now)) }
+    ensures fits { OnOk result (length (choice_body shape flags T.kind (map
+        (λ x. T.fixed x.now) first.now ++ map T.fixed more.now)) < size_limit) }
+    ensures begun { OnErr result (Begun S.appends sink.old
+        (framed choice_type (choice_body shape flags T.kind (map
+        (λ x. T.fixed x.now) first.now ++ map T.fixed more.now))) sink.new) }
+    ensures refused { IfErr result (RefusesPiece ⊥
+        (size_limit ≤ length (choice_body shape flags T.kind (map
+        (λ x. T.fixed x.now) first.now ++ map T.fixed more.now)))
+        (λ e. S.refuses sink.old (length
+        (framed choice_type (choice_body shape flags T.kind (map
+        (λ x. T.fixed x.now) first.now ++ map T.fixed more.now)))) sink.new e) sink.old sink.new) }
 {
     let first_len = first.len() * T::SIZE;
     let Some(size) = body_len::<T>(2 * HEADER_LEN + first_len, more.len()) else {
@@ -233,8 +244,12 @@ pub fn put_choice<T: ChoiceElement, S: PodSink>(
     ensures ok { OnOk result (S.appends sink.old (encoding_of (choice_tree T.kind T.fixed choice.now)) sink.new) }
     ensures typed { OnOk result (IsTyped (choice_tree T.kind T.fixed choice.now)) }
     ensures fits { OnOk result (length (encoded_body (choice_tree T.kind T.fixed choice.now)) < size_limit) }
-    ensures begun { OnErr result (Begun S.appends sink.old (encoding_of (choice_tree T.kind T.fixed choice.now)) sink.new) }
-    ensures refused { IfErr result (RefusesPiece ⊥ (size_limit ≤ length (encoded_body (choice_tree T.kind T.fixed choice.now))) (λ e. S.refuses sink.old (length (encoding_of (choice_tree T.kind T.fixed choice.now))) sink.new e) sink.old sink.new) }
+    ensures begun { OnErr result (Begun S.appends sink.old
+        (encoding_of (choice_tree T.kind T.fixed choice.now)) sink.new) }
+    ensures refused { IfErr result (RefusesPiece ⊥
+        (size_limit ≤ length (encoded_body (choice_tree T.kind T.fixed choice.now)))
+        (λ e. S.refuses sink.old (length
+        (encoding_of (choice_tree T.kind T.fixed choice.now))) sink.new e) sink.old sink.new) }
 {
     let flags = choice.0.bits();
     match &choice.1 {

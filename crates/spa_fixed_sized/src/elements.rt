@@ -99,10 +99,14 @@ pub(crate) fn put_parts<T: CanonicalFixedSizedPod, S: PodSink>(
     values: &[T],
     size: u32,
 ) -> Result<(), GenError>
-    ensures ok { OnOk result (S.appends sink.old (header.now ++ (fixed_bodies (map T.fixed values.now) ++ padding size)) sink.new) }
+    ensures ok { OnOk result (S.appends sink.old
+        (header.now ++ (fixed_bodies (map T.fixed values.now) ++ padding size)) sink.new) }
     ensures typed { OnOk result (AreOf T.kind (map T.fixed values.now)) }
-    ensures begun { OnErr result (Begun S.appends sink.old (header.now ++ (fixed_bodies (map T.fixed values.now) ++ padding size)) sink.new) }
-    ensures cause { IfErr result (λ e. S.refuses sink.old (length (header.now ++ (fixed_bodies (map T.fixed values.now) ++ padding size))) sink.new e) }
+    ensures begun { OnErr result (Begun S.appends sink.old
+        (header.now ++ (fixed_bodies (map T.fixed values.now) ++ padding size)) sink.new) }
+    ensures cause { IfErr result
+        (λ e. S.refuses sink.old (length
+        (header.now ++ (fixed_bodies (map T.fixed values.now) ++ padding size))) sink.new e) }
 {
     sink.append(header)?;
     put_elements(sink, values)?;

@@ -60,7 +60,8 @@ pub trait CanonicalFixedSizedPod: Sealed + Copy {
     final fn serialize_body<O: PodSink>(&self, out: &mut O) -> Result<(), GenError>
         ensures ok { OnOk result (O.appends out.old (fixed_body (fixed self.now)) out.new) }
         ensures typed { IsTypedFixed (fixed self.now) }
-        ensures begun { OnErr result ((count : ℕ) × O.appends out.old (take count (fixed_body (fixed self.now))) out.new) }
+        ensures begun { OnErr result ((count : ℕ)
+            × O.appends out.old (take count (fixed_body (fixed self.now))) out.new) }
         ensures cause { IfErr result (λ e. O.refuses out.old SIZE out.new e) }
     {
         out.append(&self.padded_body()[..Self::SIZE])
@@ -72,7 +73,8 @@ pub trait CanonicalFixedSizedPod: Sealed + Copy {
         ensures enough { OnOk result (SIZE ≤ length bytes.now) }
         ensures says { IfOk result (λ read. fixed read.1 ≡ content kind (take SIZE bytes.now)) }
         ensures rest { IfOk result (λ read. read.0.now ≡ drop SIZE bytes.now) }
-        ensures short { IfErr result (λ fault. (length bytes.now < SIZE) × (fault.input.now ≡ bytes.now) × (fault.kind ≡ fault_kind.Short)) }
+        ensures short { IfErr result (λ fault. (length bytes.now < SIZE) × (fault.input.now ≡ bytes.now)
+            × (fault.kind ≡ fault_kind.Short)) }
     {
         if bytes.len() < Self::SIZE {
             return Err(Fault {

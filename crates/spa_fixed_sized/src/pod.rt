@@ -19,8 +19,10 @@ pub fn put_fixed<T: CanonicalFixedSizedPod, S: PodSink>(
 ) -> Result<(), GenError>
     ensures ok { OnOk result (S.appends sink.old (framed T.TYPE (fixed_body (T.fixed value.now))) sink.new) }
     ensures typed { IsTypedFixed (T.fixed value.now) }
-    ensures begun { OnErr result ((count : ℕ) × S.appends sink.old (take count (framed T.TYPE (fixed_body (T.fixed value.now)))) sink.new) }
-    ensures cause { IfErr result (λ e. S.refuses sink.old (length (framed T.TYPE (fixed_body (T.fixed value.now)))) sink.new e) }
+    ensures begun { OnErr result ((count : ℕ)
+        × S.appends sink.old (take count (framed T.TYPE (fixed_body (T.fixed value.now)))) sink.new) }
+    ensures cause { IfErr result
+        (λ e. S.refuses sink.old (length (framed T.TYPE (fixed_body (T.fixed value.now)))) sink.new e) }
 {
     sink.append(&pod_bytes(value)[..extent_of(T::SIZE as u32)])
 }

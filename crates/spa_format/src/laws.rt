@@ -56,7 +56,8 @@ pub fn encodings_are_shortest()
 
 /// Two pods are rewritten to the same bytes exactly where they are pods of one value.
 pub fn same_rewriting_same_value()
-    ensures { (b c : List ℕ) (v w : Tree) → IsBytes b → IsBytes c → IsPod b v → IsPod c w → (encoding_of v ≡ encoding_of w) ↔ (v ≡ w) }
+    ensures { (b c : List ℕ) (v w : Tree) → IsBytes b → IsBytes c → IsPod b v → IsPod c w
+        → (encoding_of v ≡ encoding_of w) ↔ (v ≡ w) }
 {}
 
 /// Where a fault stands in an input, it is refused: its front isn't there, or is a pod of no value.
@@ -66,7 +67,8 @@ pub fn faults_refuse()
 
 /// Bytes aren't pods one after another where what is left of them behind their first members is refused.
 pub fn refused_members_refuse()
-    ensures { (vs ws : Trees) (first left : List ℕ) → AreMembers vs first → left ≢ [] → IsRefused left → ¬ (AreMembers ws (first ++ left)) }
+    ensures { (vs ws : Trees) (first left : List ℕ) → AreMembers vs first → left ≢ [] → IsRefused left
+        → ¬ (AreMembers ws (first ++ left)) }
 {}
 
 /// A pod of the version before, which had no bitmaps, is a pod of the same value and of no other, so it is rewritten to the same bytes.

@@ -29,6 +29,7 @@ pub fn lenient_rewritings_are_pods()
 
 /// Rewriting leniently what was rewritten leniently changes nothing, and on pods the lenient rewriting is the rewriting.
 pub fn lenient_rewritings_stay()
-    ensures stays { (b : List ℕ) (v w : Tree) → IsBytes b → Conveys b v → Conveys (encoding_of v) w → encoding_of w ≡ encoding_of v }
+    ensures stays { (b : List ℕ) (v w : Tree) → IsBytes b → Conveys b v → Conveys (encoding_of v) w
+        → encoding_of w ≡ encoding_of v }
     ensures same { (b : List ℕ) (v w : Tree) → IsPod b v → Conveys b w → encoding_of w ≡ encoding_of v }
 {}

@@ -69,7 +69,8 @@ fn values_behind(values: &[u8]) -> usize
 /// How many elements an array has, or how many values a choice takes.
 pub(crate) fn element_count(type_: u32, body: &[u8]) -> usize
     ensures count { result ≡ c.element_count type_ body.now }
-    ensures fit { let values = c.values_of type_ body.now in result * c.word_or values 0 ≤ length (drop header_size values) }
+    ensures fit { let values = c.values_of type_ body.now in result * c.word_or values 0 ≤ length
+        (drop header_size values) }
     ensures few { result ≤ length (drop header_size (c.values_of type_ body.now)) }
 {
     let count = values_behind(values_of(type_, body));

@@ -51,7 +51,8 @@ pub(crate) struct First<'a> {
 pub fn list_items(input: &[u8], out: &mut [Item]) -> Option<usize>
     ensures count { IfSome result (λ count. count ≡ length (items_of input.now)) }
     ensures items { IfSome result (λ _. out.new ≡ overlaid (items_of input.now) out.old) }
-    ensures shallow { IfSome result (λ _. (values : Trees) → AreMembers values input.now → member_depth values ≤ levels_looked_into) }
+    ensures shallow { IfSome result (λ _. (values : Trees) → AreMembers values input.now
+        → member_depth values ≤ levels_looked_into) }
     ensures deep { IfNone result (SomeOf (NestsDeeper levels_looked_into) (walk input.now)) }
     ensures unchanged { IfNone result (out.new ≡ out.old) }
 {
@@ -69,7 +70,8 @@ pub fn list_items(input: &[u8], out: &mut [Item]) -> Option<usize>
 
 /// Whether the nesting depth of each of the pods is at most 1000.
 fn nest_within_levels(pods: &[u8]) -> bool
-    ensures exactly { (values : Trees) → AreMembers values pods.now → Decides result (member_depth values ≤ levels_looked_into) }
+    ensures exactly { (values : Trees) → AreMembers values pods.now
+        → Decides result (member_depth values ≤ levels_looked_into) }
     ensures deeper { result ≡ false → SomeOf (NestsDeeper levels_looked_into) (walk pods.now) }
     ensures within { SomeOf (NestsDeeper levels_looked_into) (walk pods.now) → result ≡ false }
 {
@@ -102,7 +104,8 @@ fn list_pods(out: &mut [Item], start: usize, level: Level, pods: &[u8]) -> usize
     requires room { start + length pods.now < 2 ^ 64 }
     requires within { level.at + length pods.now < 2 ^ 63 }
     requires deep { level.depth + level.levels < 2 ^ 64 }
-    ensures put { ArePut start (items_in level.levels level.depth level.keyed level.at pods.now) out.old result out.new }
+    ensures put { ArePut start
+        (items_in level.levels level.depth level.keyed level.at pods.now) out.old result out.new }
     ensures few { result ≤ start + length pods.now }
 {
     let mut place = start;

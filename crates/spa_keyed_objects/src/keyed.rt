@@ -30,7 +30,8 @@ impl<'a> Keyed<'a> {
     /// The first property with this key, in a time that grows with log n.
     pub fn find(&self, key: u32) -> Option<&'a Property>
         requires { IsKeyed self.now }
-        ensures { MatchOption result (offered_in key self.now.properties.now ≡ None) (λ p. offered_in key self.now.properties.now ≡ Some (offered_by p.now)) }
+        ensures { MatchOption result (offered_in key self.now.properties.now ≡ None)
+            (λ p. offered_in key self.now.properties.now ≡ Some (offered_by p.now)) }
     {
         match self.places.get(&key) {
             Some(place) => Some(&self.properties[*place]),

@@ -61,7 +61,8 @@ pub fn rewrite_into_leniently<'a>(
 ) -> Result<usize, (&'a [u8], DeserializeError<&'a [u8]>)>
     ensures counted { IfOk result (AreRewrittenLenientlyAs input.now) }
     ensures within { IfOk result (λ len. len ≤ length input.now) }
-    ensures rewritten { IfOk result (λ len. length input.now ≤ length out.old → AreRewrittenLeniently input.now [] (take len out.new)) }
+    ensures rewritten { IfOk result (λ len. length input.now ≤ length out.old
+        → AreRewrittenLeniently input.now [] (take len out.new)) }
     ensures behind { IfOk result (λ len. drop len out.new ≡ drop len out.old) }
     ensures short { length out.old < length input.now → out.new ≡ out.old }
     ensures unchanged { OnErr result (out.new ≡ out.old) }

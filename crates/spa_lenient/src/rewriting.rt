@@ -72,7 +72,8 @@ pub(crate) fn append_all<'a>(
     ensures rewritten { OnOk result (AreRewrittenLeniently input.now out.old.items out.new.items) }
     ensures within { OnOk result (length out.new.items ≤ length out.old.items + length input.now) }
     ensures unchanged { OnErr result (out.new.items ≡ out.old.items) }
-    ensures refused { IfErr result (λ refusal. RefusesList input.now refusal.0.now (error_of refusal.1.place refusal.1.why)) }
+    ensures refused { IfErr result
+        (λ refusal. RefusesList input.now refusal.0.now (error_of refusal.1.place refusal.1.why)) }
 {
     let start = out.len();
     let mut left = input;

@@ -58,7 +58,8 @@ fn is_one_pod(bytes: &[u8]) -> bool
 
 /// The outcome of the first pair that agrees. None: no pair does.
 fn first_pair(alloc: Global, work: Work, a: &[u8], b: &[u8]) -> Result<Option<Vec<u8>>, FilterError>
-    ensures found { IfOk result (λ found. IfSome found (λ met. FirstPairGives work (walk a.now) (walk b.now) (Ok met.items))) }
+    ensures found { IfOk result (λ found. IfSome found
+        (λ met. FirstPairGives work (walk a.now) (walk b.now) (Ok met.items))) }
     ensures none { IfOk result (λ found. IfNone found (NoneAgree (walk a.now) (walk b.now))) }
     ensures cause { IfErr result (λ e. FirstPairGives work (walk a.now) (walk b.now) (Err e)) }
 {

@@ -133,7 +133,8 @@ impl<'d> Parser<'d> {
     pub fn get_rectangle(&mut self) -> Result<Rectangle, Errno>
         ensures said { IfOk result (λ x. NextPasses (SaysFixed (k.rectangle x.width x.height)) self.old) }
         ensures moved { OnOk result (self.new ≡ state_behind self.old) }
-        ensures accepted { (w h : ℕ) → NextIs (fixed (k.rectangle w h)) self.old → IsOkAnd result (λ x. (x.width ≡ w) × (x.height ≡ h)) }
+        ensures accepted { (w h : ℕ) → NextIs (fixed (k.rectangle w h)) self.old
+            → IsOkAnd result (λ x. (x.width ≡ w) × (x.height ≡ h)) }
         ensures refused { IfErr result (RefusesGet (t.IsOfKind k.rectangle_kind) self.old) }
         ensures unchanged { OnErr result (self.new ≡ self.old) }
     {
@@ -147,7 +148,8 @@ impl<'d> Parser<'d> {
     pub fn get_fraction(&mut self) -> Result<Fraction, Errno>
         ensures said { IfOk result (λ x. NextPasses (SaysFixed (k.fraction x.num x.denom)) self.old) }
         ensures moved { OnOk result (self.new ≡ state_behind self.old) }
-        ensures accepted { (n d : ℕ) → NextIs (fixed (k.fraction n d)) self.old → IsOkAnd result (λ x. (x.num ≡ n) × (x.denom ≡ d)) }
+        ensures accepted { (n d : ℕ) → NextIs (fixed (k.fraction n d)) self.old
+            → IsOkAnd result (λ x. (x.num ≡ n) × (x.denom ≡ d)) }
         ensures refused { IfErr result (RefusesGet (t.IsOfKind k.fraction_kind) self.old) }
         ensures unchanged { OnErr result (self.new ≡ self.old) }
     {
@@ -166,7 +168,8 @@ impl<'d> Parser<'d> {
     pub fn get_pointer(&mut self) -> Result<(u64, Id), Errno>
         ensures said { IfOk result (λ x. NextPasses (SaysPointer x.1.0 x.0) self.old) }
         ensures moved { OnOk result (self.new ≡ state_behind self.old) }
-        ensures accepted { (type address : ℕ) → NextIs (pointer type address) self.old → IsOkAnd result (λ x. (x.0 ≡ address) × (x.1.0 ≡ type)) }
+        ensures accepted { (type address : ℕ) → NextIs (pointer type address) self.old
+            → IsOkAnd result (λ x. (x.0 ≡ address) × (x.1.0 ≡ type)) }
         ensures refused { IfErr result (RefusesGet t.IsPointerPod self.old) }
         ensures unchanged { OnErr result (self.new ≡ self.old) }
     {
@@ -222,9 +225,11 @@ impl<'d> Parser<'d> {
     /// The view of the next object, whole. INVAL where the next pod isn't an object of at least 8 bytes; else PROTO where it
     /// is of another type.
     pub fn get_object(&mut self, type_: u32) -> Result<PodObject<'d>, Errno>
-        ensures said { IfOk result (λ object. NextPasses (λ pod. IsObjectOf type_ pod × (object_bytes object ≡ pod)) self.old) }
+        ensures said { IfOk result (λ object. NextPasses
+            (λ pod. IsObjectOf type_ pod × (object_bytes object ≡ pod)) self.old) }
         ensures moved { OnOk result (self.new ≡ state_behind self.old) }
-        ensures accepted { (id : ℕ) (ps : Properties) → NextIs (object type_ id ps) self.old → IsOkAnd result (λ view. IsPod (object_bytes view) (object type_ id ps)) }
+        ensures accepted { (id : ℕ) (ps : Properties) → NextIs (object type_ id ps) self.old
+            → IsOkAnd result (λ view. IsPod (object_bytes view) (object type_ id ps)) }
         ensures refused { IfErr result (RefusesObjectGet type_ self.old) }
         ensures unchanged { OnErr result (self.new ≡ self.old) }
     {
@@ -241,8 +246,11 @@ impl<'d> Parser<'d> {
     pub fn value_of(&self, view: &PodObject<'d>, key: u32) -> Result<Parser<'d>, Errno>
         ensures found { IfOk result (IsValueOf key (object_bytes view.now)) }
         ensures missing { IfErr result (λ e. (property_at key (object_bytes view.now) ≡ None) × (e ≡ Errno.PIPE)) }
-        ensures accepted { (type id : ℕ) (ps : Properties) (v : Tree) → IsPod (object_bytes view.now) (object type id ps) → first_value key ps ≡ Some v → IsOkAnd result (NextIs v) }
-        ensures absent { (type id : ℕ) (ps : Properties) → IsPod (object_bytes view.now) (object type id ps) → first_value key ps ≡ None → IsErr result }
+        ensures accepted { (type id : ℕ) (ps : Properties) (v : Tree)
+            → IsPod (object_bytes view.now) (object type id ps) → first_value key ps ≡ Some v
+            → IsOkAnd result (NextIs v) }
+        ensures absent { (type id : ℕ) (ps : Properties) → IsPod (object_bytes view.now) (object type id ps)
+            → first_value key ps ≡ None → IsErr result }
     {
         match view.find_prop(Id(key)) {
             Some(property) => Ok(Parser::from_pod(*self.outer.allocator(), property.value())),

@@ -8,6 +8,7 @@ ghost use Rattle.spa_parser.specs.Steps.{HoldsMembers, NextIs};
 /// is left, there is no next pod.
 pub fn members_come_in_order()
     ensures first { (s : ParserState) (v : Tree) (vs : Trees) → HoldsMembers (member v vs) s → NextIs v s }
-    ensures others { (s : ParserState) (v : Tree) (vs : Trees) → HoldsMembers (member v vs) s → HoldsMembers vs (state_behind s) }
+    ensures others { (s : ParserState) (v : Tree) (vs : Trees) → HoldsMembers (member v vs) s
+        → HoldsMembers vs (state_behind s) }
     ensures end { (s : ParserState) → HoldsMembers no_trees s → next_pod s ≡ None }
 {}

@@ -102,7 +102,8 @@ impl<'d> Parser<'d> {
     /// Opens the next struct: its members are the next pods, until its frame is popped. INVAL where the next pod isn't a
     /// struct; else NOMEM where there is no memory for one more frame.
     pub fn push_struct(&mut self) -> Result<Frame, Errno>
-        ensures opened { OnOk result (NextPasses (λ pod. t.IsStructPod pod × (self.new ≡ state_inside pod false self.old)) self.old) }
+        ensures opened { OnOk result (NextPasses
+            (λ pod. t.IsStructPod pod × (self.new ≡ state_inside pod false self.old)) self.old) }
         ensures frame { IfOk result (λ frame. frame.0 ≡ open_count self.new) }
         ensures accepted { (vs : Trees) → NextIs (struct vs) self.old →
             MatchResult result (λ _. HoldsMembers vs self.new) (λ e. e ≡ Errno.NOMEM) }
@@ -118,7 +119,8 @@ impl<'d> Parser<'d> {
     /// object of at least 8 bytes; else PROTO where it is of another type; else NOMEM where there is no memory for one
     /// more frame.
     pub fn push_object(&mut self, type_: u32) -> Result<(Frame, Id), Errno>
-        ensures opened { OnOk result (NextPasses (λ pod. IsObjectOf type_ pod × (self.new ≡ state_inside pod true self.old)) self.old) }
+        ensures opened { OnOk result (NextPasses
+            (λ pod. IsObjectOf type_ pod × (self.new ≡ state_inside pod true self.old)) self.old) }
         ensures frame { IfOk result (λ pushed. pushed.0.0 ≡ open_count self.new) }
         ensures id { IfOk result (λ pushed. NextPasses (λ pod. pushed.1.0 ≡ word_at (body_of pod) 4) self.old) }
         ensures accepted { (id : ℕ) (ps : Properties) → NextIs (object type_ id ps) self.old →
@@ -163,7 +165,8 @@ impl<'d> Parser<'d> {
     pub fn pop(&mut self, frame: Frame) -> Result<(), Errno>
         ensures innermost { OnOk result (frame.0 ≡ open_count self.old) }
         ensures closed { OnOk result (ClosesFrame self.old self.new) }
-        ensures refused { IfErr result (λ e. ((frame.0 ≢ open_count self.old) ⊎ (open_count self.old ≡ 0)) × (e ≡ Errno.INVAL)) }
+        ensures refused { IfErr result (λ e. ((frame.0 ≢ open_count self.old) ⊎ (open_count self.old ≡ 0))
+            × (e ≡ Errno.INVAL)) }
         ensures unchanged { OnErr result (self.new ≡ self.old) }
     {
         if frame.0 != self.outer.len() {

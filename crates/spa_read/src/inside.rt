@@ -148,8 +148,12 @@ pub(crate) fn read_leaves<'de, G: Grows, const LENIENT: bool>(
     requires { 8 * opened.old + length left.old.now < 2 ^ 64 }
     ensures few { 8 * opened.new ≤ 8 * opened.old + length left.old.now }
     ensures more { opened.old ≤ opened.new }
-    ensures read { IfOk result (λ front. ReadsOn LENIENT (G.inside to.old) left.old.now opened.old front (G.inside to.new) left.new.now opened.new) }
-    ensures refused { IfErr result (λ refused. RefusesBehind LENIENT (so_far (G.inside to.old)) left.old.now opened.old refused.place.now opened.new refused.why) }
+    ensures read { IfOk result
+        (λ front. ReadsOn LENIENT (G.inside to.old) left.old.now opened.old front
+        (G.inside to.new) left.new.now opened.new) }
+    ensures refused { IfErr result
+        (λ refused. RefusesBehind LENIENT (so_far
+        (G.inside to.old)) left.old.now opened.old refused.place.now opened.new refused.why) }
 {
     while !left.is_empty() {
         let Some(place) = to.reach(*left) else {
@@ -191,8 +195,11 @@ impl Inside {
         requires { 8 * opened.old + length left.old.now < 2 ^ 64 }
         ensures few { 8 * opened.new ≤ 8 * opened.old + length left.old.now }
         ensures more { opened.old ≤ opened.new }
-        ensures read { IfOk result (λ front. ReadsOn LENIENT self.old left.old.now opened.old front self.new left.new.now opened.new) }
-        ensures refused { IfErr result (λ refused. RefusesBehind LENIENT (so_far self.old) left.old.now opened.old refused.place.now opened.new refused.why) }
+        ensures read { IfOk result
+            (λ front. ReadsOn LENIENT self.old left.old.now opened.old front self.new left.new.now opened.new) }
+        ensures refused { IfErr result
+            (λ refused. RefusesBehind LENIENT
+            (so_far self.old) left.old.now opened.old refused.place.now opened.new refused.why) }
     {
         match self {
             Inside::Struct(members) => read_leaves::<Vec<Value>, LENIENT>(

@@ -32,8 +32,10 @@ pub(crate) fn begin_reading<'de>(
     front: Front<'de>,
 ) -> Result<(PartlyRead<'de>, &'de [u8]), Refusal>
     requires { (front.type_ ≡ struct_type) ⊎ (front.type_ ≡ object_type) }
-    ensures begun { IfOk result (λ begun. IsBegunAs front.entry.type_ front.entry.body.now front.entry.rest.now begun.0 begun.1.now) }
-    ensures refused { IfErr result (λ why. (why ≡ refusal.WrongSize) × (front.entry.type_ ≡ object_type) × (length front.entry.body.now < header_size)) }
+    ensures begun { IfOk result
+        (λ begun. IsBegunAs front.entry.type_ front.entry.body.now front.entry.rest.now begun.0 begun.1.now) }
+    ensures refused { IfErr result (λ why. (why ≡ refusal.WrongSize) × (front.entry.type_ ≡ object_type)
+        × (length front.entry.body.now < header_size)) }
 {
     if front.type_ == SpaTypes::Struct.0 {
         let begun = PartlyRead {
@@ -97,9 +99,15 @@ impl<'de> Nest<'de> {
         requires { 8 * opened.old + length left.old.now < 2 ^ 64 }
         ensures few { 8 * opened.new ≤ 8 * opened.old + length left.old.now }
         ensures more { opened.old ≤ opened.new }
-        ensures taken { IfOk result (λ goes_on. (input : List ℕ) → IsUnderWay LENIENT input self.old.inner (reverse (around self.old)) left.old.now opened.old → Steps LENIENT goes_on input self.new.inner (reverse (around self.new)) left.new.now opened.new) }
-        ensures nearer { IfOk result (λ goes_on. goes_on ≡ true → ahead self.new.inner (reverse (around self.new)) left.new.now < ahead self.old.inner (reverse (around self.old)) left.old.now) }
-        ensures refused { IfErr result (λ refused. (input : List ℕ) → IsUnderWay LENIENT input self.old.inner (reverse (around self.old)) left.old.now opened.old → RefusesIn LENIENT input refused.place.now opened.new refused.why) }
+        ensures taken { IfOk result (λ goes_on. (input : List ℕ)
+            → IsUnderWay LENIENT input self.old.inner (reverse (around self.old)) left.old.now opened.old
+            → Steps LENIENT goes_on input self.new.inner (reverse (around self.new)) left.new.now opened.new) }
+        ensures nearer { IfOk result (λ goes_on. goes_on ≡ true
+            → ahead self.new.inner (reverse (around self.new)) left.new.now < ahead self.old.inner
+            (reverse (around self.old)) left.old.now) }
+        ensures refused { IfErr result (λ refused. (input : List ℕ)
+            → IsUnderWay LENIENT input self.old.inner (reverse (around self.old)) left.old.now opened.old
+            → RefusesIn LENIENT input refused.place.now opened.new refused.why) }
     {
         let Some(front) = self.inner.inside.read_on::<LENIENT>(alloc, left, opened)? else {
             *left = self.inner.rest;

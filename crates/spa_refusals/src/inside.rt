@@ -95,7 +95,8 @@ fn inside<'b>(
     pod: &'b [u8],
     path: &mut String,
 ) -> Result<Option<Unread<'b>>, AllocError>
-    ensures step { IfOk result (λ found. IfSome found (λ it. StepsTo pod.now (string_bytes path.old) it.pod.now (string_bytes path.new))) }
+    ensures step { IfOk result (λ found. IfSome found
+        (λ it. StepsTo pod.now (string_bytes path.old) it.pod.now (string_bytes path.new))) }
     ensures why { IfOk result (λ found. IfSome found (λ it. IsUnreadFor Exact it.pod.now it.error)) }
     ensures none { IfOk result (λ found. IfNone found (IsInnermost pod.now)) }
     ensures kept { IfOk result (λ found. IfNone found (string_bytes path.new ≡ string_bytes path.old)) }
@@ -118,9 +119,11 @@ fn in_object<'b>(
     body: &'b [u8],
     path: &mut String,
 ) -> Result<Option<Unread<'b>>, AllocError>
-    ensures step { IfOk result (λ found. IfSome found (λ it. HoldsValue body.now (string_bytes path.old) it.pod.now (string_bytes path.new))) }
+    ensures step { IfOk result (λ found. IfSome found
+        (λ it. HoldsValue body.now (string_bytes path.old) it.pod.now (string_bytes path.new))) }
     ensures why { IfOk result (λ found. IfSome found (λ it. IsUnreadFor Exact it.pod.now it.error)) }
-    ensures none { IfOk result (λ found. IfNone found ((length body.now < header_size) ⊎ HaveRead (drop header_size body.now))) }
+    ensures none { IfOk result
+        (λ found. IfNone found ((length body.now < header_size) ⊎ HaveRead (drop header_size body.now))) }
     ensures kept { IfOk result (λ found. IfNone found (string_bytes path.new ≡ string_bytes path.old)) }
 {
     if body.len() < HEADER_LEN {
@@ -136,7 +139,8 @@ fn in_members<'b>(
     members: &'b [u8],
     path: &mut String,
 ) -> Result<Option<Unread<'b>>, AllocError>
-    ensures step { IfOk result (λ found. IfSome found (λ it. HoldsMember members.now (string_bytes path.old) it.pod.now (string_bytes path.new))) }
+    ensures step { IfOk result (λ found. IfSome found
+        (λ it. HoldsMember members.now (string_bytes path.old) it.pod.now (string_bytes path.new))) }
     ensures why { IfOk result (λ found. IfSome found (λ it. IsUnreadFor Exact it.pod.now it.error)) }
     ensures none { IfOk result (λ found. IfNone found ((vs : Trees) × AreMembers vs members.now)) }
     ensures kept { IfOk result (λ found. IfNone found (string_bytes path.new ≡ string_bytes path.old)) }
@@ -161,7 +165,8 @@ fn in_properties<'b>(
     properties: &'b [u8],
     path: &mut String,
 ) -> Result<Option<Unread<'b>>, AllocError>
-    ensures step { IfOk result (λ found. IfSome found (λ it. HoldsProperty type_ properties.now (string_bytes path.old) it.pod.now (string_bytes path.new))) }
+    ensures step { IfOk result (λ found. IfSome found
+        (λ it. HoldsProperty type_ properties.now (string_bytes path.old) it.pod.now (string_bytes path.new))) }
     ensures why { IfOk result (λ found. IfSome found (λ it. IsUnreadFor Exact it.pod.now it.error)) }
     ensures none { IfOk result (λ found. IfNone found (HaveRead properties.now)) }
     ensures kept { IfOk result (λ found. IfNone found (string_bytes path.new ≡ string_bytes path.old)) }

@@ -26,7 +26,8 @@ pub fn add_refusals<'a>(
     out: &mut Vec<NamedRefusal<'a>>,
 ) -> Result<(), AllocError>
     requires { AreRefused reading input.now pods.now }
-    ensures { OnOk result ((more : List NamedRefusal) × AreSaid reading input.now pods.now more × (out.new.items ≡ out.old.items ++ more)) }
+    ensures { OnOk result ((more : List NamedRefusal) × AreSaid reading input.now pods.now more
+        × (out.new.items ≡ out.old.items ++ more)) }
 {
     let mut counted = Counted { at: 0, count: 0 };
     for pod in pods {

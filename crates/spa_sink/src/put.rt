@@ -28,7 +28,8 @@ pub fn put_wide<S: PodSink>(sink: &mut S, number: u64) -> Result<(), GenError>
 /// Appends two words in one call of the sink.
 pub fn put_two<S: PodSink>(sink: &mut S, first: u32, second: u32) -> Result<(), GenError>
     ensures ok { OnOk result (S.appends sink.old (word_bytes first ++ word_bytes second) sink.new) }
-    ensures begun { OnErr result ((count : ℕ) × S.appends sink.old (take count (word_bytes first ++ word_bytes second)) sink.new) }
+    ensures begun { OnErr result ((count : ℕ)
+        × S.appends sink.old (take count (word_bytes first ++ word_bytes second)) sink.new) }
     ensures cause { IfErr result (λ e. S.refuses sink.old 8 sink.new e) }
 {
     sink.append(&two_words(first, second))

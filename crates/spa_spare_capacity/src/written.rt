@@ -37,7 +37,8 @@ const ROOM_STEP: usize = 4096;
 #[cold]
 #[inline(never)]
 fn grown(mut bytes: Vec<u8>, more: usize) -> Vec<u8>
-    ensures { (n : ℕ) → n ≤ length bytes.items → (take n result.items ≡ take n bytes.items) × (length bytes.items ≤ length result.items) }
+    ensures { (n : ℕ) → n ≤ length bytes.items → (take n result.items ≡ take n bytes.items)
+        × (length bytes.items ≤ length result.items) }
 {
     let had = bytes.len();
     if bytes.reserve(more).is_err() {

@@ -95,7 +95,8 @@ pub trait DeserializeMembers<'de>: Sized + Drop {
         ensures read { IfOk result (λ x. AllMembers reader.old (λ members. reads_members members x)) }
         // A refusal is that of the member that isn't read. Unless it is for want of memory, these bytes are no such members.
         ensures named { reader.old.failed ≡ false → IfErr result (refuses_members reader.old.left) }
-        ensures refused { reader.old.failed ≡ false → IfErr result (λ e. OnFault (AreUnread reads_members reader.old.left) e) }
+        ensures refused { reader.old.failed ≡ false
+            → IfErr result (λ e. OnFault (AreUnread reads_members reader.old.left) e) }
         ensures memory { reader.old.failed ≡ false → IfErr result (OnMemory (takes_memory reader.old.left)) };
 }
 

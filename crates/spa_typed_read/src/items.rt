@@ -96,12 +96,15 @@ impl<'de, E: FixedSizedPod> ArrayPodDeserializer<'de, E> {
     /// Reads the next element. Refusals: `NoElementLeft` past the last one, and `FailedReader` where a call was refused before.
     /// After a refusal the reader has failed.
     pub fn deserialize_element(&mut self) -> Result<E, DeserializeError<&'de [u8]>>
-        ensures element { IfOk result (TakesElement E.CanonicalType.kind E.CanonicalType.fixed E.of_canonical self.old self.new) }
+        ensures element { IfOk result
+            (TakesElement E.CanonicalType.kind E.CanonicalType.fixed E.of_canonical self.old self.new) }
         ensures failed { OnErr result (self.new.reader.failed ≡ true) }
         ensures stays { self.old.reader.failed ≡ true → IsErrAnd result (λ e. e ≡ error.FailedReader) }
-        ensures past_last { self.old.reader.failed ≡ false → self.old.count ≡ 0 → IsErrAnd result (λ e. e ≡ error.NoElementLeft) }
+        ensures past_last { self.old.reader.failed ≡ false → self.old.count ≡ 0
+            → IsErrAnd result (λ e. e ≡ error.NoElementLeft) }
         // Since whole elements are left of an array that was opened, there is no other refusal.
-        ensures taken { self.old.reader.failed ≡ false → 0 < self.old.count → HasElements E.CanonicalType.SIZE self.old → IsOk result }
+        ensures taken { self.old.reader.failed ≡ false → 0 < self.old.count
+            → HasElements E.CanonicalType.SIZE self.old → IsOk result }
     {
         if self.failed {
             return Err(DeserializeError::FailedReader);
@@ -122,10 +125,12 @@ impl<'de, E: FixedSizedPod> ArrayPodDeserializer<'de, E> {
     /// Ends the array, all of whose elements have to be read. Refusals: `FailedReader` where a call was refused, else
     /// `UnreadMembers` where an element is left.
     pub fn end(self) -> Result<DeserializeSuccess<'de>, DeserializeError<&'de [u8]>>
-        ensures ok { IfOk result (λ success. (success ≡ self.entry.reader.after) × (self.entry.reader.failed ≡ false) × (self.entry.count ≡ 0)) }
+        ensures ok { IfOk result (λ success. (success ≡ self.entry.reader.after) × (self.entry.reader.failed ≡ false)
+            × (self.entry.count ≡ 0)) }
         ensures done { self.entry.reader.failed ≡ false → self.entry.count ≡ 0 → IsOk result }
         ensures failed { self.entry.reader.failed ≡ true → IsErrAnd result (λ e. e ≡ error.FailedReader) }
-        ensures unread { self.entry.reader.failed ≡ false → 0 < self.entry.count → IsErrAnd result (λ e. e ≡ error.UnreadMembers) }
+        ensures unread { self.entry.reader.failed ≡ false → 0 < self.entry.count
+            → IsErrAnd result (λ e. e ≡ error.UnreadMembers) }
     {
         if self.failed {
             return Err(DeserializeError::FailedReader);

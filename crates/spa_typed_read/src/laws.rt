@@ -24,41 +24,64 @@ use spa_fixed_sized::{CanonicalFixedSizedPod, FixedSizedPod};
 
 /// The elements that an array's reader gives, up to where no element is left, are all elements of the array, in order.
 pub fn elements_are_the_arrays<E: FixedSizedPod>()
-    ensures { (input : List ℕ) (xs : List E) (first last : ArrayReader) → OpensArray E.CanonicalType.kind input first → TakesElements E.CanonicalType.kind E.CanonicalType.fixed E.of_canonical first xs last → last.count ≡ 0 → IsRead input last.reader.after (IsMadeOf E.CanonicalType.kind E.CanonicalType.fixed E.of_canonical xs) }
+    ensures { (input : List ℕ) (xs : List E) (first last : ArrayReader) → OpensArray E.CanonicalType.kind input first
+        → TakesElements E.CanonicalType.kind E.CanonicalType.fixed E.of_canonical first xs last → last.count ≡ 0
+        → IsRead input last.reader.after (IsMadeOf E.CanonicalType.kind E.CanonicalType.fixed E.of_canonical xs) }
 {}
 
 /// A list that is written as an array is read back element by element as that list, where `of_canonical` of its type undoes `to_canonical`.
 /// Of units, which have no bytes, no element is read back.
 pub fn lists_come_back<E: FixedSizedPod>()
     // From a pod of that array,
-    ensures pod { (input : List ℕ) (xs ys : List E) (first last : ArrayReader) → ((x : E) → E.of_canonical (E.to_canonical x) ≡ x) → Begins input (list_tree E.CanonicalType.kind E.CanonicalType.fixed E.to_canonical xs) → OpensArray E.CanonicalType.kind input first → TakesElements E.CanonicalType.kind E.CanonicalType.fixed E.of_canonical first ys last → last.count ≡ 0 → ys ≡ xs }
+    ensures pod { (input : List ℕ) (xs ys : List E) (first last : ArrayReader)
+        → ((x : E) → E.of_canonical (E.to_canonical x) ≡ x)
+        → Begins input (list_tree E.CanonicalType.kind E.CanonicalType.fixed E.to_canonical xs)
+        → OpensArray E.CanonicalType.kind input first
+        → TakesElements E.CanonicalType.kind E.CanonicalType.fixed E.of_canonical first ys last → last.count ≡ 0
+        → ys ≡ xs }
     // such as its encoding,
-    ensures encoding { (rest : List ℕ) (xs : List E) → 0 < E.CanonicalType.SIZE → IsTyped (list_tree E.CanonicalType.kind E.CanonicalType.fixed E.to_canonical xs) → IsWritable (list_tree E.CanonicalType.kind E.CanonicalType.fixed E.to_canonical xs) → Begins (encoding_of (list_tree E.CanonicalType.kind E.CanonicalType.fixed E.to_canonical xs) ++ rest) (list_tree E.CanonicalType.kind E.CanonicalType.fixed E.to_canonical xs) }
+    ensures encoding { (rest : List ℕ) (xs : List E) → 0 < E.CanonicalType.SIZE
+        → IsTyped (list_tree E.CanonicalType.kind E.CanonicalType.fixed E.to_canonical xs)
+        → IsWritable (list_tree E.CanonicalType.kind E.CanonicalType.fixed E.to_canonical xs)
+        → Begins (encoding_of (list_tree E.CanonicalType.kind E.CanonicalType.fixed E.to_canonical xs) ++ rest)
+        (list_tree E.CanonicalType.kind E.CanonicalType.fixed E.to_canonical xs) }
     // but not of units.
-    ensures units { (input : List ℕ) (ys : List E) (first last : ArrayReader) → E.CanonicalType.SIZE ≡ 0 → OpensArray E.CanonicalType.kind input first → TakesElements E.CanonicalType.kind E.CanonicalType.fixed E.of_canonical first ys last → ys ≡ [] }
+    ensures units { (input : List ℕ) (ys : List E) (first last : ArrayReader) → E.CanonicalType.SIZE ≡ 0
+        → OpensArray E.CanonicalType.kind input first
+        → TakesElements E.CanonicalType.kind E.CanonicalType.fixed E.of_canonical first ys last → ys ≡ [] }
 {}
 
 /// A value is read back as itself from a pod of its canonical value, where `of_canonical` of its type undoes `to_canonical`.
 pub fn values_come_back<E: FixedSizedPod>()
     // From a pod of its canonical value,
-    ensures pod { (input rest : List ℕ) (x : E) (c : E.CanonicalType) → E.of_canonical (E.to_canonical x) ≡ x → Begins input (single_tree E.CanonicalType.fixed E.to_canonical x) → IsRead input rest (λ v. v ≡ fixed (E.CanonicalType.fixed c)) → E.of_canonical c ≡ x }
+    ensures pod { (input rest : List ℕ) (x : E) (c : E.CanonicalType) → E.of_canonical (E.to_canonical x) ≡ x
+        → Begins input (single_tree E.CanonicalType.fixed E.to_canonical x)
+        → IsRead input rest (λ v. v ≡ fixed (E.CanonicalType.fixed c)) → E.of_canonical c ≡ x }
     // such as its encoding.
-    ensures encoding { (rest : List ℕ) (x : E) → IsTyped (single_tree E.CanonicalType.fixed E.to_canonical x) → Begins (encoding_of (single_tree E.CanonicalType.fixed E.to_canonical x) ++ rest) (single_tree E.CanonicalType.fixed E.to_canonical x) }
+    ensures encoding { (rest : List ℕ) (x : E) → IsTyped (single_tree E.CanonicalType.fixed E.to_canonical x)
+        → Begins (encoding_of (single_tree E.CanonicalType.fixed E.to_canonical x) ++ rest)
+        (single_tree E.CanonicalType.fixed E.to_canonical x) }
 {}
 
 /// A value of an exact type is read back from its encoding, whatever bytes follow that.
 pub fn exact_types_come_back<'de, P: ExactDeserialize<'de>>()
     // A refusal, unless for want of memory, says that the input begins with no value that is read so.
-    ensures exactly { (b : List ℕ) (e : DeserializeError (Bor (List ℕ))) → P.refuses b e → RefusesExactly P.reads (P.takes_memory b) b e }
+    ensures exactly { (b : List ℕ) (e : DeserializeError (Bor (List ℕ))) → P.refuses b e
+        → RefusesExactly P.reads (P.takes_memory b) b e }
     // The encoding of a value is read as its normal form, and the bytes that follow are left.
-    ensures read { (v : Tree) (rest left : List ℕ) (x : P) → IsTyped v → IsWritable v → IsRead (encoding_of v ++ rest) left (λ w. P.reads w x) → P.reads (normal_of v) x × (left ≡ rest) }
+    ensures read { (v : Tree) (rest left : List ℕ) (x : P) → IsTyped v → IsWritable v
+        → IsRead (encoding_of v ++ rest) left (λ w. P.reads w x) → P.reads (normal_of v) x × (left ≡ rest) }
     // Where the normal form is read as a value of the type, only memory can be wanting, and only where such a read takes memory.
-    ensures refused { (v : Tree) (rest : List ℕ) (x : P) (e : DeserializeError (Bor (List ℕ))) → IsTyped v → IsWritable v → P.reads (normal_of v) x → P.refuses (encoding_of v ++ rest) e → (e ≡ error.OutOfMemory) × P.takes_memory (encoding_of v ++ rest) }
+    ensures refused { (v : Tree) (rest : List ℕ) (x : P) (e : DeserializeError (Bor (List ℕ))) → IsTyped v
+        → IsWritable v → P.reads (normal_of v) x → P.refuses (encoding_of v ++ rest) e → (e ≡ error.OutOfMemory)
+        × P.takes_memory (encoding_of v ++ rest) }
 {}
 
 /// The read of an accepted object whose properties' values have a nesting depth of at most 1000 takes memory only for the properties asked for.
 pub fn passing_takes_no_memory<'de, P: DeserializeProperties<'de>>()
-    ensures { (b : List ℕ) (type id : ℕ) (ps : Properties) → Begins b (object type id ps) → property_depth ps ≤ levels_looked_into → TakesIn P.takes_memory b → P.takes_memory (drop header_size (body_of b)) }
+    ensures { (b : List ℕ) (type id : ℕ) (ps : Properties) → Begins b (object type id ps)
+        → property_depth ps ≤ levels_looked_into → TakesIn P.takes_memory b
+        → P.takes_memory (drop header_size (body_of b)) }
 {}
 
 /// Each call of a borrowed reader takes it further.
@@ -71,8 +94,14 @@ pub fn readers_go_further()
 
 /// Members are the pod of the first and, behind it, those of the others. Properties have a key and flags before each pod.
 pub fn members_are_fronts()
-    ensures parts { (b : List ℕ) (v : Tree) (vs : Trees) → AreMembers (member v vs) b → Begins b v × AreMembers vs (rest_of b) }
-    ensures whole { (b : List ℕ) (v : Tree) (vs : Trees) → Begins b v → AreMembers vs (rest_of b) → AreMembers (member v vs) b }
-    ensures property_parts { (b : List ℕ) (k f : ℕ) (v : Tree) (ps : Properties) → AreProperties (property k f v ps) b → (header_size ≤ length b) × (k ≡ word_at b 0) × (f ≡ word_at b 4) × Begins (drop header_size b) v × AreProperties ps (rest_of (drop header_size b)) }
-    ensures property_whole { (b : List ℕ) (k f : ℕ) (v : Tree) (ps : Properties) → header_size ≤ length b → k ≡ word_at b 0 → f ≡ word_at b 4 → Begins (drop header_size b) v → AreProperties ps (rest_of (drop header_size b)) → AreProperties (property k f v ps) b }
+    ensures parts { (b : List ℕ) (v : Tree) (vs : Trees) → AreMembers (member v vs) b → Begins b v
+        × AreMembers vs (rest_of b) }
+    ensures whole { (b : List ℕ) (v : Tree) (vs : Trees) → Begins b v → AreMembers vs (rest_of b)
+        → AreMembers (member v vs) b }
+    ensures property_parts { (b : List ℕ) (k f : ℕ) (v : Tree) (ps : Properties) → AreProperties (property k f v ps) b
+        → (header_size ≤ length b) × (k ≡ word_at b 0) × (f ≡ word_at b 4) × Begins (drop header_size b) v
+        × AreProperties ps (rest_of (drop header_size b)) }
+    ensures property_whole { (b : List ℕ) (k f : ℕ) (v : Tree) (ps : Properties) → header_size ≤ length b
+        → k ≡ word_at b 0 → f ≡ word_at b 4 → Begins (drop header_size b) v
+        → AreProperties ps (rest_of (drop header_size b)) → AreProperties (property k f v ps) b }
 {}

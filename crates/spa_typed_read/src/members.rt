@@ -55,13 +55,15 @@ impl<'de> StructPodDeserializer<'de> {
     pub fn deserialize_field<P: PodDeserialize<'de>>(
         &mut self,
     ) -> Result<Option<P>, DeserializeError<&'de [u8]>>
-        ensures field { IfOk result (λ read. MatchOption read ((self.new ≡ self.old) × AtEnd self.old) (λ x. TakesField self.old self.new (λ value. P.reads value x))) }
+        ensures field { IfOk result (λ read. MatchOption read ((self.new ≡ self.old) × AtEnd self.old)
+            (λ x. TakesField self.old self.new (λ value. P.reads value x))) }
         ensures same { Further self.old self.new }
         ensures failed { OnErr result (self.new.failed ≡ true) }
         // A reader that has failed stays so,
         ensures stays { self.old.failed ≡ true → IsErrAnd result (λ e. e ≡ error.FailedReader) }
         // and another one is refused only as the member's type refuses what is left.
-        ensures refused { self.old.failed ≡ false → IfErr result (λ e. (self.old.left ≢ []) × P.refuses self.old.left e) }
+        ensures refused { self.old.failed ≡ false
+            → IfErr result (λ e. (self.old.left ≢ []) × P.refuses self.old.left e) }
     {
         if self.failed {
             return Err(DeserializeError::FailedReader);
@@ -99,7 +101,8 @@ impl<'de> StructPodDeserializer<'de> {
         ensures ok { IfOk result (λ success. (success ≡ self.entry.after) × AtEnd self.entry) }
         ensures done { AtEnd self.entry → IsOk result }
         ensures failed { self.entry.failed ≡ true → IsErrAnd result (λ e. e ≡ error.FailedReader) }
-        ensures unread { self.entry.failed ≡ false → self.entry.left ≢ [] → IsErrAnd result (λ e. e ≡ error.UnreadMembers) }
+        ensures unread { self.entry.failed ≡ false → self.entry.left ≢ []
+            → IsErrAnd result (λ e. e ≡ error.UnreadMembers) }
         ensures refused { IfErr result (RefusesEnd self.entry) }
     {
         match self.ended() {

@@ -48,10 +48,13 @@ pub trait DeserializeProperties<'de>: Sized + Drop {
         reader: &ObjectPodDeserializer<'de>,
         from: &'de [u8],
     ) -> Result<Self, DeserializeError<&'de [u8]>>
-        ensures found { reader.now.reader.failed ≡ false → (b : List ℕ) → LeadsToAll asks from.now b → IfOk result (λ x. (ps : Properties) → AreProperties ps b → reads_properties ps x) }
+        ensures found { reader.now.reader.failed ≡ false → (b : List ℕ) → LeadsToAll asks from.now b
+            → IfOk result (λ x. (ps : Properties) → AreProperties ps b → reads_properties ps x) }
         // A refusal is that of the property that isn't read. Unless it is for want of memory, these bytes are no such properties.
-        ensures named { reader.now.reader.failed ≡ false → (b : List ℕ) → LeadsToAll asks from.now b → IfErr result (refuses_properties b) }
-        ensures refused { reader.now.reader.failed ≡ false → (b : List ℕ) → LeadsToAll asks from.now b → IfErr result (λ e. OnFault (NoneRead reads_properties b) e) }
+        ensures named { reader.now.reader.failed ≡ false → (b : List ℕ) → LeadsToAll asks from.now b
+            → IfErr result (refuses_properties b) }
+        ensures refused { reader.now.reader.failed ≡ false → (b : List ℕ) → LeadsToAll asks from.now b
+            → IfErr result (λ e. OnFault (NoneRead reads_properties b) e) }
         ensures memory { reader.now.reader.failed ≡ false → (b : List ℕ) → LeadsToAll asks from.now b → IfErr result (OnMemory (takes_memory b)) };
 }
 

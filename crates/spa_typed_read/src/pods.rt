@@ -88,7 +88,8 @@ impl<'de> PodDeserializer<'de> {
     pub(crate) fn array_pod<T: CanonicalFixedSizedPod>(
         self,
     ) -> Result<(Vec<T>, DeserializeSuccess<'de>), DeserializeError<&'de [u8]>>
-        ensures read { IfOk result (λ read. IsRead self.entry read.1 (λ value. value ≡ array T.kind (map T.fixed read.0.items))) }
+        ensures read { IfOk result (λ read. IsRead self.entry read.1
+            (λ value. value ≡ array T.kind (map T.fixed read.0.items))) }
         ensures refused { IfErr result (RefusesAsked (array_of T.kind) ⊤ self.entry) }
     {
         let front = open_array_of::<T>(self.input)?;
@@ -102,7 +103,8 @@ impl<'de> PodDeserializer<'de> {
     pub(crate) fn choice_pod<T: ChoiceElement>(
         self,
     ) -> Result<(Choice<T>, DeserializeSuccess<'de>), DeserializeError<&'de [u8]>>
-        ensures read { IfOk result (λ read. IsRead self.entry read.1 (λ value. value ≡ choice_tree T.kind T.fixed read.0)) }
+        ensures read { IfOk result (λ read. IsRead self.entry read.1
+            (λ value. value ≡ choice_tree T.kind T.fixed read.0)) }
         ensures refused { IfErr result (RefusesAsked (choice_of T.kind) ⊤ self.entry) }
     {
         let front = open_as(self.input, SpaTypes::Choice.0)?;

@@ -116,15 +116,18 @@ impl<'de> ObjectPodDeserializer<'de> {
     pub fn deserialize_property<P: PodDeserialize<'de>>(
         &mut self,
     ) -> Result<Option<(P, u32, PropertyFlags)>, DeserializeError<&'de [u8]>>
-        ensures property { IfOk result (λ read. MatchOption read ((self.new ≡ self.old) × AtEnd self.old.reader) (λ x. TakesProperty self.old self.new x.1 x.2.0 (λ value. P.reads value x.0))) }
+        ensures property { IfOk result (λ read. MatchOption read ((self.new ≡ self.old) × AtEnd self.old.reader)
+            (λ x. TakesProperty self.old self.new x.1 x.2.0 (λ value. P.reads value x.0))) }
         ensures same { FurtherIn self.old self.new }
         ensures failed { OnErr result (self.new.reader.failed ≡ true) }
         // A reader that has failed stays so,
         ensures stays { self.old.reader.failed ≡ true → IsErrAnd result (λ e. e ≡ error.FailedReader) }
         // another one is refused where a key is short, and else only as the value's type refuses what is left behind it.
         ensures ends { AtEnd self.old.reader → IsOk result }
-        ensures short { self.old.reader.failed ≡ false → self.old.reader.left ≢ [] → length self.old.reader.left < header_size → IsErrAnd result (IsShortAt self.old.reader.left) }
-        ensures refused { self.old.reader.failed ≡ false → header_size ≤ length self.old.reader.left → IfErr result (λ e. P.refuses (drop header_size self.old.reader.left) e) }
+        ensures short { self.old.reader.failed ≡ false → self.old.reader.left ≢ []
+            → length self.old.reader.left < header_size → IsErrAnd result (IsShortAt self.old.reader.left) }
+        ensures refused { self.old.reader.failed ≡ false → header_size ≤ length self.old.reader.left
+            → IfErr result (λ e. P.refuses (drop header_size self.old.reader.left) e) }
     {
         if self.failed {
             return Err(DeserializeError::FailedReader);
@@ -157,14 +160,21 @@ impl<'de> ObjectPodDeserializer<'de> {
         &mut self,
         key: u32,
     ) -> Result<(P, PropertyFlags), DeserializeError<&'de [u8]>>
-        ensures property { IfOk result (λ read. TakesProperty self.old self.new key read.1.0 (λ value. P.reads value read.0)) }
+        ensures property { IfOk result (λ read. TakesProperty self.old self.new key read.1.0
+            (λ value. P.reads value read.0)) }
         ensures same { FurtherIn self.old self.new }
-        ensures stays { self.old.reader.failed ≡ true → (self.new.reader.failed ≡ true) × IsErrAnd result (λ e. e ≡ error.FailedReader) }
-        ensures missing { AtEnd self.old.reader → (self.new ≡ self.old) × IsErrAnd result (λ e. e ≡ error.PropertyMissing) }
+        ensures stays { self.old.reader.failed ≡ true → (self.new.reader.failed ≡ true)
+            × IsErrAnd result (λ e. e ≡ error.FailedReader) }
+        ensures missing { AtEnd self.old.reader → (self.new ≡ self.old)
+            × IsErrAnd result (λ e. e ≡ error.PropertyMissing) }
         // A refusal makes the reader fail, or is for the end, or for another key.
-        ensures refused { IfErr result (RefusesKey (λ found flags. (x : P) × TakesProperty self.old self.new found flags (λ value. P.reads value x)) key self.old self.new) }
-        ensures short { self.old.reader.failed ≡ false → self.old.reader.left ≢ [] → length self.old.reader.left < header_size → IsErrAnd result (IsShortAt self.old.reader.left) }
-        ensures value { self.old.reader.failed ≡ false → header_size ≤ length self.old.reader.left → IfErr result (λ e. self.new.reader.failed ≡ true → P.refuses (drop header_size self.old.reader.left) e) }
+        ensures refused { IfErr result (RefusesKey
+            (λ found flags. (x : P) × TakesProperty self.old self.new found flags
+            (λ value. P.reads value x)) key self.old self.new) }
+        ensures short { self.old.reader.failed ≡ false → self.old.reader.left ≢ []
+            → length self.old.reader.left < header_size → IsErrAnd result (IsShortAt self.old.reader.left) }
+        ensures value { self.old.reader.failed ≡ false → header_size ≤ length self.old.reader.left
+            → IfErr result (λ e. self.new.reader.failed ≡ true → P.refuses (drop header_size self.old.reader.left) e) }
         // So a reader that hadn't failed is refused for the next property's cause.
         ensures cause { self.old.reader.failed ≡ false → IfErr result (RefusesNext P.refuses key self.old.reader.left) }
     {
@@ -196,7 +206,8 @@ impl<'de> ObjectPodDeserializer<'de> {
         ensures first { self.now.reader.failed ≡ false → IfOk result (FindsFirst P.reads key self.now.reader.left) }
         ensures stays { self.now.reader.failed ≡ true → IsErrAnd result (λ e. e ≡ error.FailedReader) }
         // A refusal is for a property that isn't whole, or is that of the type for the first one's value.
-        ensures refused { self.now.reader.failed ≡ false → IfErr result (RefusesUnder P.refuses key self.now.reader.left) }
+        ensures refused { self.now.reader.failed ≡ false
+            → IfErr result (RefusesUnder P.refuses key self.now.reader.left) }
     {
         match self.find_from::<P, ()>(key, self.left) {
             Ok((found, _)) => Ok(found),
@@ -211,11 +222,14 @@ impl<'de> ObjectPodDeserializer<'de> {
     pub fn find_properties<P: DeserializeProperties<'de>>(
         &self,
     ) -> Result<P, DeserializeError<&'de [u8]>>
-        ensures found { self.now.reader.failed ≡ false → IfOk result (λ x. (ps : Properties) → AreProperties ps self.now.reader.left → P.reads_properties ps x) }
+        ensures found { self.now.reader.failed ≡ false
+            → IfOk result (λ x. (ps : Properties) → AreProperties ps self.now.reader.left → P.reads_properties ps x) }
         // A refusal is that of the property that isn't read. Unless it is for want of memory, these bytes are no such properties.
         ensures named { self.now.reader.failed ≡ false → IfErr result (P.refuses_properties self.now.reader.left) }
-        ensures refused { self.now.reader.failed ≡ false → IfErr result (λ e. OnFault (NoneRead P.reads_properties self.now.reader.left) e) }
-        ensures memory { self.now.reader.failed ≡ false → IfErr result (OnMemory (P.takes_memory self.now.reader.left)) }
+        ensures refused { self.now.reader.failed ≡ false
+            → IfErr result (λ e. OnFault (NoneRead P.reads_properties self.now.reader.left) e) }
+        ensures memory { self.now.reader.failed ≡ false
+            → IfErr result (OnMemory (P.takes_memory self.now.reader.left)) }
     {
         P::find_from(self, self.left)
     }
@@ -288,7 +302,8 @@ impl<'de> ObjectPodDeserializer<'de> {
         ensures ok { IfOk result (λ success. (success ≡ self.entry.reader.after) × AtEnd self.entry.reader) }
         ensures done { AtEnd self.entry.reader → IsOk result }
         ensures failed { self.entry.reader.failed ≡ true → IsErrAnd result (λ e. e ≡ error.FailedReader) }
-        ensures unread { self.entry.reader.failed ≡ false → self.entry.reader.left ≢ [] → IsErrAnd result (λ e. e ≡ error.UnreadMembers) }
+        ensures unread { self.entry.reader.failed ≡ false → self.entry.reader.left ≢ []
+            → IsErrAnd result (λ e. e ≡ error.UnreadMembers) }
         ensures refused { IfErr result (RefusesEnd self.entry.reader) }
     {
         if self.failed {

@@ -120,7 +120,8 @@ impl<'de> PodDeserializer<'de> {
         self,
         visitor: V,
     ) -> Result<(V::Value, DeserializeSuccess<'de>), DeserializeError<&'de [u8]>>
-        ensures read { IfOk result (λ read. IsVisited (type_number k.none_kind) (V.visits visitor) self.entry read.1 read.0) }
+        ensures read { IfOk result
+            (λ read. IsVisited (type_number k.none_kind) (V.visits visitor) self.entry read.1 read.0) }
         ensures refused { IfErr result (RefusesVisit (type_number k.none_kind) (V.declines visitor) self.entry) }
     {
         self.deserialize_as(SpaTypes::None.0, visitor)
@@ -134,7 +135,8 @@ impl<'de> PodDeserializer<'de> {
         self,
         visitor: V,
     ) -> Result<(V::Value, DeserializeSuccess<'de>), DeserializeError<&'de [u8]>>
-        ensures read { IfOk result (λ read. IsVisited (type_number k.bool_kind) (V.visits visitor) self.entry read.1 read.0) }
+        ensures read { IfOk result
+            (λ read. IsVisited (type_number k.bool_kind) (V.visits visitor) self.entry read.1 read.0) }
         ensures refused { IfErr result (RefusesVisit (type_number k.bool_kind) (V.declines visitor) self.entry) }
     {
         self.deserialize_as(SpaTypes::Bool.0, visitor)
@@ -148,7 +150,8 @@ impl<'de> PodDeserializer<'de> {
         self,
         visitor: V,
     ) -> Result<(V::Value, DeserializeSuccess<'de>), DeserializeError<&'de [u8]>>
-        ensures read { IfOk result (λ read. IsVisited (type_number k.int_kind) (V.visits visitor) self.entry read.1 read.0) }
+        ensures read { IfOk result
+            (λ read. IsVisited (type_number k.int_kind) (V.visits visitor) self.entry read.1 read.0) }
         ensures refused { IfErr result (RefusesVisit (type_number k.int_kind) (V.declines visitor) self.entry) }
     {
         self.deserialize_as(SpaTypes::Int.0, visitor)
@@ -162,7 +165,8 @@ impl<'de> PodDeserializer<'de> {
         self,
         visitor: V,
     ) -> Result<(V::Value, DeserializeSuccess<'de>), DeserializeError<&'de [u8]>>
-        ensures read { IfOk result (λ read. IsVisited (type_number k.long_kind) (V.visits visitor) self.entry read.1 read.0) }
+        ensures read { IfOk result
+            (λ read. IsVisited (type_number k.long_kind) (V.visits visitor) self.entry read.1 read.0) }
         ensures refused { IfErr result (RefusesVisit (type_number k.long_kind) (V.declines visitor) self.entry) }
     {
         self.deserialize_as(SpaTypes::Long.0, visitor)
@@ -176,7 +180,8 @@ impl<'de> PodDeserializer<'de> {
         self,
         visitor: V,
     ) -> Result<(V::Value, DeserializeSuccess<'de>), DeserializeError<&'de [u8]>>
-        ensures read { IfOk result (λ read. IsVisited (type_number k.float_kind) (V.visits visitor) self.entry read.1 read.0) }
+        ensures read { IfOk result
+            (λ read. IsVisited (type_number k.float_kind) (V.visits visitor) self.entry read.1 read.0) }
         ensures refused { IfErr result (RefusesVisit (type_number k.float_kind) (V.declines visitor) self.entry) }
     {
         self.deserialize_as(SpaTypes::Float.0, visitor)
@@ -190,7 +195,8 @@ impl<'de> PodDeserializer<'de> {
         self,
         visitor: V,
     ) -> Result<(V::Value, DeserializeSuccess<'de>), DeserializeError<&'de [u8]>>
-        ensures read { IfOk result (λ read. IsVisited (type_number k.double_kind) (V.visits visitor) self.entry read.1 read.0) }
+        ensures read { IfOk result
+            (λ read. IsVisited (type_number k.double_kind) (V.visits visitor) self.entry read.1 read.0) }
         ensures refused { IfErr result (RefusesVisit (type_number k.double_kind) (V.declines visitor) self.entry) }
     {
         self.deserialize_as(SpaTypes::Double.0, visitor)
@@ -246,7 +252,8 @@ impl<'de> PodDeserializer<'de> {
         self,
         visitor: V,
     ) -> Result<(V::Value, DeserializeSuccess<'de>), DeserializeError<&'de [u8]>>
-        ensures read { IfOk result (λ read. IsVisited (type_number k.rectangle_kind) (V.visits visitor) self.entry read.1 read.0) }
+        ensures read { IfOk result
+            (λ read. IsVisited (type_number k.rectangle_kind) (V.visits visitor) self.entry read.1 read.0) }
         ensures refused { IfErr result (RefusesVisit (type_number k.rectangle_kind) (V.declines visitor) self.entry) }
     {
         self.deserialize_as(SpaTypes::Rectangle.0, visitor)
@@ -260,7 +267,8 @@ impl<'de> PodDeserializer<'de> {
         self,
         visitor: V,
     ) -> Result<(V::Value, DeserializeSuccess<'de>), DeserializeError<&'de [u8]>>
-        ensures read { IfOk result (λ read. IsVisited (type_number k.fraction_kind) (V.visits visitor) self.entry read.1 read.0) }
+        ensures read { IfOk result
+            (λ read. IsVisited (type_number k.fraction_kind) (V.visits visitor) self.entry read.1 read.0) }
         ensures refused { IfErr result (RefusesVisit (type_number k.fraction_kind) (V.declines visitor) self.entry) }
     {
         self.deserialize_as(SpaTypes::Fraction.0, visitor)
@@ -274,7 +282,8 @@ impl<'de> PodDeserializer<'de> {
         self,
         visitor: V,
     ) -> Result<(V::Value, DeserializeSuccess<'de>), DeserializeError<&'de [u8]>>
-        ensures read { IfOk result (λ read. IsVisited (type_number k.id_kind) (V.visits visitor) self.entry read.1 read.0) }
+        ensures read { IfOk result
+            (λ read. IsVisited (type_number k.id_kind) (V.visits visitor) self.entry read.1 read.0) }
         ensures refused { IfErr result (RefusesVisit (type_number k.id_kind) (V.declines visitor) self.entry) }
     {
         self.deserialize_as(SpaTypes::Id.0, visitor)
@@ -288,7 +297,8 @@ impl<'de> PodDeserializer<'de> {
         self,
         visitor: V,
     ) -> Result<(V::Value, DeserializeSuccess<'de>), DeserializeError<&'de [u8]>>
-        ensures read { IfOk result (λ read. IsVisited (type_number k.fd_kind) (V.visits visitor) self.entry read.1 read.0) }
+        ensures read { IfOk result
+            (λ read. IsVisited (type_number k.fd_kind) (V.visits visitor) self.entry read.1 read.0) }
         ensures refused { IfErr result (RefusesVisit (type_number k.fd_kind) (V.declines visitor) self.entry) }
     {
         self.deserialize_as(SpaTypes::Fd.0, visitor)
@@ -334,7 +344,9 @@ impl<'de> PodDeserializer<'de> {
     where
         V: Visitor<'de, ArrayElem = T>,
         T: CanonicalFixedSizedPod,
-        ensures read { IfOk result (λ read. IsRead self.entry read.1 (λ value. (items : _) × (value ≡ array T.kind (map T.fixed items.items)) × V.visits visitor (visit.Array items) read.0)) }
+        ensures read { IfOk result (λ read. IsRead self.entry read.1
+            (λ value. (items : _) × (value ≡ array T.kind (map T.fixed items.items))
+            × V.visits visitor (visit.Array items) read.0)) }
         ensures refused { IfErr result (RefusesArrayVisit T.kind T.fixed (V.declines visitor) self.entry) }
     {
         let (items, success) = self.array_pod::<T>()?;
@@ -350,8 +362,10 @@ impl<'de> PodDeserializer<'de> {
         self,
         visitor: V,
     ) -> Result<(V::Value, DeserializeSuccess<'de>), DeserializeError<&'de [u8]>>
-        ensures read { IfOk result (λ read. IsRead self.entry read.1 (λ value. (members : Trees) × (value ≡ struct members) × V.visits_struct visitor members read.0)) }
-        ensures refused { IfErr result (RefusesStruct (V.declines_struct visitor) (V.leaves_struct visitor) self.entry) }
+        ensures read { IfOk result (λ read. IsRead self.entry read.1
+            (λ value. (members : Trees) × (value ≡ struct members) × V.visits_struct visitor members read.0)) }
+        ensures refused { IfErr result (RefusesStruct (V.declines_struct visitor)
+            (V.leaves_struct visitor) self.entry) }
     {
         let mut reader = StructPodDeserializer::open(self)?;
         let value = visitor.visit_struct(&mut reader)?;
@@ -368,8 +382,11 @@ impl<'de> PodDeserializer<'de> {
         self,
         visitor: V,
     ) -> Result<(V::Value, DeserializeSuccess<'de>), DeserializeError<&'de [u8]>>
-        ensures read { IfOk result (λ read. IsRead self.entry read.1 (λ value. (type : ℕ) × (id : ℕ) × (properties : Properties) × (value ≡ object type id properties) × V.visits_object visitor type id properties read.0)) }
-        ensures refused { IfErr result (RefusesObject (V.declines_object visitor) (V.leaves_object visitor) self.entry) }
+        ensures read { IfOk result (λ read. IsRead self.entry read.1
+            (λ value. (type : ℕ) × (id : ℕ) × (properties : Properties) × (value ≡ object type id properties)
+            × V.visits_object visitor type id properties read.0)) }
+        ensures refused { IfErr result (RefusesObject (V.declines_object visitor)
+            (V.leaves_object visitor) self.entry) }
     {
         let mut reader = ObjectPodDeserializer::open(self)?;
         let value = visitor.visit_object(&mut reader)?;

@@ -171,7 +171,8 @@ fn put_enum<C: Chosen, T: Takes>(
     to: &mut T,
 ) -> Result<(), AllocError>
     requires { T.has_room to.old }
-    ensures { OnOk result (T.takes to.old (choice enum_choice flags.0 C.kind (C.fixed default) (map C.fixed alternatives.now.items)) to.new) }
+    ensures { OnOk result (T.takes to.old
+        (choice enum_choice flags.0 C.kind (C.fixed default) (map C.fixed alternatives.now.items)) to.new) }
 {
     let alternatives = copy_elements(alternatives)?;
     let values = ChoiceEnum::Enum {
@@ -191,7 +192,8 @@ fn put_flags<C: Chosen, T: Takes>(
     to: &mut T,
 ) -> Result<(), AllocError>
     requires { T.has_room to.old }
-    ensures { OnOk result (T.takes to.old (choice flags_choice flags.0 C.kind (C.fixed default) (map C.fixed bits.now.items)) to.new) }
+    ensures { OnOk result (T.takes to.old
+        (choice flags_choice flags.0 C.kind (C.fixed default) (map C.fixed bits.now.items)) to.new) }
 {
     let bits = copy_elements(bits)?;
     let values = ChoiceEnum::Flags {

@@ -140,7 +140,8 @@ fn members_step<'a>(members: &'a [Value], others: &'a [Value]) -> Step<'a>
 /// Compares properties up to the next two values that are containers of one type, to a difference or to the end.
 #[inline(always)]
 fn properties_step<'a>(properties: &'a [Property], others: &'a [Property]) -> Step<'a>
-    ensures { Steps (properties_eq (property_views properties.now) (property_views others.now)) (property_node_count (property_views properties.now)) result }
+    ensures { Steps (properties_eq (property_views properties.now) (property_views others.now))
+        (property_node_count (property_views properties.now)) result }
 {
     let mut left = properties;
     let mut others_left = others;

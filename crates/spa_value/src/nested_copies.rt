@@ -123,7 +123,8 @@ impl<'a> CopiedStruct<'a> {
     /// Copies members up to the next that is a struct or an object, which is answered, or all of them. Refused only for want of memory.
     #[inline(always)]
     fn copy_on(&mut self) -> Result<Option<Nested<'a>>, AllocError>
-        ensures { IfOk result (λ nested. CopiesOn (copying_variant.Struct self.old) nested (copying_variant.Struct self.new)) }
+        ensures { IfOk result
+            (λ nested. CopiesOn (copying_variant.Struct self.old) nested (copying_variant.Struct self.new)) }
     {
         let mut left = self.left;
         while let Some((member, behind)) = left.split_first() {
@@ -142,7 +143,8 @@ impl<'a> CopiedObject<'a> {
     /// Copies properties up to the next whose value is a struct or an object, which is answered, or all of them. Refused only for want of memory.
     #[inline(always)]
     fn copy_on(&mut self) -> Result<Option<Nested<'a>>, AllocError>
-        ensures { IfOk result (λ nested. CopiesOn (copying_variant.Object self.old) nested (copying_variant.Object self.new)) }
+        ensures { IfOk result
+            (λ nested. CopiesOn (copying_variant.Object self.old) nested (copying_variant.Object self.new)) }
     {
         let mut left = self.left;
         while let Some((property, behind)) = left.split_first() {

@@ -55,7 +55,8 @@ impl<'a> PodArray<'a> {
     /// An iterator over the elements in order, up to the first that isn't whole. INVAL exactly where an element's type or size isn't that of `T`.
     pub fn elements<T: CanonicalFixedSizedPod>(&self) -> Result<PodElements<'a, T>, Errno>
         ensures ok { OnOk result (HasKind T.kind (array_bytes self.now)) }
-        ensures values { IfOk result (λ elements. elements_left T.kind elements ≡ values_in T.kind (drop header_size (array_bytes self.now))) }
+        ensures values { IfOk result
+            (λ elements. elements_left T.kind elements ≡ values_in T.kind (drop header_size (array_bytes self.now))) }
         ensures accepted { IfOk result (λ elements. (k : Kind) (xs : List Fixed) → IsArray k xs (array_bytes self.now) →
             elements_left T.kind elements ≡ xs) }
         ensures refused { IfErr result (λ e. (¬ (HasKind T.kind (array_bytes self.now))) × (e ≡ Errno.INVAL)) }

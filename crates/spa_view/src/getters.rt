@@ -102,8 +102,10 @@ impl<'a> Pod<'a> {
     /// The rectangle. INVAL exactly where `is_rectangle` is false.
     pub fn get_rectangle(&self) -> Result<Rectangle, Errno>
         ensures ok { OnOk result (t.IsOfKind k.rectangle_kind (pod_bytes self.now)) }
-        ensures value { IfOk result (λ x. k.rectangle x.width x.height ≡ content k.rectangle_kind (body_of (pod_bytes self.now))) }
-        ensures refused { IfErr result (λ e. (¬ (t.IsOfKind k.rectangle_kind (pod_bytes self.now))) × (e ≡ Errno.INVAL)) }
+        ensures value { IfOk result
+            (λ x. k.rectangle x.width x.height ≡ content k.rectangle_kind (body_of (pod_bytes self.now))) }
+        ensures refused { IfErr result (λ e. (¬ (t.IsOfKind k.rectangle_kind (pod_bytes self.now)))
+            × (e ≡ Errno.INVAL)) }
     {
         self.get::<Rectangle>()
     }
@@ -111,8 +113,10 @@ impl<'a> Pod<'a> {
     /// The fraction. INVAL exactly where `is_fraction` is false.
     pub fn get_fraction(&self) -> Result<Fraction, Errno>
         ensures ok { OnOk result (t.IsOfKind k.fraction_kind (pod_bytes self.now)) }
-        ensures value { IfOk result (λ x. k.fraction x.num x.denom ≡ content k.fraction_kind (body_of (pod_bytes self.now))) }
-        ensures refused { IfErr result (λ e. (¬ (t.IsOfKind k.fraction_kind (pod_bytes self.now))) × (e ≡ Errno.INVAL)) }
+        ensures value { IfOk result
+            (λ x. k.fraction x.num x.denom ≡ content k.fraction_kind (body_of (pod_bytes self.now))) }
+        ensures refused { IfErr result (λ e. (¬ (t.IsOfKind k.fraction_kind (pod_bytes self.now)))
+            × (e ≡ Errno.INVAL)) }
     {
         self.get::<Fraction>()
     }

@@ -118,7 +118,8 @@ fn read_properties<'de>(
     reader: &mut ObjectPodDeserializer<'de>,
 ) -> Result<Vec<Property>, DeserializeError<&'de [u8]>>
     ensures same { FurtherIn reader.old reader.new }
-    ensures read { IfOk result (λ properties. AllProperties reader.old (λ trees. trees ≡ property_views properties.items)) }
+    ensures read { IfOk result (λ properties. AllProperties reader.old
+        (λ trees. trees ≡ property_views properties.items)) }
     ensures end { OnOk result (AtEnd reader.new.reader) }
     ensures refused { IfErr result (DeclinesProperties reader.old) }
 {

@@ -43,7 +43,8 @@ pub fn write_sized<S: PodSink>(sink: &mut S, value: &Value) -> Result<u64, GenEr
     ensures put { OnOk result (IsPut S.appends sink.old (view value.now) sink.new) }
     ensures count { IfOk result (λ n. n ≡ length (encoding_of (view value.now))) }
     ensures begun { OnErr result (Begun S.appends sink.old (encoding_of (view value.now)) sink.new) }
-    ensures refused { IfErr result (RefusesPiece (HasNul (view value.now)) (IsTooLarge (view value.now)) (S.refuses sink.old (length (encoding_of (view value.now))) sink.new) sink.old sink.new) }
+    ensures refused { IfErr result (RefusesPiece (HasNul (view value.now)) (IsTooLarge (view value.now))
+        (S.refuses sink.old (length (encoding_of (view value.now))) sink.new) sink.old sink.new) }
 {
     if !is_nested(value) {
         return write_measured(sink, value);
@@ -68,7 +69,9 @@ pub fn write_value<S: PodSink>(alloc: Global, sink: &mut S, value: &Value) -> Re
     ensures put { OnOk result (IsPut S.appends sink.old (view value.now) sink.new) }
     ensures count { IfOk result (λ n. n ≡ length (encoding_of (view value.now))) }
     ensures begun { OnErr result (Begun S.appends sink.old (encoding_of (view value.now)) sink.new) }
-    ensures refused { IfErr result (RefusesPiece (HasNul (view value.now)) (IsTooLarge (view value.now)) (λ e. (e ≡ OutOfMemory) × (sink.new ≡ sink.old) ⊎ S.refuses sink.old (length (encoding_of (view value.now))) sink.new e) sink.old sink.new) }
+    ensures refused { IfErr result (RefusesPiece (HasNul (view value.now)) (IsTooLarge (view value.now))
+        (λ e. (e ≡ OutOfMemory) × (sink.new ≡ sink.old)
+        ⊎ S.refuses sink.old (length (encoding_of (view value.now))) sink.new e) sink.old sink.new) }
 {
     let made = write_by_loop(alloc, value)?;
     sink.append(made.as_slice())?;
@@ -81,7 +84,8 @@ fn write_measured<S: PodSink>(sink: &mut S, value: &Value) -> Result<u64, GenErr
     ensures put { OnOk result (IsPut S.appends sink.old (view value.now) sink.new) }
     ensures count { IfOk result (λ n. n ≡ length (encoding_of (view value.now))) }
     ensures begun { OnErr result (Begun S.appends sink.old (encoding_of (view value.now)) sink.new) }
-    ensures refused { IfErr result (RefusesPiece (HasNul (view value.now)) (IsTooLarge (view value.now)) (S.refuses sink.old (length (encoding_of (view value.now))) sink.new) sink.old sink.new) }
+    ensures refused { IfErr result (RefusesPiece (HasNul (view value.now)) (IsTooLarge (view value.now))
+        (S.refuses sink.old (length (encoding_of (view value.now))) sink.new) sink.old sink.new) }
 {
     let len = encoded_len(value)?;
     put_value(sink, value, Some(len))?;
@@ -140,7 +144,8 @@ fn put_members<S: PodSink>(sink: &mut S, members: &[Value], size: u64) -> Result
     requires writable { IsWritable (tree.struct (views members.now)) }
     requires size { size ≡ length (member_encodings (views members.now)) }
     ensures put { OnOk result (ArePut S.appends sink.old (views members.now) sink.new) }
-    ensures stops { IfErr result (λ e. Stops S.appends S.refuses sink.old (member_encodings (views members.now)) sink.new e) }
+    ensures stops { IfErr result
+        (λ e. Stops S.appends S.refuses sink.old (member_encodings (views members.now)) sink.new e) }
 {
     let mut left = members;
     let mut size = size;
@@ -160,7 +165,8 @@ fn put_all<S: PodSink>(sink: &mut S, members: &[Value], size: u64) -> Result<(),
     requires writable { IsWritable (tree.struct (views members.now)) }
     requires size { size ≡ length (member_encodings (views members.now)) }
     ensures put { OnOk result (ArePut S.appends sink.old (views members.now) sink.new) }
-    ensures stops { IfErr result (λ e. Stops S.appends S.refuses sink.old (member_encodings (views members.now)) sink.new e) }
+    ensures stops { IfErr result
+        (λ e. Stops S.appends S.refuses sink.old (member_encodings (views members.now)) sink.new e) }
 {
     if members.len() == 1 {
         return put_value(sink, &members[0], Some(size));
@@ -175,7 +181,9 @@ fn put_all<S: PodSink>(sink: &mut S, members: &[Value], size: u64) -> Result<(),
 
 /// The length in bytes of this member's encoding: `size`, the length of all members' encodings, less that of the others. None: it isn't found so.
 fn left_for_member(members: &[Value], index: usize, size: u64) -> Option<u64>
-    ensures { IfSome result (λ n. size ≡ length (member_encodings (views (take index members.now))) + n + length (member_encodings (views (drop (index + 1) members.now)))) }
+    ensures { IfSome result
+        (λ n. size ≡ length (member_encodings (views (take index members.now))) + n + length
+        (member_encodings (views (drop (index + 1) members.now)))) }
 {
     if index >= members.len() {
         return None;
@@ -199,7 +207,8 @@ fn put_properties<S: PodSink>(
     requires writable { PropertiesAreWritable (property_views properties.now) }
     requires size { size ≡ length (property_encodings (property_views properties.now)) }
     ensures put { OnOk result (ArePropertiesPut S.appends sink.old (property_views properties.now) sink.new) }
-    ensures stops { IfErr result (λ e. Stops S.appends S.refuses sink.old (property_encodings (property_views properties.now)) sink.new e) }
+    ensures stops { IfErr result
+        (λ e. Stops S.appends S.refuses sink.old (property_encodings (property_views properties.now)) sink.new e) }
 {
     let largest = largest_property(properties, size);
     let left = left_for_property(properties, largest, size);
@@ -219,7 +228,9 @@ fn put_properties<S: PodSink>(
 /// The length in bytes of the encoding of this property's value: `size`, the length of all properties, less that of the others, and of its key
 /// and flags. None: it isn't found so.
 fn left_for_property(properties: &[Property], index: usize, size: u64) -> Option<u64>
-    ensures { IfSome result (λ n. size ≡ length (property_encodings (property_views (take index properties.now))) + (header_size + n) + length (property_encodings (property_views (drop (index + 1) properties.now)))) }
+    ensures { IfSome result
+        (λ n. size ≡ length (property_encodings (property_views (take index properties.now))) +
+        (header_size + n) + length (property_encodings (property_views (drop (index + 1) properties.now)))) }
 {
     if index >= properties.len() {
         return None;
@@ -262,7 +273,8 @@ fn put_checked_leaf<S: PodSink>(sink: &mut S, value: &Value) -> Result<(), GenEr
 fn put_checked_text<S: PodSink>(sink: &mut S, text: &str) -> Result<(), GenError>
     requires { IsWritable (tree.string text.now) }
     ensures put { OnOk result (IsPut S.appends sink.old (tree.string text.now) sink.new) }
-    ensures stops { IfErr result (λ e. Stops S.appends S.refuses sink.old (encoding_of (tree.string text.now)) sink.new e) }
+    ensures stops { IfErr result
+        (λ e. Stops S.appends S.refuses sink.old (encoding_of (tree.string text.now)) sink.new e) }
 {
     put_clean_text(sink, text)
 }
@@ -276,8 +288,10 @@ fn put_keyed<S: PodSink>(
     pod: &[u8; LONGEST_POD_LEN],
 ) -> Result<(), GenError>
     ensures ok { OnOk result (S.appends sink.old ((word_bytes key ++ word_bytes flags) ++ pod.now) sink.new) }
-    ensures begun { OnErr result ((count : ℕ) × S.appends sink.old (take count ((word_bytes key ++ word_bytes flags) ++ pod.now)) sink.new) }
-    ensures cause { IfErr result (λ e. S.refuses sink.old (length ((word_bytes key ++ word_bytes flags) ++ pod.now)) sink.new e) }
+    ensures begun { OnErr result ((count : ℕ)
+        × S.appends sink.old (take count ((word_bytes key ++ word_bytes flags) ++ pod.now)) sink.new) }
+    ensures cause { IfErr result
+        (λ e. S.refuses sink.old (length ((word_bytes key ++ word_bytes flags) ++ pod.now)) sink.new e) }
 {
     sink.append(&keyed_pod(two_words(key, flags), pod))
 }
@@ -302,9 +316,12 @@ fn put_four<S: PodSink>(
     third: u32,
     fourth: u32,
 ) -> Result<(), GenError>
-    ensures ok { OnOk result (S.appends sink.old ((word_bytes first ++ word_bytes second) ++ (word_bytes third ++ word_bytes fourth)) sink.new) }
+    ensures ok { OnOk result (S.appends sink.old
+        ((word_bytes first ++ word_bytes second) ++ (word_bytes third ++ word_bytes fourth)) sink.new) }
     ensures within { (third < size_limit) × (fourth < size_limit) }
-    ensures begun { OnErr result ((count : ℕ) × S.appends sink.old (take count ((word_bytes first ++ word_bytes second) ++ (word_bytes third ++ word_bytes fourth))) sink.new) }
+    ensures begun { OnErr result ((count : ℕ)
+        × S.appends sink.old (take count
+        ((word_bytes first ++ word_bytes second) ++ (word_bytes third ++ word_bytes fourth))) sink.new) }
     ensures cause { IfErr result (λ e. S.refuses sink.old 16 sink.new e) }
 {
     sink.append(&joined(two_words(first, second), two_words(third, fourth)))

@@ -16,10 +16,7 @@ pub fn agreed(ours: &[u8], theirs: &[u8]) -> Result<Vec<u8>, FilterError> {
 }
 
 /// The sample rate on which two sides agree by the narrower rules of `negotiate_pods`, whose answer has plain values. None: the answer has none.
-pub fn agreed_rate(
-    ours: &[u8],
-    theirs: &[u8],
-) -> Result<Option<i32>, NegotiateError> {
+pub fn agreed_rate(ours: &[u8], theirs: &[u8]) -> Result<Option<i32>, NegotiateError> {
     let format = negotiate_pods(ours, theirs)?;
     let Some(pod) = Pod::from_bytes(format.as_slice()) else {
         return Ok(None);

@@ -7,7 +7,7 @@ use Rattle.spa_recordings.specs.GoingOn.{MakesOf}
 use Rattle.spa_recordings.specs.declared.reading.Reading.{Reading}
 use Rattle.spa_recordings.specs.declared.reading.Reading.TheVariants.{Exact, Lenient}
 use Rattle.spa_refusals.specs.Refusals.{IsFirstRefusal}
-use Rattle.spa_text_commands.specs.Texts.{Reads, RefusesTexts}
+use Rattle.spa_text_commands.specs.Texts.{ReadsTexts, RefusesTexts}
 use Rattle.spa_text_read.specs.declared.fitting.Strictness.{Strictness}
 use Rattle.pod_commands.specs.Colours.{PrintsIn}
 use Rattle.pod_commands.specs.declared.request.Making.{Making}
@@ -18,7 +18,7 @@ use Rattle.pod_commands.specs.declared.answer.Failure.TheVariants.{Pods, Texts, 
 -- what is made of an input; of one that is checked nothing
 abbrev pub Makes : Making → (input out : List ℕ) → Type 0
 Makes (Json style) input out = PrintsIn style input out
-Makes (Read strictness) input out = Reads strictness input out
+Makes (Read strictness) input out = ReadsTexts strictness input out
 Makes Rewrite input out = Rewrites input out
 Makes Fixate input out = Fixates input out
 Makes Check input out = (out ≡ []) × ((vs : Trees) × AreMembers vs input)

@@ -1,4 +1,4 @@
--- Refusals of a rewriting where the input lies: docs/FORMAT.md, "Faults".
+-- Refusals of a rewriting in place: docs/FORMAT.md, "Faults".
 use Rattle.std.specs.Prelude.{⊤, ◌≡◌, ℕ, List, drop}
 use Rattle.std.specs.Borrow.{Bor}
 use Rattle.spa_fixed_sized.specs.declared.fault.DeserializeError.{DeserializeError}
@@ -8,7 +8,7 @@ use Rattle.spa_format.specs.Pod.{AreMembers}
 use Rattle.spa_bodies.specs.Reading.{OnFault}
 use Rattle.spa_rewrite.specs.Rewriting.{IsLeft, RefusesFront}
 
--- the same refusal, of which only the place isn't told
+-- the two refusals have one cause; that of a call in place has no place
 abbrev pub IsFaultOf : DeserializeError ⊤ → DeserializeError (Bor (List ℕ)) → Type 0
 IsFaultOf e told = kind_text e ≡ kind_text told
 

@@ -1,4 +1,4 @@
-//! Rewriting where the input lies.
+//! Rewriting in place, in the buffer of the input.
 ghost use Rattle.std.specs.Prelude.{◌≡◌, ◌-◌, ◌≤◌, [], IfErr, IfOk, OnErr, drop, length, take};
 ghost use Rattle.spa_fixed_sized.specs.declared.fault.DeserializeError.TheVariants as refused;
 ghost use Rattle.spa_in_place.specs.InPlace.{IsFaultOf, RefusesListAt};
@@ -99,7 +99,7 @@ fn move_rest(changed: ChangedPods, pods: &mut [u8])
     tail.carry(&mut pods[end..]);
 }
 
-/// The same refusal, without a place.
+/// The refusal without its place.
 fn without_place(error: DeserializeError<&[u8]>) -> DeserializeError<()>
     ensures same { IsFaultOf result error.entry }
     ensures memory { error.entry ≡ refused.OutOfMemory → result ≡ refused.OutOfMemory }

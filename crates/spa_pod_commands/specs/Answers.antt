@@ -84,7 +84,7 @@ pub record Writes (Makes : List ℕ → List ℕ → Type 0) (remaining old new 
   pub made : Makes input out
   pub written : Appends old new out
 
--- the same, but that only so many first bytes of it were written, maybe all, and then the output failed
+-- such an output was begun: so many first bytes of it were written, maybe all, and then the output failed
 pub record BeginsToWrite (Makes : List ℕ → List ℕ → Type 0) (remaining old new : Option (List ℕ)) : Type 0 where
   pub input : List ℕ
   pub read : IsAllOf remaining input
@@ -143,7 +143,7 @@ abbrev pub IsRefusalAt : ℕ → List ℕ → Failure → Type 0
 IsRefusalAt place name (Pod p kind) = (p ≡ place) × (kind.now ≡ name)
 IsRefusalAt place name _ = ⊥
 
--- what is told for this error
+-- the failure for this error
 abbrev pub Tells : {I : Type 0} → ℕ → DeserializeError I → Failure → Type 0
 Tells place error.OutOfMemory failure = failure ≡ OutOfMemory
 Tells place e failure = IsRefusalAt place (kind_text e) failure

@@ -109,7 +109,7 @@ pub record IsAccepted (input : List ℕ) (pod : AcceptedPod) : Type 0 where
   pub shorter : BeginsShorter input pod.rest.now pod.surplus
   pub exactly : Decides pod.canonical (BeginsCanonical input pod.rest.now)
 
--- the same, where only an answer to a question says that it is canonical
+-- such a pod, whose field `canonical` is right only where it was asked for
 pub record IsAcceptedAsked (asked : Bool) (input : List ℕ) (pod : AcceptedPod) : Type 0 where
   pub shorter : BeginsShorter input pod.rest.now pod.surplus
   pub exactly : asked ≡ true → Decides pod.canonical (BeginsCanonical input pod.rest.now)

@@ -23,7 +23,7 @@ pub record WritesPod (pod old new : List ℕ) (len : ℕ) : Type 0 where
   pub within : len ≤ length pod
   pub behind : drop len new ≡ drop len old
 
--- the same of pods one after another
+-- the encodings of pods one after another were written to the front, and what is behind them stays
 pub record WritesPods (keyed : Bool) (pods old new : List ℕ) (len : ℕ) : Type 0 where
   pub placed : ArePlaced keyed pods (take len new)
   pub within : len ≤ length pods

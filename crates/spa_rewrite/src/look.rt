@@ -59,7 +59,7 @@ pub enum Rejected<'a> {
     /// It is malformed. The fault stands at the front of these bytes: what is left from there on of the input, or of the struct or object
     /// inside which it stands.
     Fault(&'a [u8], Refusal),
-    /// More than 1000 structs and objects stand in one another, not counting those that end where the one around them does.
+    /// More than 1000 structs and objects stand in one another, not counting those in tail position.
     TooDeep,
 }
 
@@ -95,8 +95,8 @@ const MANY: usize = 1000;
 
 /// Looks at the pod at the front of the input.
 ///
-/// It takes no memory. Any pod is accepted in which at most 1000 structs and objects stand in one another; where more do, those alone count that
-/// don't end where the one around them does.
+/// It takes no memory. Any pod is accepted in which at most 1000 structs and objects stand in one another; where more do, those in tail position
+/// don't count.
 pub fn look_at_pod(input: &[u8]) -> Result<AcceptedPod<'_>, Rejected<'_>>
     ensures accepted { IfOk result (IsAccepted input.now) }
     ensures rejected { IfErr result (IsRejected input.now) }

@@ -124,8 +124,8 @@ pub fn rewrite_in_parts(
 
 /// Tells whether `rewrite_all` would accept the input, and else refuses it as that call does.
 ///
-/// It takes memory only for a pod in which more than 1000 structs and objects stand in one another, not counting those that end where the one
-/// around them does: such a pod is read as a value, which is dropped.
+/// It takes memory only for a pod in which more than 1000 structs and objects stand in one another, not counting those in tail position: such a pod
+/// is read as a value, which is dropped.
 pub fn accept_all(alloc: Global, input: &[u8]) -> Result<(), (&[u8], DeserializeError<&[u8]>)>
     ensures accepted { OnOk result ((vs : Trees) × AreMembers vs input.now) }
     ensures refused { IfErr result (λ refusal. RefusesList input.now refusal.0.now refusal.1) }

@@ -40,7 +40,7 @@ NestsDeeper (suc n) b =
     × (((word_at b 4 ≡ struct_type) × SomeOf (NestsDeeper n) (walk (body_of b)))
     ⊎ ((word_at b 4 ≡ object_type) × SomeOf (λ p. NestsDeeper n (drop header_size p)) (property_walk (drop header_size (body_of b)))))
 
--- the same of a body of this type
+-- the structs and objects in a body of this type nest deeper than so many levels
 abbrev pub IsDeepBody : ℕ → ℕ → List ℕ → Type 0
 IsDeepBody zero type body = (type ≡ struct_type) ⊎ (type ≡ object_type)
 IsDeepBody (suc n) type body =

@@ -23,7 +23,7 @@ pub fn print_then_read(alloc: Global, value: &Value) -> Result<Value, AllocError
     read_again(alloc, bytes.as_slice())
 }
 
-/// The same of a value that is printed on lines of its own.
+/// Prints a value indented, and reads what is printed: the same value, unless memory runs out.
 pub fn print_pretty_then_read(alloc: Global, value: &Value) -> Result<Value, AllocError>
     ensures { IfOk result (λ again. view again ≡ view value.now) }
 {

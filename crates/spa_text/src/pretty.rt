@@ -29,7 +29,7 @@ pub fn print_pretty(alloc: Global, value: &Value, out: &mut Vec<u8>) -> Result<(
     out.extend_from_slice(text.as_slice())
 }
 
-/// The same tokens, each member and each property on a line of its own.
+/// The tokens of a text, with each member and each property on a line of its own.
 #[tactic(auto, using(crate::proofs::Relaid::none_laid, crate::proofs::Relaid::one_laid, crate::proofs::Relaid::all_laid, crate::proofs::Relaid::next_printable))]
 fn laid_out(alloc: Global, line: &str) -> Result<Vec<u8>, AllocError>
     requires { AreGood (tokens line.now) }

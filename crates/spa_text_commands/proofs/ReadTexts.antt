@@ -8,7 +8,7 @@ use Rattle.spa_format.specs.Writable.{HasNul, IsTooLarge}
 use Rattle.std.proofs.Math.Seq.{take-append_seam}
 use Rattle.std.proofs.lemmas.List.{length-take-le, take-append-drop}
 use Rattle.spa_text_commands.specs.Extent.{BeginsText, column_behind, line_behind}
-use Rattle.spa_text_commands.specs.Texts.{BeginTexts, HasNoPod, IsRefusedAt, IsText, IsTextFor, Reads, RefusesTexts}
+use Rattle.spa_text_commands.specs.Texts.{BeginTexts, HasNoPod, IsRefusedAt, IsText, IsTextFor, ReadsTexts, RefusesTexts}
 use Rattle.spa_text_commands.specs.Unread.{IsFor, IsNoPod, IsNoText}
 use Rattle.spa_text_commands.specs.declared.answer.Failure.{Failure}
 use Rattle.spa_text_commands.specs.declared.answer.Failure.TheVariants.{NoPods, Line, OutOfMemory, WriteFailed}
@@ -90,7 +90,7 @@ before_is s input left pods so =
     let n : length input - length left ≡ length so.before = omega (arith, l) in
     ap (λ k. take k input) n ∙ ap (λ l. take (length so.before) l) so.whole ∙ take-append_seam so.before left
 
-pub ends : (s : Strictness) (input left pods : List ℕ) → ReadSoFar s input left pods → length left ≡ 0 → Reads s input pods
+pub ends : (s : Strictness) (input left pods : List ℕ) → ReadSoFar s input left pods → length left ≡ 0 → ReadsTexts s input pods
 ends s input left pods so e = (so.values, subst (BeginTexts s so.values input) (empty left e) so.texts, so.made)
 
 -- ---- Refusals

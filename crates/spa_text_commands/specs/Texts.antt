@@ -48,9 +48,9 @@ BeginTexts s no_trees bytes left = bytes ≡ left
 BeginTexts s (member v vs) bytes left =
     (text : List ℕ) × (others : List ℕ) × BeginsText bytes text others × IsTextFor s v text × BeginTexts s vs others left
 
--- the pods of the values of which the input is texts, one after another
-abbrev pub Reads : Strictness → List ℕ → List ℕ → Type 0
-Reads s input out = (vs : Trees) × BeginTexts s vs input [] × (out ≡ member_encodings vs)
+-- the pods of the values of which the input is texts, one after another: of the lines 1 and [] the words 4, 4, 1, 0, 0, 14
+abbrev pub ReadsTexts : Strictness → List ℕ → List ℕ → Type 0
+ReadsTexts s input out = (vs : Trees) × BeginTexts s vs input [] × (out ≡ member_encodings vs)
 
 -- the bytes aren't UTF-8, or no text of a value that is taken, or one of a value that has no pod
 abbrev pub HasNoPod : Strictness → List ℕ → Type 0

@@ -19,7 +19,7 @@ const FLOAT_MAGNITUDE: u32 = 0x7fff_ffff;
 
 const FLOAT_INFINITY: u32 = 0x7f80_0000;
 
-/// The same for a double.
+/// The bits of a double that give its magnitude, and those of an infinity.
 const DOUBLE_MAGNITUDE: u64 = 0x7fff_ffff_ffff_ffff;
 
 const DOUBLE_INFINITY: u64 = 0x7ff0_0000_0000_0000;

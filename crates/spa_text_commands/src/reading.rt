@@ -2,7 +2,7 @@
 ghost use Rattle.std.specs.Prelude.{◌≡◌, ◌≢◌, ◌+◌, ◌<◌, ◌^◌, ◌++◌, [], IfErr, IfOk, IfSome, OnOk, length};
 ghost use Rattle.spa_text_commands.specs.Extent.{BeginsText};
 ghost use Rattle.spa_text_commands.specs.Splitting.{ClosesString};
-ghost use Rattle.spa_text_commands.specs.Texts.{IsTextFor, Reads, RefusesTexts};
+ghost use Rattle.spa_text_commands.specs.Texts.{IsTextFor, ReadsTexts, RefusesTexts};
 ghost use Rattle.spa_text_commands.specs.Unread.{IsFor, IsNoPod, IsNoText};
 ghost use Rattle.spa_format.specs.Encoding.{encoding_of};
 ghost use Rattle.spa_format.specs.Tree.{Tree};
@@ -33,7 +33,7 @@ enum Unread {
 /// The pods of the values of which the bytes are texts; read strictly, of no value with another type than the one that belongs under a key.
 #[tactic(auto, using(crate::proofs::ReadTexts::ends, crate::proofs::ReadTexts::left_fits, crate::proofs::ReadTexts::counted))]
 pub fn read_all(alloc: Global, strictness: Strictness, bytes: &[u8]) -> Result<Vec<u8>, Failure>
-    ensures read { IfOk result (λ pods. Reads strictness bytes.now pods.items) }
+    ensures read { IfOk result (λ pods. ReadsTexts strictness bytes.now pods.items) }
     ensures refused { IfErr result (RefusesTexts strictness bytes.now) }
 {
     let mut reader = TextReader::new(alloc);

@@ -18,7 +18,7 @@ pub struct Printout<'a> {
 pub enum Form {
     /// A line for each value, with names, also of refused pods.
     Lines,
-    /// The same lines, and below those of a pod its bytes in hex.
+    /// Those lines, and below those of a pod its bytes in hex.
     LinesAndBytes,
     /// A text in this layout; nothing of a refused pod.
     Text(Layout),

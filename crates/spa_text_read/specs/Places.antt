@@ -35,7 +35,7 @@ pub data Opens : List Token → List Open → List Token → Type 0 where
   none : {ts : List Token} → Opens ts [] ts
   one : {ts us : List Token} {os : List Open} {t : Token} → Opens ts os (t ∷ us) → Opens ts (after t os) us
 
--- how many bytes of a key are told, and of a path, before two points stand for the rest
+-- how many bytes of a key, and of a path, are printed before two points stand for the rest
 abbrev pub key_limit : ℕ
 key_limit = 64
 

@@ -42,7 +42,7 @@ impl fmt::Display for TextError {
 
 impl Error for TextError {}
 
-/// A path as it is told behind a cause: nothing where there is none.
+/// A path as an error prints it behind its cause: nothing where there is none.
 #[derive(Clone, Copy)]
 pub struct AtPath<'a>(pub &'a str);
 

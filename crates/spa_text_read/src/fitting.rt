@@ -75,7 +75,7 @@ impl fmt::Display for FullType {
     }
 }
 
-/// A misfit as it is told behind a path: nothing where there is none.
+/// The types of a misfit as an error prints them: nothing where there is none.
 #[derive(Clone, Copy)]
 pub struct InPlace(pub Option<Misfit>);
 

@@ -1,4 +1,4 @@
-//! Rewriting where the input lies.
+//! Rewriting in place, in the buffer of the input.
 
 use crate::shims::prelude::*;
 use crate::parts::spa_in_place::into::put_first;
@@ -71,7 +71,7 @@ fn move_rest(changed: ChangedPods, pods: &mut [u8]) {
     tail.carry(&mut pods[end..]);
 }
 
-/// The same refusal, without a place.
+/// The refusal without its place.
 fn without_place(error: DeserializeError<&[u8]>) -> DeserializeError<()> {
     match error {
         DeserializeError::Nom(fault) => DeserializeError::Nom(Fault {

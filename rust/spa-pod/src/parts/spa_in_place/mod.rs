@@ -1,4 +1,4 @@
-//! Rewriting where the input lies, and into bytes of the caller's.
+//! Rewriting in place, and into a buffer of the caller's.
 use crate::shims::prelude::*;
 mod in_place;
 mod into;

@@ -74,8 +74,8 @@ pub fn rewrite_in_parts(
 
 /// Tells whether `rewrite_all` would accept the input, and else refuses it as that call does.
 ///
-/// It takes memory only for a pod in which more than 1000 structs and objects stand in one another, not counting those that end where the one
-/// around them does: such a pod is read as a value, which is dropped.
+/// It takes memory only for a pod in which more than 1000 structs and objects stand in one another, not counting those in tail position: such a pod
+/// is read as a value, which is dropped.
 pub fn accept_all(input: &[u8]) -> Result<(), (&[u8], DeserializeError<&[u8]>)> {
     let mut left = input;
     loop {

@@ -37,6 +37,8 @@ ArePatched true old new = (ps : Properties) → AreProperties ps old → length 
 ArePatched false old new = (vs : Trees) → AreMembers vs old → length (member_encodings vs) ≡ length old → new ≡ member_encodings vs
 
 -- The bytes before this place are done: once those from there on become their rewritings, all have.
+-- Of two Ints with padding 9, the words 4, 4, 1, 9, 4, 4, 2, 9, the first is done in 4, 4, 1, 0, 4, 4, 2, 9 at place 16: with 4, 4, 2, 0 behind
+-- these 16 bytes both are their encodings.
 pub record PatchesOn (all keyed : Bool) (old now : List ℕ) (at : ℕ) : Type 0 where
   pub within : at ≤ length now
   pub long : length now ≡ length old
@@ -73,6 +75,8 @@ bytes_taken enum_choice size all = all
 bytes_taken flags_choice size all = all
 
 -- a choice that takes so many bytes of values became its rewriting, if that is as long, whatever its size word was
+-- A Range of Ints with one value too many, the words 32, 19, 1, 0, 4, 4, 5, 1, 9, 7, takes 12 bytes of values, and became 28, 19, 1, 0, 4, 4, 5,
+-- 1, 9, 0.
 abbrev pub TakesValues : ℕ → ℕ → List ℕ → List ℕ → Type 0
 TakesValues shape n old new = (pod : List ℕ) (size : ℕ) → IsPodOf pod choice_type size → drop 8 pod ≡ drop 8 old → 16 ≤ size → n ≤ size - 16 →
     shape ≡ word_at pod 8 → ((s : Shape) → shape ≡ shape_number s → n ≡ bytes_taken s (word_at pod 16) (size - 16)) → IsPatched pod new

@@ -10,6 +10,7 @@ pub fn events_are_few()
 
 /// No list ends at the bound on levels: any two numbers of levels that aren't less than the pod's length give the same events.
 pub fn levels_are_enough()
-    ensures { (n m depth parent index at : ℕ) (pod : List ℕ) → length pod ≡ extent (word_at pod 0) → length pod ≤ n → length pod ≤ m →
+    ensures { (n m depth parent index at : ℕ) (pod : List ℕ) →
+        length pod ≡ extent (word_at pod 0) → length pod ≤ n → length pod ≤ m →
         events_within n depth parent index at pod ≡ events_within m depth parent index at pod }
 {}

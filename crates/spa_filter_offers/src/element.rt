@@ -28,9 +28,11 @@ pub trait Element: Stepped {
 
     /// The element of this type that the value is. None: it is of another type.
     fn in_value(value: &Value) -> Option<Self>
-        ensures { MatchOption result ((x : Fixed) → view value.now ≡ fixed x → ¬ (kind_of x ≡ Self.kind)) (λ x. view value.now ≡ fixed (Self.fixed x)) };
+        ensures { MatchOption result ((x : Fixed) → view value.now ≡ fixed x → ¬ (kind_of x ≡ Self.kind))
+            (λ x. view value.now ≡ fixed (Self.fixed x)) };
 
     /// The choice as one over this type. None: it admits no element of this type.
     fn in_choice(choice: &ChoiceValue) -> Option<&Choice<Self>>
-        ensures { MatchOption result ((x : Fixed) → Admits (choice_view choice.now) (fixed x) → ¬ (kind_of x ≡ Self.kind)) (λ c. choice_view choice.now ≡ choice_tree Self.kind Self.fixed c.now) };
+        ensures { MatchOption result ((x : Fixed) → Admits (choice_view choice.now) (fixed x) → ¬ (kind_of x ≡ Self.kind))
+            (λ c. choice_view choice.now ≡ choice_tree Self.kind Self.fixed c.now) };
 }

@@ -55,7 +55,8 @@ pub trait DeserializeProperties<'de>: Sized + Drop {
             → IfErr result (refuses_properties b) }
         ensures refused { reader.now.reader.failed ≡ false → (b : List ℕ) → LeadsToAll asks from.now b
             → IfErr result (λ e. OnFault (NoneRead reads_properties b) e) }
-        ensures memory { reader.now.reader.failed ≡ false → (b : List ℕ) → LeadsToAll asks from.now b → IfErr result (OnMemory (takes_memory b)) };
+        ensures memory { reader.now.reader.failed ≡ false → (b : List ℕ) → LeadsToAll asks from.now b →
+            IfErr result (OnMemory (takes_memory b)) };
 }
 
 impl<'de> DeserializeProperties<'de> for () {

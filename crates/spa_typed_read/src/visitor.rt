@@ -103,7 +103,8 @@ pub trait Visitor<'de>: Sized + Drop {
         ensures same { Further reader.old reader.new }
         ensures declined { IfErr result (λ e. declines_struct self.now reader.old reader.new e) }
         ensures left { OnOk result (leaves_struct self.now reader.old reader.new) }
-        ensures made { IfOk result (λ x. AtEnd reader.new → AllMembers reader.old (λ members. visits_struct self.now members x)) };
+        ensures made { IfOk result (λ x. AtEnd reader.new →
+            AllMembers reader.old (λ members. visits_struct self.now members x)) };
 
     /// Reads an object's properties and makes a value of them. It should read all: `made` is owed only then, and otherwise
     /// the typed read is refused.
@@ -114,5 +115,6 @@ pub trait Visitor<'de>: Sized + Drop {
         ensures same { FurtherIn reader.old reader.new }
         ensures declined { IfErr result (λ e. declines_object self.now reader.old reader.new e) }
         ensures left { OnOk result (leaves_object self.now reader.old reader.new) }
-        ensures made { IfOk result (λ x. AtEnd reader.new.reader → AllProperties reader.old (λ properties. visits_object self.now reader.old.type reader.old.id properties x)) };
+        ensures made { IfOk result (λ x. AtEnd reader.new.reader →
+            AllProperties reader.old (λ properties. visits_object self.now reader.old.type reader.old.id properties x)) };
 }

@@ -33,7 +33,8 @@ pub trait PodSerialize {
         ensures count { IfOk result (λ s. s.count ≡ length (encoding_of (value self.now))) }
         ensures typed { OnOk result (IsTyped (value self.now)) }
         ensures writable { OnOk result (IsWritable (value self.now)) }
-        ensures cause { IfErr result (λ e. refuses self.now e ⊎ MayRefuse O.refuses serializer (length (encoding_of (value self.now))) e) };
+        ensures cause { IfErr result (λ e. refuses self.now e ⊎
+            MayRefuse O.refuses serializer (length (encoding_of (value self.now))) e) };
 }
 
 /// Writes one pod to the end of an output.

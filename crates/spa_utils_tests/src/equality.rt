@@ -86,7 +86,8 @@ fn same_choice<T: PartialEq>(a: &ChoiceEnum<T>, b: &ChoiceEnum<T>) -> bool
 }
 
 fn same_whole_choice<T: PartialEq>(a: &Choice<T>, b: &Choice<T>) -> bool
-    ensures { result ≡ ((a.now.0.0 == b.now.0.0) && ((shape_of a.now.1 == shape_of b.now.1) && pointwise T.eq (values_of a.now.1) (values_of b.now.1))) }
+    ensures { result ≡ ((a.now.0.0 == b.now.0.0) &&
+        ((shape_of a.now.1 == shape_of b.now.1) && pointwise T.eq (values_of a.now.1) (values_of b.now.1))) }
 {
     a == b
 }

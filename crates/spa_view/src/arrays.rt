@@ -120,7 +120,8 @@ impl<'a> PodChoice<'a> {
     /// The shape word: 0 None, 1 Range, 2 Step, 3 Enum, 4 Flags. A greater one is no shape's.
     pub fn shape(&self) -> u32
         ensures shape { result ≡ word_at (body_of (choice_bytes self.now)) 0 }
-        ensures accepted { (s : Shape) (f : ℕ) (k : Kind) (x : Fixed) (xs : List Fixed) → IsPod (choice_bytes self.now) (choice s f k x xs) →
+        ensures accepted { (s : Shape) (f : ℕ) (k : Kind) (x : Fixed) (xs : List Fixed) →
+            IsPod (choice_bytes self.now) (choice s f k x xs) →
             result ≡ shape_number s }
     {
         u32_at(self.pod.body(), 0)
@@ -129,7 +130,8 @@ impl<'a> PodChoice<'a> {
     /// The flags word, which means nothing in a None choice.
     pub fn flags(&self) -> ChoiceFlags
         ensures flags { result.0 ≡ word_at (body_of (choice_bytes self.now)) 4 }
-        ensures accepted { (s : Shape) (f : ℕ) (k : Kind) (x : Fixed) (xs : List Fixed) → IsPod (choice_bytes self.now) (choice s f k x xs) →
+        ensures accepted { (s : Shape) (f : ℕ) (k : Kind) (x : Fixed) (xs : List Fixed) →
+            IsPod (choice_bytes self.now) (choice s f k x xs) →
             kept_flags s result.0 ≡ f }
     {
         ChoiceFlags::from_bits_retain(u32_at(self.pod.body(), SECOND_WORD))
@@ -138,7 +140,8 @@ impl<'a> PodChoice<'a> {
     /// The values that the shape takes, the default first: of None one, of Range three, of Step four, of any other all that are there.
     pub fn values(&self) -> PodArray<'a>
         ensures values { array_bytes result ≡ choice_values (body_of (choice_bytes self.now)) }
-        ensures accepted { (s : Shape) (f : ℕ) (k : Kind) (x : Fixed) (xs : List Fixed) → IsPod (choice_bytes self.now) (choice s f k x xs) →
+        ensures accepted { (s : Shape) (f : ℕ) (k : Kind) (x : Fixed) (xs : List Fixed) →
+            IsPod (choice_bytes self.now) (choice s f k x xs) →
             IsArray k (x ∷ xs) (array_bytes result) }
     {
         let (_, values) = self.pod.body().split_at(HEADER_LEN);
@@ -163,7 +166,8 @@ impl<'a> Pod<'a> {
     pub fn as_array(&self) -> Result<PodArray<'a>, Errno>
         ensures ok { OnOk result (t.IsArrayPod (pod_bytes self.now)) }
         ensures value { IfOk result (λ values. array_bytes values ≡ body_of (pod_bytes self.now)) }
-        ensures accepted { IfOk result (λ values. (k : Kind) (xs : List Fixed) → IsPod (pod_bytes self.now) (array k xs) →
+        ensures accepted { IfOk result (λ values. (k : Kind) (xs : List Fixed) →
+            IsPod (pod_bytes self.now) (array k xs) →
             IsArray k xs (array_bytes values)) }
         ensures refused { IfErr result (λ e. (¬ (t.IsArrayPod (pod_bytes self.now))) × (e ≡ Errno.INVAL)) }
     {

@@ -93,9 +93,11 @@ impl<'a> PodObject<'a> {
     pub fn get<T: FromPod<'a>>(&self, key: Id) -> Option<T>
         ensures value { IfSome result (λ x. StandsUnder key.0 (T.says x) (object_bytes self.now)) }
         ensures none { IfNone result ((x : T) → ¬ (StandsUnder key.0 (T.says x) (object_bytes self.now))) }
-        ensures accepted { IfSome result (λ x. (t i : ℕ) (ps : Properties) → IsPod (object_bytes self.now) (object t i ps) →
+        ensures accepted { IfSome result (λ x. (t i : ℕ) (ps : Properties) →
+            IsPod (object_bytes self.now) (object t i ps) →
             IsSettledUnder key.0 (T.says x) ps) }
-        ensures absent { IfNone result ((x : T) (t i : ℕ) (ps : Properties) → IsPod (object_bytes self.now) (object t i ps) →
+        ensures absent { IfNone result ((x : T) (t i : ℕ) (ps : Properties) →
+            IsPod (object_bytes self.now) (object t i ps) →
             ¬ (IsSettledUnder key.0 (T.says x) ps)) }
     {
         match self.find_prop(key) {

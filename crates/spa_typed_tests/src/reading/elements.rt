@@ -112,7 +112,8 @@ fn taken<'de, E: FixedSizedPod + Drop>(
     reader: &mut ArrayPodDeserializer<'de, E>,
     count: u32,
 ) -> Result<Vec<E>, DeserializeError<&'de [u8]>>
-    ensures { IfOk result (λ elements. TakesElements E.CanonicalType.kind E.CanonicalType.fixed E.of_canonical reader.old elements.items reader.new) }
+    ensures { IfOk result (λ elements.
+        TakesElements E.CanonicalType.kind E.CanonicalType.fixed E.of_canonical reader.old elements.items reader.new) }
 {
     let mut elements = Vec::new(reader.allocator());
     for _ in 0..count {

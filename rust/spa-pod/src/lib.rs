@@ -30,6 +30,7 @@ pub use shims::memory::{AllocError, TryClone};
 
 /// Pods: values and their rewriting, and borrowed views.
 pub mod pod {
+    pub use crate::api::faults::{FoundFault, find_fault};
     pub use crate::parts::libspa::pod::*;
 
     /// Reading values.
@@ -41,21 +42,26 @@ pub mod pod {
 
 /// Negotiation: the object in which two objects meet, each of whose values both admit.
 ///
+/// Of choices it takes None, Enum, and Range over Id, Int or Long, and refuses others as `Unsupported`. Formats of video have Ranges over
+/// rectangles and fractions, so for real formats call [`filtering`](crate::filtering), and then `settle`.
+///
 /// ```
+/// use spa_pod::names::{ids, keys, types};
 /// use spa_pod::negotiation::negotiate_pods;
 /// use spa_pod::pod::serialize::PodSerializer;
 /// use spa_pod::pod::{Value, object, property};
 /// use spa_pod::utils::{Id, SpaTypes};
 ///
 /// # fn main() -> Result<(), Box<dyn std::error::Error>> {
-/// // Two ports, and which rates (65539) each of them has.
-/// let ours = object!(SpaTypes(262147), Id(3), property!(Id(65539), Choice, Enum, Int, 44100, 44100, 48000)?)?;
-/// let theirs = object!(SpaTypes(262147), Id(3), property!(Id(65539), Choice, Range, Int, 96000, 48000, 192000)?)?;
+/// // Two ports, and which rates each of them has.
+/// let (type_, id, rate) = (SpaTypes(types::OBJECT_FORMAT), Id(ids::PARAM_ENUM_FORMAT), Id(keys::FORMAT_AUDIO_RATE));
+/// let ours = object!(type_, id, property!(rate, Choice, Enum, Int, 44100, 44100, 48000)?)?;
+/// let theirs = object!(type_, id, property!(rate, Choice, Range, Int, 96000, 48000, 192000)?)?;
 /// let (ours, _) = PodSerializer::serialize(Vec::new(), &Value::Object(ours))?;
 /// let (theirs, _) = PodSerializer::serialize(Vec::new(), &Value::Object(theirs))?;
 ///
 /// let met = negotiate_pods(&ours, &theirs)?;
-/// let wanted = object!(SpaTypes(262147), Id(3), property!(Id(65539), Int, 48000)?)?;
+/// let wanted = object!(type_, id, property!(rate, Int, 48000)?)?;
 /// assert_eq!(met, PodSerializer::serialize(Vec::new(), &Value::Object(wanted))?.0);
 /// # Ok(())
 /// # }
@@ -65,7 +71,31 @@ pub mod negotiation {
     pub use crate::parts::spa_negotiate_objects::is_supported;
 }
 
-/// Filtering: the object that admits exactly what two objects both admit.
+/// Filtering: the object that admits exactly what two objects both admit. `settle` then sets each choice of it to its default.
+///
+/// ```
+/// use spa_pod::filtering::{FilterError, filter, settle};
+/// use spa_pod::names::{ids, keys, types};
+/// use spa_pod::pod::{object, property};
+/// use spa_pod::utils::{Fraction, Id, SpaTypes};
+///
+/// # fn main() -> Result<(), Box<dyn std::error::Error>> {
+/// let (type_, id, rate) = (SpaTypes(types::OBJECT_FORMAT), Id(ids::PARAM_ENUM_FORMAT), Id(keys::FORMAT_VIDEO_FRAMERATE));
+/// let per_second = |num| Fraction { num, denom: 1 };
+/// let ours = object!(type_, id, property!(rate, Choice, Range, Fraction, per_second(30), per_second(0), per_second(60))?)?;
+/// let theirs = object!(type_, id, property!(rate, Choice, Enum, Fraction, per_second(90), per_second(90), per_second(50))?)?;
+///
+/// // An Enum of 50 alone is left, and 50 is its default.
+/// let left = filter(&ours, &theirs)?;
+/// assert_eq!(left, object!(type_, id, property!(rate, Choice, Enum, Fraction, per_second(50), per_second(50))?)?);
+/// assert_eq!(settle(&left)?, object!(type_, id, property!(rate, Fraction, per_second(50))?)?);
+///
+/// // An error names the key that keeps the two apart.
+/// let theirs = object!(type_, id, property!(rate, Fraction, per_second(90))?)?;
+/// assert!(matches!(filter(&ours, &theirs), Err(FilterError::Disjoint(key)) if key == keys::FORMAT_VIDEO_FRAMERATE));
+/// # Ok(())
+/// # }
+/// ```
 pub mod filtering {
     pub use crate::parts::spa_filter::{FilterError, Side, filter, settle};
     pub use crate::parts::spa_filter_pods::filter_pods;
@@ -78,7 +108,7 @@ pub mod events {
 
 /// The names that PipeWire gives types, keys, ids and shapes: as constants with C's names, such as `keys::FORMAT_AUDIO_RATE`, and as tables.
 pub mod names {
-    pub use crate::parts::spa_names::{ids, keys, shapes, types};
+    pub use crate::parts::spa_names::{formats, ids, keys, shapes, types};
     pub use crate::parts::spa_names::{Expected, Table, expected_under, ids_of, keys_of, name_of, number_of, path_of};
 }
 

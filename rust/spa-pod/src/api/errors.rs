@@ -21,7 +21,7 @@ impl DeserializeError<&[u8]> {
     pub fn placed_in(self, input: &[u8]) -> DeserializeError<usize> {
         match self {
             DeserializeError::Nom(fault) => DeserializeError::Nom(Fault {
-                input: input.len().saturating_sub(fault.input.len()),
+                input: offset_in(input, fault.input),
                 kind: fault.kind,
             }),
             DeserializeError::UnsupportedType => DeserializeError::UnsupportedType,
@@ -37,6 +37,13 @@ impl DeserializeError<&[u8]> {
             DeserializeError::OutOfMemory => DeserializeError::OutOfMemory,
         }
     }
+}
+
+/// At which byte of `input` the bytes `place`, a part of it, begin. What is left inside of a container ends before the input does, so
+/// lengths don't tell. Where `place` is no part of it, the answer is the input's length at most.
+pub(crate) fn offset_in(input: &[u8], place: &[u8]) -> usize {
+    let before = (place.as_ptr() as usize).wrapping_sub(input.as_ptr() as usize);
+    before.min(input.len())
 }
 
 impl Display for result::Error {

@@ -43,6 +43,8 @@ INPUTS = {
     "shrinks": SHRINKS * 1000,
     "shrinks-mixed": SHRINKS + examples(10_000),
     "shrinks-dirty-mixed": SHRINKS + dirty(examples(10_000)),
+    # one behind pods with dirty padding
+    "dirty-mixed-shrinks": dirty(examples(10_000)) + SHRINKS,
     "shrinks-ints": SHRINKS + pod(STRUCT, pod(INT, words(7)) * 100_000),
     # an Int and such a Bool in turn
     "in-turn": pod(STRUCT, (pod(INT, words(7)) + pod(BOOL, words(2))) * 500) * 100,

@@ -1,28 +1,21 @@
--- Rewritings that are put where their pods lay.
-use Rattle.std.proofs.Common.{◌≡◌, ℕ, ◌+◌, ◌-◌, ◌≤◌, inl, inr, List, [], ◌++◌, length, take, drop, refl, sym, ap, ◌∙◌, subst, arith, append-nil, append_assoc, length-append}
+-- Why pods aren't rewritten in place; and what was written elsewhere and copied back.
+use Rattle.std.proofs.Common.{◌≡◌, ℕ, ◌+◌, ◌-◌, ◌≤◌, inl, inr, List, [], ◌++◌, length, take, drop, refl, sym, ap, ◌∙◌, subst, arith, length-append}
 use Rattle.std.specs.Borrow.{Bor}
-use Rattle.std.specs.Prelude.{⊤, false}
-use Rattle.std.proofs.lemmas.List.{drop-drop, drop_at, nil_from_length, take_at}
+use Rattle.std.specs.Prelude.{⊤}
+use Rattle.std.proofs.lemmas.List.{drop_at, take_at}
 use Rattle.spa_format.proofs.Short.{short_members}
 use Rattle.spa_fixed_sized.specs.declared.fault.DeserializeError.{DeserializeError}
 use Rattle.spa_fixed_sized.specs.declared.fault.DeserializeError.TheVariants as error
-use Rattle.spa_fixed_sized.specs.declared.fault.Refusal.TheVariants as refusal
 use Rattle.spa_bodies.specs.Reading.{OnFault, OnMemory}
-use Rattle.spa_in_place.specs.InPlace.{IsFaultOf, RefusesListAt}
+use Rattle.spa_in_place.specs.InPlace.{IsFaultOf, RefusesListAt, WritesShorter}
+use Rattle.spa_in_place.proofs.ChangedPods.{behind_canonical}
 use Rattle.spa_rewrite.specs.Memory.{AsksMemory}
 use borrow.Rule.Slice.PartMut.{put_mid}
-use Rattle.spa_format.specs.Tree.{join_members}
-use Rattle.spa_format.specs.Pod.{AreMembers}
-use Rattle.spa_format.specs.Encoding.{member_encodings}
-use Rattle.spa_format.proofs.Sequences.{members_joined}
 use Rattle.spa_scan.specs.Canonical.{AreCanonical}
 use Rattle.spa_rewrite.specs.Rewriting.{AreRewritten, IsLeft, RefusesFront, RefusesList}
-use Rattle.spa_rewrite.specs.Shorter.{AreShorter}
-use Rattle.spa_rewrite.proofs.Patches.{put_end}
+use Rattle.spa_rewrite.specs.Shorter.{AreRewrittenAs, AreShorter}
 use Rattle.spa_rewrite.proofs.FirstPods.{accepted_behind, left_behind_pods}
-use Rattle.spa_rewrite.proofs.Stretches.{both_rewritten, list_refused, member_encodings-join}
-use Rattle.spa_rewrite.proofs.Appended.{written_behind}
-use Rattle.spa_rewrite.proofs.Written.{drop_past, take_past}
+use Rattle.spa_rewrite.proofs.Stretches.{list_refused}
 
 -- what is left begins behind so many bytes
 pub left_at : (input left : List ℕ) (at : ℕ) → IsLeft input left → at ≡ length input - length left → drop at input ≡ left
@@ -47,8 +40,8 @@ of_fact F h error.NoElementLeft = h
 of_fact F h error.FailedReader = h
 of_fact F h error.OutOfMemory = tt
 
-same_fact : {I J : Type 0} (F : Type 0) (told : DeserializeError I) (e : DeserializeError J) →
-    (told ≡ error.OutOfMemory → e ≡ error.OutOfMemory) → OnFault F told → OnFault F e
+same_fact : {I J : Type 0} (F : Type 0) (placed : DeserializeError I) (e : DeserializeError J) →
+    (placed ≡ error.OutOfMemory → e ≡ error.OutOfMemory) → OnFault F placed → OnFault F e
 same_fact F (error.Nom f) e m h = of_fact F h e
 same_fact F error.UnsupportedType e m h = of_fact F h e
 same_fact F error.InvalidType e m h = of_fact F h e
@@ -62,25 +55,25 @@ same_fact F error.NoElementLeft e m h = of_fact F h e
 same_fact F error.FailedReader e m h = of_fact F h e
 same_fact F error.OutOfMemory e m h = subst (OnFault F) (sym (m refl)) tt
 
-pub refused_at : (input left : List ℕ) (at : ℕ) (told : DeserializeError (Bor (List ℕ))) (e : DeserializeError ⊤) →
-    RefusesList input left told → at ≡ length input - length left → IsFaultOf e told →
-    (told ≡ error.OutOfMemory → e ≡ error.OutOfMemory) → RefusesListAt input at e
-refused_at input left at told e r n s m =
+pub refused_at : (input left : List ℕ) (at : ℕ) (placed : DeserializeError (Bor (List ℕ))) (e : DeserializeError ⊤) →
+    RefusesList input left placed → at ≡ length input - length left → IsFaultOf e placed →
+    (placed ≡ error.OutOfMemory → e ≡ error.OutOfMemory) → RefusesListAt input at e
+refused_at input left at placed e r n s m =
     let d = left_at input left at r.behind n in
     record {
       behind = subst (IsLeft input) (sym d) r.behind;
-      refused = same_fact _ told e m r.refused;
-      told = told;
-      front = subst (λ l. RefusesFront l told) (sym d) r.front;
+      refused = same_fact _ placed e m r.refused;
+      placed = placed;
+      front = subst (λ l. RefusesFront l placed) (sym d) r.front;
       same = s;
     }
 
-pub refused_behind : (input first others left : List ℕ) (at : ℕ) (told : DeserializeError (Bor (List ℕ))) (e : DeserializeError ⊤) →
-    input ≡ first ++ others → AreCanonical first → RefusesList others left told → at ≡ length input - length left → IsFaultOf e told →
-    (told ≡ error.OutOfMemory → e ≡ error.OutOfMemory) → RefusesListAt input at e
-refused_behind input first others left at told e i k f n same m =
-    refused_at input left at told e
-    (list_refused input left told (left_behind_pods input first others left k.values i k.members f.behind) f.front) n same m
+pub refused_behind : (input first others left : List ℕ) (at : ℕ) (placed : DeserializeError (Bor (List ℕ))) (e : DeserializeError ⊤) →
+    input ≡ first ++ others → AreCanonical first → RefusesList others left placed → at ≡ length input - length left → IsFaultOf e placed →
+    (placed ≡ error.OutOfMemory → e ≡ error.OutOfMemory) → RefusesListAt input at e
+refused_behind input first others left at placed e i k f n same m =
+    refused_at input left at placed e
+    (list_refused input left placed (left_behind_pods input first others left k.values i k.members f.behind) f.front) n same m
 
 -- the bytes behind the first pods
 pub others_left : (input first others : List ℕ) → input ≡ first ++ others → drop (length first) input ≡ others
@@ -90,38 +83,11 @@ others_left input first others i = ap (drop (length first)) i ∙ drop_at first 
 pub rewritten_room : (pods out : List ℕ) → AreRewritten pods [] out → length out ≤ length pods
 rewritten_room pods out w = let s = short_members w.0 pods w.1 in let l = ap length w.2 in omega arith
 
-pub rewritten_shorter : (pods out : List ℕ) → AreRewritten pods [] out → AreShorter pods (length pods - length out)
+rewritten_shorter : (pods out : List ℕ) → AreRewritten pods [] out → AreShorter pods (length pods - length out)
 rewritten_shorter pods out w =
     let s = short_members w.0 pods w.1 in
     let l = ap length w.2 in
     record { values = w.0; members = w.1; long = omega arith }
-
--- the rewritings of the others are where these began
-pub record RestPlaced (input new : List ℕ) (n : ℕ) : Type 0 where
-  pub rewritten : AreRewritten input [] (take (length input - n) new)
-  pub behind : drop (length input - n) new ≡ drop (length input - n) input
-
-pub rest_placed : (input first others sub_old sub : List ℕ) (k n : ℕ) → input ≡ first ++ others → AreCanonical first → AreShorter others n →
-    k ≡ length input - length first → sub_old ≡ drop (length first) input → AreRewritten sub_old [] (take (length sub_old - n) sub) →
-    drop (length sub_old - n) sub ≡ drop (length sub_old - n) sub_old → RestPlaced input (put_mid (length first) k input sub) n
-rest_placed input first others sub_old sub k n i c h kl so w b =
-    let at = length first in
-    let left : sub_old ≡ others = so ∙ others_left input first others i in
-    let left_long = ap length left in
-    let i0 = ap length i ∙ length-append first others in
-    let h0 = h.long in
-    let front : take at input ≡ first = ap (take at) i ∙ take_at first others at refl in
-    let new : put_mid at k input sub ≡ first ++ sub = put_end at k input sub kl ∙ ap (λ x. x ++ sub) front in
-    let m = length sub_old - n in
-    let end : length input - n ≡ at + m = omega arith in
-    let taken : take (length input - n) (put_mid at k input sub) ≡ first ++ take m sub =
-    ap (take (length input - n)) new ∙ ap (λ j. take j (first ++ sub)) end ∙ take_past first sub at m refl in
-    let written : AreRewritten others [] (take m sub) = subst (λ x. AreRewritten x [] (take m sub)) left w in
-    record {
-      rewritten = subst (AreRewritten input []) (sym taken) (both_rewritten input first others (take m sub) i c written);
-      behind = ap (drop (length input - n)) new ∙ ap (λ j. drop j (first ++ sub)) end ∙ drop_past first sub at m refl ∙ b ∙ ap (drop m) so
-          ∙ drop-drop m at input ∙ ap (λ j. drop j input) (sym end);
-    }
 
 -- what was written elsewhere of the others is copied there
 pub record CopiedBehind (input new : List ℕ) (end : ℕ) : Type 0 where
@@ -134,19 +100,19 @@ pub copied_behind : (input first others written sub_old sub : List ℕ) (k l : �
     sub ≡ written ++ drop (length written) sub_old → CopiedBehind input (put_mid (length first) k input sub) (length first + l)
 copied_behind input first others written sub_old sub k l i c w z kl so b =
     let n = length others - length written in
-    let h = rewritten_shorter others written w in
     let few = rewritten_room others written w in
     let left : sub_old ≡ others = so ∙ others_left input first others i in
     let old_is = ap length left in
     let many : length sub_old - n ≡ length written = omega arith in
-    let front : take (length sub_old - n) sub ≡ written = ap (λ m. take m sub) many ∙ ap (take (length written)) b ∙ take_at written (drop (length written) sub_old) (length written) refl in
-    let back : drop (length sub_old - n) sub ≡ drop (length sub_old - n) sub_old =
-    ap (λ m. drop m sub) many ∙ ap (drop (length written)) b ∙ drop_at written (drop (length written) sub_old) (length written) refl
-    ∙ ap (λ m. drop m sub_old) (sym many) in
-    let there : AreRewritten sub_old [] (take (length sub_old - n) sub) =
-    subst (AreRewritten sub_old []) (sym front) (subst (λ x. AreRewritten x [] written) (sym left) w) in
-    let all = rest_placed input first others sub_old sub k n i c h kl so there back in
-    let i0 = ap length i ∙ length-append first others in
+    let there : WritesShorter sub_old sub_old sub n = record {
+      rewritten = subst (AreRewritten sub_old [])
+          (sym (ap (λ m. take m sub) many ∙ ap (take (length written)) b ∙ take_at written (drop (length written) sub_old) (length written) refl))
+          (subst (λ x. AreRewritten x [] written) (sym left) w);
+      behind = ap (λ m. drop m sub) many ∙ ap (drop (length written)) b ∙ drop_at written (drop (length written) sub_old) (length written) refl
+          ∙ ap (λ m. drop m sub_old) (sym many);
+    } in
+    let all = behind_canonical input first others sub_old sub k n i c kl so (rewritten_shorter others written w) there in
+    let whole = ap length i ∙ length-append first others in
     let at : length input - n ≡ length first + l = omega arith in
     let new = put_mid (length first) k input sub in
     record {
@@ -154,6 +120,10 @@ copied_behind input first others written sub_old sub k l i c w z kl so b =
       within = omega arith;
       behind = subst (λ m. drop m new ≡ drop m input) at all.behind;
     }
+
+-- the length that is answered
+pub into_counted : (input : List ℕ) (n len : ℕ) → AreShorter input n → len ≡ length input - n → AreRewrittenAs input len
+into_counted input n len s e = let l = s.long in record { values = s.values; members = s.members; long = omega arith }
 
 on_memory : {I : Type 0} (P : Type 0) (e : DeserializeError I) → (e ≡ error.OutOfMemory → P) → OnMemory P e
 on_memory P (error.Nom f) h = tt

@@ -1,2 +1,2 @@
-pub mod InPlaceLemmas
 pub mod ChangedPods
+pub mod InPlaceLemmas

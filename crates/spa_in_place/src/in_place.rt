@@ -1,12 +1,13 @@
 //! Rewriting in place, in the buffer of the input.
-ghost use Rattle.std.specs.Prelude.{◌≡◌, ◌-◌, ◌≤◌, [], IfErr, IfOk, OnErr, drop, length, take};
+ghost use Rattle.std.specs.Prelude.{◌≡◌, ◌≤◌, [], IfErr, IfOk, OnErr, drop, length, take};
 ghost use Rattle.spa_fixed_sized.specs.declared.fault.DeserializeError.TheVariants as refused;
-ghost use Rattle.spa_in_place.specs.InPlace.{IsFaultOf, RefusesListAt};
+ghost use Rattle.spa_in_place.specs.InPlace.{IsFaultOf, RefusesListAt, WritesShorter};
 ghost use Rattle.spa_bodies.specs.Reading.{OnMemory};
 ghost use Rattle.spa_rewrite.specs.Look.{AreChanged};
 ghost use Rattle.spa_rewrite.specs.Memory.{AsksMemory};
 ghost use Rattle.spa_rewrite.specs.Rewriting.{AreRewritten};
-ghost use Rattle.spa_rewrite.specs.Shorter.{ArePodsWithin};
+ghost use Rattle.spa_rewrite.specs.Shorter.{ArePodsWithin, AreShorter};
+ghost use Rattle.spa_scan.specs.Canonical.{AreCanonical};
 ghost use Rattle.spa_scan.specs.Depth.{levels_looked_into};
 
 use crate::into::put_first;
@@ -24,10 +25,10 @@ use std::alloc::Global;
 /// The call is refused exactly as `rewrite_all`, and then no byte is changed. A refusal gives how many bytes stand before the refused
 /// pod, and its fault without the place inside it, which `accept_all` of `spa_rewrite` gives.
 ///
-/// All pods are looked at first, and a fault that the look finds is the refusal. Then those up to the last one that isn't canonical are patched where
-/// they are, or written to the front if one of them gets shorter, and the canonical ones behind them are moved. That takes no memory where at most
-/// 1000 structs and objects stand in one another. Where more do, the look may find that the pods behind the first canonical ones nest too deep: then
-/// their rewritings are made in memory, by `rewrite_all`, and copied back.
+/// All pods are looked at first, and a fault that the look finds is the refusal. Then those before the first one that gets shorter are patched where
+/// they are, those from it up to the last one that isn't canonical are written behind them, and the canonical ones that follow are moved at once. That
+/// takes no memory where at most 1000 structs and objects stand in one another. Where more do, the look may find that the pods behind the first canonical
+/// ones nest too deep: then their rewritings are made in memory, by `rewrite_all`, and copied back.
 pub fn rewrite_in_place(
     alloc: Global,
     bytes: &mut [u8],
@@ -66,34 +67,32 @@ pub fn rewrite_in_place(
     }
 }
 
-/// Replaces pods by their encodings, at their front: they are patched where none gets shorter.
+/// Replaces pods by their encodings, at their front: those before the first one that gets shorter are patched where they are.
 #[inline(always)]
 fn place_rest(changed: ChangedPods, pods: &mut [u8])
     requires { AreChanged pods.old changed }
-    ensures rewritten { AreRewritten pods.old [] (take (length pods.old - changed.surplus) pods.new) }
-    ensures behind { drop (length pods.old - changed.surplus) pods.new ≡ drop (length pods.old - changed.surplus) pods.old }
+    ensures { WritesShorter pods.old pods.old pods.new changed.surplus }
 {
-    if changed.surplus > 0 {
-        move_rest(changed, pods);
-    } else {
-        patch_all(&mut pods[..changed.len]);
-    }
+    patch_all(&mut pods[..changed.same_length]);
+    move_rest(
+        changed.others,
+        changed.surplus,
+        &mut pods[changed.same_length..],
+    );
 }
 
-/// Replaces pods by their encodings, at their front. Canonical pods behind the last one that isn't are moved at once.
+/// Replaces pods by their encodings, at their front: so many bytes of them are written, and canonical pods behind them moved at once.
 #[inline(always)]
-fn move_rest(changed: ChangedPods, pods: &mut [u8])
-    requires { AreChanged pods.old changed }
-    ensures rewritten { AreRewritten pods.old [] (take (length pods.old - changed.surplus) pods.new) }
-    ensures behind { drop (length pods.old - changed.surplus) pods.new ≡ drop (length pods.old - changed.surplus) pods.old }
+fn move_rest(len: usize, surplus: usize, pods: &mut [u8])
+    requires within { len ≤ length pods.old }
+    requires shorter { AreShorter (take len pods.old) surplus }
+    requires canonical { AreCanonical (drop len pods.old) }
+    ensures { WritesShorter pods.old pods.old pods.new surplus }
 {
-    let source = Within {
-        start: 0,
-        end: changed.len,
-    };
-    let end = write_all(changed.surplus, source, &mut pods[..changed.len]);
+    let source = Within { start: 0, end: len };
+    let end = write_all(surplus, source, &mut pods[..len]);
     let tail = Within {
-        start: changed.len - end,
+        start: len - end,
         end: pods.len() - end,
     };
     tail.carry(&mut pods[end..]);

@@ -68,7 +68,7 @@ refused_at input left placed e r s = record {
 pub lacks_memory_at : (input : List ℕ) (at : ℕ) → exact.RefusesListAt input at error.OutOfMemory → RefusesListAt input at error.OutOfMemory
 lacks_memory_at input at r =
     let l = r.behind in
-    let front : HasFront (drop at input) = subst (OnMemory (HasFront (drop at input))) (named_memory r.told (sym r.same)) r.front.memory in
+    let front : HasFront (drop at input) = subst (OnMemory (HasFront (drop at input))) (named_memory r.placed (sym r.same)) r.front.memory in
     record {
       placed = error.OutOfMemory;
       list = record {

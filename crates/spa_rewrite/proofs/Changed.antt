@@ -1,6 +1,7 @@
 -- Pods up to the last one that isn't canonical.
 use Rattle.std.proofs.Common.{◌≡◌, ℕ, ◌+◌, ◌-◌, ◌<◌, List, ◌++◌, length, take, drop, refl, sym, ap, ◌∙◌, subst, arith, append-nil, length-append}
 use Rattle.std.proofs.lemmas.List.{drop_at, nil_from_length, take-append-drop, take_at}
+use Rattle.std.specs.Borrow.{Bor}
 use Rattle.spa_format.specs.Tree.{join_members}
 use Rattle.spa_format.specs.Pod.{AreMembers}
 use Rattle.spa_format.specs.Encoding.{encoding_of, member_encodings}
@@ -21,16 +22,21 @@ use Rattle.spa_rewrite.proofs.Stretches.{member_encodings-join}
 use Rattle.spa_rewrite.proofs.ShorterLemmas.{CountsOn, counts_more, counts_none}
 use Rattle.std.specs.Prelude.{Bool, false, true}
 
--- all before what is left is accepted, and canonical behind the last pod that isn't
-pub record ChangesUpTo (pods tail left : List ℕ) (surplus : ℕ) : Type 0 where
+-- All pods before what is left are accepted: those before the others are as long as their encodings, and those behind the last one that isn't canonical
+-- are.
+pub record ChangesUpTo (pods others tail left : List ℕ) (surplus : ℕ) : Type 0 where
   pub seen : IsLookedOver pods left surplus
-  pub changed : IsLookedOver pods tail surplus
+  pub same_length : IsLookedOver pods others 0
+  pub since : IsLookedOver others left surplus
+  pub changed : IsLookedOver others tail surplus
   pub last : IsStretch tail left
   pub counts : CountsOn false levels_looked_into pods left surplus
 
-pub no_changes : (pods : List ℕ) → ChangesUpTo pods pods pods 0
+pub no_changes : (pods : List ℕ) → ChangesUpTo pods pods pods pods 0
 no_changes pods = record {
   seen = nothing_looked_over pods;
+  same_length = nothing_looked_over pods;
+  since = nothing_looked_over pods;
   changed = nothing_looked_over pods;
   last = no_stretch pods;
   counts = counts_none false levels_looked_into pods;
@@ -44,10 +50,10 @@ canonical_surplus left rest n s c =
     let l = s.long in
     omega arith
 
--- one more that is
-pub canonical_more : (asked : Bool) (pods tail left : List ℕ) (pod : AcceptedPod) (surplus : ℕ) → ChangesUpTo pods tail left surplus → 0 < length left →
-    IsAcceptedAsked asked left pod → pod.canonical ≡ true → ChangesUpTo pods tail pod.rest.now (surplus + pod.surplus)
-canonical_more asked pods tail left pod surplus h l a e =
+-- one more that is canonical
+pub canonical_more : (asked : Bool) (pods others tail left : List ℕ) (pod : AcceptedPod) (surplus : ℕ) → ChangesUpTo pods others tail left surplus →
+    0 < length left → IsAcceptedAsked asked left pod → pod.canonical ≡ true → ChangesUpTo pods others tail pod.rest.now (surplus + pod.surplus)
+canonical_more asked pods others tail left pod surplus h l a e =
     let s = a.shorter in
     let rest = pod.rest.now in
     let c = accepted_canonical asked left pod a e in
@@ -55,56 +61,107 @@ canonical_more asked pods tail left pod surplus h l a e =
     let same : surplus ≡ surplus + pod.surplus = omega arith in
     record {
       seen = one_looked_over pods left rest surplus pod.surplus h.seen s;
-      changed = subst (IsLookedOver pods tail) same h.changed;
+      same_length = h.same_length;
+      since = one_looked_over others left rest surplus pod.surplus h.since s;
+      changed = subst (IsLookedOver others tail) same h.changed;
       last = stretch_more tail left rest h.last c;
       counts = counts_more false levels_looked_into pods left left rest surplus pod.surplus h.counts l refl s.begins.follows s;
     }
 
--- and one that isn't, or may not be
-pub changed_more : (asked : Bool) (pods tail left : List ℕ) (pod : AcceptedPod) (surplus : ℕ) → ChangesUpTo pods tail left surplus → 0 < length left →
-    IsAcceptedAsked asked left pod → ChangesUpTo pods pod.rest.now pod.rest.now (surplus + pod.surplus)
-changed_more asked pods tail left pod surplus h l a =
+-- one that isn't, or may not be, behind others that get shorter,
+pub others_more : (asked : Bool) (pods others tail left : List ℕ) (pod : AcceptedPod) (surplus : ℕ) → ChangesUpTo pods others tail left surplus →
+    0 < length left → IsAcceptedAsked asked left pod → ChangesUpTo pods others pod.rest.now pod.rest.now (surplus + pod.surplus)
+others_more asked pods others tail left pod surplus h l a =
     let s = a.shorter in
     let rest = pod.rest.now in
-    let seen = one_looked_over pods left rest surplus pod.surplus h.seen s in
+    let since = one_looked_over others left rest surplus pod.surplus h.since s in
     record {
-      seen = seen;
-      changed = seen;
+      seen = one_looked_over pods left rest surplus pod.surplus h.seen s;
+      same_length = h.same_length;
+      since = since;
+      changed = since;
       last = no_stretch rest;
       counts = counts_more false levels_looked_into pods left left rest surplus pod.surplus h.counts l refl s.begins.follows s;
     }
 
-pub all_changed : (pods tail left : List ℕ) (len surplus : ℕ) → ChangesUpTo pods tail left surplus → length left ≡ 0 → len ≡ length pods - length tail →
-    AreChanged pods (record { len = len; surplus = surplus })
-all_changed pods tail left len surplus h z e =
+-- and one behind pods that don't: the others begin anew
+pub others_none : (pods others tail left : List ℕ) (surplus : ℕ) → ChangesUpTo pods others tail left surplus → surplus ≡ 0 →
+    ChangesUpTo pods left left left surplus
+others_none pods others tail left surplus h z =
+    let none = subst (IsLookedOver left left) (sym z) (nothing_looked_over left) in
+    record {
+      seen = h.seen;
+      same_length = subst (IsLookedOver pods left) z h.seen;
+      since = none;
+      changed = none;
+      last = no_stretch left;
+      counts = h.counts;
+    }
+
+pub changes_are : (pods others tail left : List ℕ) (surplus : ℕ) (new_others new_tail : Bor (List ℕ)) → ChangesUpTo pods others tail left surplus →
+    new_others.now ≡ others → new_tail.now ≡ tail → ChangesUpTo pods new_others.now new_tail.now left surplus
+changes_are pods others tail left surplus new_others new_tail h e f =
+    subst (λ x. ChangesUpTo pods new_others.now x left surplus) (sym f) (subst (λ x. ChangesUpTo pods x tail left surplus) (sym e) h)
+
+pub all_changed : (pods others tail left : List ℕ) (same_length more surplus : ℕ) → ChangesUpTo pods others tail left surplus → length left ≡ 0 →
+    same_length ≡ length pods - length others → more ≡ length others - length tail →
+    AreChanged pods (record { same_length = same_length; others = more; surplus = surplus })
+all_changed pods others tail left same_length more surplus h z e f =
+    let s = h.same_length in
     let c = h.changed in
     let t = h.last in
-    let l = ap length c.1 ∙ length-append c.0 tail in
-    let n : len ≡ length c.0 = omega arith in
-    let front : take len pods ≡ c.0 = ap (take len) c.1 ∙ take_at c.0 tail len (sym n) in
-    let back : drop len pods ≡ tail = ap (drop len) c.1 ∙ drop_at c.0 tail len (sym n) in
+    let l = ap length s.1 ∙ length-append s.0 others in
+    let m = ap length c.1 ∙ length-append c.0 tail in
+    let n : same_length ≡ length s.0 = omega arith in
+    let k : more ≡ length c.0 = omega arith in
+    let front : take same_length pods ≡ s.0 = ap (take same_length) s.1 ∙ take_at s.0 others same_length (sym n) in
+    let behind : drop same_length pods ≡ others = ap (drop same_length) s.1 ∙ drop_at s.0 others same_length (sym n) in
+    let mid : take more (drop same_length pods) ≡ c.0 = ap (take more) (behind ∙ c.1) ∙ take_at c.0 tail more (sym k) in
+    let back : drop more (drop same_length pods) ≡ tail = ap (drop more) (behind ∙ c.1) ∙ drop_at c.0 tail more (sym k) in
     let whole : tail ≡ t.0 = t.1 ∙ ap (λ x. t.0 ++ x) (nil_from_length left z) ∙ append-nil t.0 in
     record {
-      shorter = subst (λ x. AreShorter x surplus) (sym front) c.2;
+      same_length = subst (λ x. AreShorter x 0) (sym front) s.2;
+      shorter = subst (λ x. AreShorter x surplus) (sym mid) c.2;
       within = omega arith;
       canonical = subst AreCanonical (sym (back ∙ whole)) t.2;
     }
 
+-- where there are no pods
+pub none_changed : (pods : List ℕ) → length pods ≡ 0 → AreChanged pods (record { same_length = 0; others = 0; surplus = 0 })
+none_changed pods z = all_changed pods pods pods pods 0 0 0 (no_changes pods) z (omega arith) (omega arith)
+
+-- first pods and those behind them
+pub shorter_joined : (pods first rest : List ℕ) (m n : ℕ) → pods ≡ first ++ rest → AreShorter first m → AreShorter rest n → AreShorter pods (m + n)
+shorter_joined pods first rest m n e s t =
+    let vs = join_members s.values t.values in
+    let l0 = s.long in
+    let l1 = t.long in
+    let l2 = ap length (member_encodings-join s.values t.values) ∙ length-append (member_encodings s.values) (member_encodings t.values) in
+    let l3 = ap length e ∙ length-append first rest in
+    record {
+      values = vs;
+      members = subst (AreMembers vs) (sym e) (members_joined s.values t.values first rest s.members t.members);
+      long = omega arith;
+    }
+
+canonical_shorter : (pods : List ℕ) → AreCanonical pods → AreShorter pods 0
+canonical_shorter pods k =
+    let own = ap length k.same in
+    record { values = k.values; members = k.members; long = omega arith }
+
+-- those behind the ones that are as long as their encodings
+pub others_shorter : (pods : List ℕ) (c : ChangedPods) → AreChanged pods c → AreShorter (drop c.same_length pods) c.surplus
+others_shorter pods c h =
+    let rest = drop c.same_length pods in
+    let none : c.surplus + 0 ≡ c.surplus = omega arith in
+    subst (AreShorter rest) none
+    (shorter_joined rest (take c.others rest) (drop c.others rest) c.surplus 0 (sym (take-append-drop c.others rest)) h.shorter
+    (canonical_shorter (drop c.others rest) h.canonical))
+
 -- all of them are accepted
 pub changed_shorter : (pods : List ℕ) (c : ChangedPods) → AreChanged pods c → AreShorter pods c.surplus
 changed_shorter pods c h =
-    let s = h.shorter in
-    let k = h.canonical in
-    let first = take c.len pods in
-    let last = drop c.len pods in
-    let vs = join_members s.values k.values in
-    let parts = take-append-drop c.len pods in
-    let l0 = s.long in
-    let l1 = ap length (member_encodings-join s.values k.values) ∙ length-append (member_encodings s.values) (member_encodings k.values) in
-    let l2 = ap length k.same in
-    let l3 = ap length (sym parts) ∙ length-append first last in
-    record {
-      values = vs;
-      members = subst (AreMembers vs) parts (members_joined s.values k.values first last s.members k.members);
-      long = omega arith;
-    }
+    let sum : 0 + c.surplus ≡ c.surplus = omega arith in
+    subst (AreShorter pods) sum
+    (shorter_joined pods (take c.same_length pods) (drop c.same_length pods) 0 c.surplus (sym (take-append-drop c.same_length pods)) h.same_length
+    (others_shorter pods c h))

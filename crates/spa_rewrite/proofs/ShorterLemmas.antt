@@ -1,7 +1,7 @@
 -- Pods whose rewritings may be shorter than they are.
-use Rattle.std.proofs.Common.{◌≡◌, ◌≢◌, ℕ, ◌+◌, ◌*◌, ◌/◌, ◌-◌, ◌<◌, ◌≤◌, inl, inr, List, ◌++◌, length, drop, refl, sym, ap, ◌∙◌, subst, arith, append_assoc, length-append, length-drop, ◌%◌}
+use Rattle.std.proofs.Common.{◌≡◌, ◌≢◌, ℕ, ◌+◌, ◌*◌, ◌/◌, ◌-◌, ◌<◌, ◌≤◌, inl, inr, List, ◌++◌, length, drop, take, refl, sym, ap, ◌∙◌, subst, arith, append_assoc, length-append, length-drop, ◌%◌}
 use Rattle.std.specs.Prelude.{Bool, true, false, max}
-use Rattle.std.proofs.lemmas.List.{length-take-le, nil_from_length}
+use Rattle.std.proofs.lemmas.List.{length-take-le, nil_from_length, take-append-drop}
 use Rattle.spa_format.specs.Words.{body_of, extent, header_size, padded_size, word_at, word_bytes}
 use Rattle.spa_format.specs.Kind.{kind_of}
 use Rattle.spa_format.specs.Tree.{Tree, fixed, string, bytes, bitmap, array, choice, pointer, struct, object, Trees, no_trees, member, Properties, no_properties, property, join_members, choice_type, type_of}
@@ -23,7 +23,7 @@ use Rattle.spa_scan.specs.Depth.{depth_of, member_depth, property_depth}
 use Rattle.spa_rewrite.specs.Elements.{HasValues}
 use Rattle.spa_rewrite.specs.Shorter.{AreInsideWithin, ArePodsWithin, ArePropertiesWithin, AreShorter, AreShorterInside, BeginsShorter, IsBodyWithin, IsShorterBody}
 use Rattle.spa_rewrite.specs.Steady.{IsBehindKey, IsInside}
-use Rattle.spa_format.proofs.Sequences.{members_joined}
+use Rattle.spa_format.proofs.Sequences.{members_joined, members_left}
 use Rattle.spa_rewrite.proofs.Stretches.{member_encodings-join}
 use Rattle.spa_rewrite.proofs.SteadyLemmas.{as_long, kept_length, steady_fixed}
 use Rattle.spa_rewrite.proofs.Rewritten.{parted}
@@ -202,6 +202,25 @@ within_behind (member v vs) first rest levels m s =
     let h = f.0.header in
     let behind = (first_within levels false all all refl (omega arith) s).others in
     within_behind vs m.1 rest levels m.4 (subst (ArePodsWithin levels) (sym f.2) behind)
+
+member_depth-join : (vs ws : Trees) → member_depth vs ≤ member_depth (join_members vs ws)
+member_depth-join no_trees ws = omega arith
+member_depth-join (member v vs) ws = let others = member_depth-join vs ws in omega arith
+
+-- what is between other pods
+pub within_part : (levels same_length others : ℕ) (pods : List ℕ) (vs ws : Trees) → AreMembers vs (take same_length pods) →
+    AreMembers ws (take others (drop same_length pods)) → ArePodsWithin levels pods → ArePodsWithin levels (take others (drop same_length pods))
+within_part levels same_length others pods vs ws m n s =
+    let first = take same_length pods in
+    let rest = drop same_length pods in
+    let part = take others rest in
+    let behind = within_behind vs first rest levels m (subst (ArePodsWithin levels) (sym (take-append-drop same_length pods)) s) in
+    let left = members_left ws behind.values part (drop others rest) n
+    (subst (AreMembers behind.values) (sym (take-append-drop others rest)) behind.members) in
+    let depth = ap member_depth left.1 in
+    let some = member_depth-join ws left.0 in
+    let all = behind.shallow in
+    record { values = ws; members = n; shallow = omega arith }
 
 pub shorter_behind : (input first rest : List ℕ) (n : ℕ) → input ≡ first ++ rest → AreCanonical first → AreShorter rest n → AreShorter input n
 shorter_behind input first rest n e c s =

@@ -10,9 +10,8 @@ use Rattle.spa_format.specs.Front.{front_of}
 use Rattle.spa_format.proofs.Sequences.{members_joined}
 use Rattle.spa_fixed_sized.specs.declared.fault.DeserializeError.{DeserializeError}
 use Rattle.spa_scan.specs.Canonical.{AreCanonical}
-use Rattle.spa_rewrite.specs.Rewriting.{AppendsEncodings, AppendsFirst, AppendsFront, AreRewritten, AreRewrittenInParts, IsLeft, IsSection, RefusesFront, RefusesList}
+use Rattle.spa_rewrite.specs.Rewriting.{AppendsEncodings, AppendsFirst, AppendsFront, AreRewritten, AreRewrittenInParts, IsLeft, RefusesFront, RefusesList}
 use Rattle.spa_rewrite.specs.Shorter.{AreShorter}
-use Rattle.spa_rewrite.specs.declared.rewriting.Section.{Section}
 use Rattle.spa_rewrite.proofs.Rewritten.{no_members, parted}
 
 pub member_encodings-join : (vs ws : Trees) →
@@ -36,19 +35,22 @@ property_encodings-join (property k f v ps) qs =
     ∙ ap (λ l. key ++ l) (sym (append_assoc flags (pod ++ first) others))
     ∙ sym (append_assoc key (flags ++ (pod ++ first)) others)
 
-pub both_rewritten : (input first rest out : List ℕ) → input ≡ first ++ rest → AreCanonical first →
-    AreRewritten rest [] out → AreRewritten input [] (first ++ out)
-both_rewritten input first rest out e k r =
-    let vs = join_members k.values r.0 in
-    let members = members_joined k.values r.0 first rest k.members r.1 in
-    let same : first ++ out ≡ member_encodings vs =
-    ap (λ l. l ++ out) k.same ∙ ap (λ l. member_encodings k.values ++ l) r.2
-    ∙ sym (member_encodings-join k.values r.0) in
+pub canonical_rewritten : (pods : List ℕ) → AreCanonical pods → AreRewritten pods [] pods
+canonical_rewritten pods k = (k.values, k.members, k.same)
+
+pub both_rewritten : (input first rest before out : List ℕ) → input ≡ first ++ rest → AreRewritten first [] before →
+    AreRewritten rest [] out → AreRewritten input [] (before ++ out)
+both_rewritten input first rest before out e f r =
+    let vs = join_members f.0 r.0 in
+    let members = members_joined f.0 r.0 first rest f.1 r.1 in
+    let same : before ++ out ≡ member_encodings vs =
+    ap (λ l. l ++ out) f.2 ∙ ap (λ l. member_encodings f.0 ++ l) r.2
+    ∙ sym (member_encodings-join f.0 r.0) in
     (vs, subst (AreMembers vs) (sym e) members, same)
 
 pub in_parts : (input first rest out : List ℕ) → input ≡ first ++ rest → AreCanonical first →
     AreRewritten rest [] out → AreRewrittenInParts input first out
-in_parts input first rest out e k r = (rest, e, (k.values, k.members, k.same), r)
+in_parts input first rest out e k r = (rest, e, canonical_rewritten first k, r)
 
 -- what is left behind canonical pods, and others
 pub left_behind : (input first rest left : List ℕ) → input ≡ first ++ rest → AreCanonical first →
@@ -131,14 +133,7 @@ pub canonical_appended : (left first rest old new : List ℕ) → left ≡ first
     AppendsFirst left rest old new
 canonical_appended left first rest old new e k w = (first, e, (k.values, k.members, w ∙ ap (λ l. old ++ l) k.same))
 
--- accepted ones, and a canonical one behind them
+-- accepted ones
 pub pods_appended : (pods first rest old new : List ℕ) (n : ℕ) → pods ≡ first ++ rest → AreShorter first n → AppendsEncodings first old new →
     AppendsFirst pods rest old new
 pods_appended pods first rest old new n e s a = (first, e, (s.values, s.members, a s.values s.members))
-
-pub section_appended : (pods old now new : List ℕ) (s : Section) → IsSection pods s → AppendsEncodings s.pods.now old now → new ≡ now ++ s.canonical.now →
-    AppendsFirst pods s.rest.now old new
-section_appended pods old now new s h a e =
-    let behind = s.canonical.now ++ s.rest.now in
-    first_appended pods behind s.rest.now old now new (pods_appended pods s.pods.now behind old now s.surplus h.parts h.shorter a)
-    (canonical_appended behind s.canonical.now s.rest.now now new refl h.canonical e)

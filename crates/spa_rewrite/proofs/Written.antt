@@ -1,29 +1,23 @@
 -- Pods whose rewritings are written elsewhere, one after another.
-use Rattle.std.proofs.Common.{◌≡◌, ℕ, ◌+◌, ◌-◌, ◌<◌, ◌≤◌, List, [], ◌++◌, length, drop, take, refl, sym, ap, ◌∙◌, subst, arith, append_assoc, length-append, length-drop, length-take}
+use Rattle.std.proofs.Common.{◌≡◌, ℕ, ◌+◌, ◌-◌, ◌<◌, ◌≤◌, List, [], ◌++◌, length, drop, take, refl, sym, ap, ◌∙◌, subst, arith, append_assoc, length-append, length-drop}
 use Rattle.std.specs.Prelude.{Bool, replicate, true, false}
 use Rattle.std.proofs.Math.Seq.{take-add}
-use Rattle.std.proofs.lemmas.List.{append-nil, drop-drop, drop_at, length-replicate, length-take-le, nil_from_length, take-append-drop, take-take, take_at}
+use Rattle.std.proofs.lemmas.List.{append-nil, drop-drop, drop_at, length-replicate, length-take-le, take-append-drop, take-take, take_at}
 use borrow.Rule.Slice.PartMut.{put_mid}
 use Rattle.spa_format.specs.Words.{body_of, extent, header_size, wide_at, wide_bytes, word_at, word_bytes}
-use Rattle.spa_format.specs.Tree.{no_trees}
-use Rattle.spa_format.specs.Encoding.{member_encodings}
 use Rattle.spa_format.specs.Front.{HasFront, front_of, rest_of}
 use Rattle.spa_format.specs.Typed.{IsBytes}
 use Rattle.spa_format.proofs.Encodings.{two_words_length}
 use Rattle.spa_format.proofs.Fronts.{length-body_of}
 use Rattle.spa_format.proofs.WordLemmas.{IsBytes-drop, IsBytes-take, word_at-take}
 use Rattle.spa_bytes.specs.Opening.{Opens}
-use Rattle.spa_scan.specs.Canonical.{AreCanonical}
 use Rattle.spa_scan.proofs.Words.{wide_back, wide_of_take, word_there}
-use Rattle.spa_rewrite.specs.Rewriting.{AreRewritten}
 use Rattle.spa_rewrite.specs.Placed.{ArePlaced, IsInner, IsPlaced, PutsKey, WritesOn, WritesPod, WritesPods, type_inside}
-use Rattle.spa_rewrite.specs.Shorter.{AreRewrittenAs, AreShorter}
-use Rattle.spa_rewrite.specs.Steady.{ArePatched, BeginsWord, IsBehindKey, IsPodOf, key_size}
+use Rattle.spa_rewrite.specs.Steady.{BeginsWord, IsBehindKey, IsPodOf, key_size}
 use Rattle.spa_rewrite.proofs.PatchSteps.{opened_at, word_kind, word_opens}
 use Rattle.spa_rewrite.proofs.Patches.{put_end}
 use Rattle.spa_rewrite.proofs.PatchedBodies.{IsUnpatchedType, unpatched_body}
 use Rattle.spa_rewrite.proofs.PlacedBodies.{IsLeafType, leaf_long}
-use Rattle.spa_rewrite.proofs.Stretches.{both_rewritten}
 use Rattle.spa_rewrite.proofs.Places.{few_placed, inner_placed, none_placed, pods_placed}
 
 -- none is written
@@ -232,74 +226,3 @@ inner_written keyed pod out keyed_out key_old pods_old sub_old sub header from n
     subst (λ x. WritesPod pod out (header ++ drop 8 x) (from + n)) (sym (put_end from k keyed_out sub e))
     (inner_one keyed pod out keyed_out sub header from n y i room (subst (λ x. PutsKey keyed x out keyed_out 8 from) ke put) same
     (subst (λ x. WritesPods keyed x (drop from keyed_out) sub n) pe (subst (λ x. WritesPods keyed pods_old x sub n) se p)) (long ∙ ap length se) h)
-
--- all pods of an input: what was written of those that are counted
-pub record RestIsWritten (pods old new : List ℕ) (n : ℕ) : Type 0 where
-  pub rewritten : AreRewritten pods [] (take (length pods - n) new)
-  pub behind : drop (length pods - n) new ≡ drop (length pods - n) old
-
-pub rest_written : (pods old new : List ℕ) (n len : ℕ) → AreShorter pods n → length pods ≤ length old → length new ≡ length old →
-    WritesPods false pods old new len → RestIsWritten pods old new n
-rest_written pods old new n len s room same w =
-    let is = w.placed s.values s.members in
-    let l = w.within in
-    let t = length-take-le len new (omega arith) in
-    let e = ap length is in
-    let long = s.long in
-    let many : len ≡ length pods - n = omega arith in
-    record {
-      rewritten = (s.values, s.members, ap (λ i. take i new) (sym many) ∙ is);
-      behind = subst (λ i. drop i new ≡ drop i old) many w.behind;
-    }
-
-pub rest_patched : (pods front old patched : List ℕ) (k n : ℕ) → AreShorter pods n → n ≡ 0 → k ≡ length pods → front ≡ pods →
-    ArePatched false (take k (front ++ drop k old)) patched → length patched ≡ length (take k (front ++ drop k old)) →
-    RestIsWritten pods old (patched ++ drop k (front ++ drop k old)) n
-rest_patched pods front old patched k n s z e f q y =
-    let l : length front ≡ k = ap length f ∙ sym e in
-    let is : take k (front ++ drop k old) ≡ pods = take_at front (drop k old) k l ∙ f in
-    let many : length patched ≡ k = y ∙ ap length is ∙ sym e in
-    let at : length pods - n ≡ k = omega arith in
-    let long = s.long in
-    let same : length (member_encodings s.values) ≡ length pods = omega arith in
-    let b : ArePatched false pods patched = subst (λ x. ArePatched false x patched) is q in
-    let x = drop k (front ++ drop k old) in
-    record {
-      rewritten = (s.values, s.members, ap (λ i. take i (patched ++ x)) at ∙ take_at patched x k many ∙ b s.values s.members same);
-      behind = ap (λ i. drop i (patched ++ x)) at ∙ drop_at patched x k many ∙ drop_at front (drop k old) k l ∙ ap (λ i. drop i old) (sym at);
-    }
-
-pub rest_none : (pods old : List ℕ) (n : ℕ) → length pods ≡ 0 → RestIsWritten pods old old n
-rest_none pods old n z =
-    let l = length-take (length pods - n) old in
-    record {
-      rewritten = (no_trees, nil_from_length pods z, nil_from_length (take (length pods - n) old) (omega arith));
-      behind = refl;
-    }
-
-pub record IntoIsWritten (input old new : List ℕ) (n : ℕ) : Type 0 where
-  pub rewritten : AreRewritten input [] (take (length input - n) new)
-  pub behind : drop (length input - n) new ≡ drop (length input - n) old
-
-pub into_written : (input first rest out xs sub_old sub : List ℕ) (k m n : ℕ) → input ≡ first ++ rest → AreCanonical first → AreShorter rest n →
-    k ≡ length first → xs ≡ first ++ drop k out → m ≡ length xs - k → length input ≤ length out → sub_old ≡ drop k xs →
-    AreRewritten rest [] (take (length rest - n) sub) → drop (length rest - n) sub ≡ drop (length rest - n) sub_old →
-    IntoIsWritten input out (put_mid k m xs sub) n
-into_written input first rest out xs sub_old sub k m n e c s kl f ml room so r b =
-    let l : length first ≡ k = sym kl in
-    let a = ap length e ∙ length-append first rest in
-    let long = s.long in
-    let at : length input - n ≡ k + (length rest - n) = omega arith in
-    let new : put_mid k m xs sub ≡ first ++ sub =
-    put_end k m xs sub ml ∙ ap (λ z. z ++ sub) (ap (take k) f ∙ take_at first (drop k out) k l) in
-    let d : drop k xs ≡ drop k out = ap (drop k) f ∙ drop_at first (drop k out) k l in
-    record {
-      rewritten = subst (AreRewritten input [])
-          (sym (ap (take (length input - n)) new ∙ ap (λ i. take i (first ++ sub)) at ∙ take_past first sub k (length rest - n) l))
-          (both_rewritten input first rest (take (length rest - n) sub) e c r);
-      behind = ap (drop (length input - n)) new ∙ ap (λ i. drop i (first ++ sub)) at ∙ drop_past first sub k (length rest - n) l ∙ b
-          ∙ ap (drop (length rest - n)) (so ∙ d) ∙ drop-drop (length rest - n) k out ∙ ap (λ i. drop i out) (sym at);
-    }
-
-pub into_told : (input : List ℕ) (n len : ℕ) → AreShorter input n → len ≡ length input - n → AreRewrittenAs input len
-into_told input n len s e = let l = s.long in record { values = s.values; members = s.members; long = omega arith }

@@ -127,8 +127,10 @@ pub record AreAccepted (pods : List ℕ) (all : AcceptedPods) : Type 0 where
   pub first : AreCanonical (take all.canonical pods)
   pub most : (rest : List ℕ) → ¬ (BeginsCanonical (drop all.canonical pods) rest)
 
--- so many first bytes are accepted pods, whose encodings are so much shorter, and canonical pods follow them
+-- all pods are accepted: so many first bytes are pods as long as their encodings, so many behind them pods whose encodings are so much shorter, and
+-- canonical pods follow
 pub record AreChanged (pods : List ℕ) (changed : ChangedPods) : Type 0 where
-  pub shorter : AreShorter (take changed.len pods) changed.surplus
-  pub within : changed.len ≤ length pods
-  pub canonical : AreCanonical (drop changed.len pods)
+  pub same_length : AreShorter (take changed.same_length pods) 0
+  pub shorter : AreShorter (take changed.others (drop changed.same_length pods)) changed.surplus
+  pub within : changed.same_length + changed.others ≤ length pods
+  pub canonical : AreCanonical (drop changed.others (drop changed.same_length pods))

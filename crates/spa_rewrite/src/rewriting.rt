@@ -2,7 +2,7 @@
 //!
 //! Pods are looked at first. Canonical ones are copied, those that are as long as their encodings patched in the copy, and those that get shorter
 //! written over it. What nests too deep for that is read as a value, which is written.
-ghost use Rattle.std.specs.Prelude.{◌≡◌, ◌<◌, ◌++◌, [], true, IfErr, IfOk, IfSome, IfNone, IsErrAnd, OnErr, OnOk, length};
+ghost use Rattle.std.specs.Prelude.{◌≡◌, ◌<◌, ◌≤◌, ◌++◌, [], true, IfErr, IfOk, IfSome, IfNone, IsErrAnd, OnErr, OnOk, length};
 ghost use Rattle.spa_fixed_sized.specs.declared.fault.Refusal.TheVariants as refusal;
 ghost use Rattle.spa_format.specs.Encoding.{encoding_of};
 ghost use Rattle.spa_format.specs.Faults.{Stands};
@@ -15,20 +15,23 @@ ghost use Rattle.spa_bodies.specs.Refusing.{error_of};
 ghost use Rattle.spa_rewrite.specs.Look.{IsAcceptedAsked, IsTooDeep};
 ghost use Rattle.spa_rewrite.specs.Memory.{FrontAsksMemory, IsRefusal, IsUnwritten};
 ghost use Rattle.spa_rewrite.specs.Rewriting.{AppendsEncodings, AppendsFirst, AppendsFront, AreRewritten, AreRewrittenInParts, IsLeft, IsLookedOver, IsRewriting, IsSection, RefusesFront, RefusesList};
-ghost use Rattle.spa_rewrite.specs.Shorter.{ArePodsWithin, AreShorter};
+ghost use Rattle.spa_rewrite.specs.Shorter.{ArePodsWithin, AreShorter, BeginsShorter};
 ghost use Rattle.spa_scan.specs.Canonical.{AreCanonical, IsStretch};
 ghost use Rattle.spa_scan.specs.Depth.{depth_of, levels_looked_into};
 ghost use Rattle.spa_value.specs.View.{view};
 
 use crate::leading::{canonical_pods, canonical_stretch};
 use crate::look::{
-    AcceptedPod, DEEP_BODY, FEW, Rejected, fewer_unasked, look_at_front, look_at_pods,
+    AcceptedPod, DEEP_BODY, FEW, Found, Rejected, look_at_front, look_at_pods, look_into,
+    more_unasked,
 };
 use crate::patch::patch_all;
 use crate::source::Apart;
-use crate::steady::Inside;
+use crate::steady::{Inside, inside_of, short_front};
+use crate::surplus::leaf_surplus;
 use crate::write::write_pods;
 use spa_bodies::error_at;
+use spa_bytes::open;
 use spa_fixed_sized::{DeserializeError, Refusal};
 use spa_read::{Refused, read_value};
 use spa_scan::{LEVELS, nests_within};
@@ -178,6 +181,7 @@ fn append_all<'a>(input: &'a [u8], out: &mut Vec<u8>) -> Result<(), (&'a [u8], R
     let mut frames = [list; FEW];
     let start = out.len();
     let mut left = input;
+    let mut unasked = 1;
     loop {
         let Some(others) = append_canonical(left, &mut frames, out) else {
             out.truncate(start);
@@ -186,7 +190,12 @@ fn append_all<'a>(input: &'a [u8], out: &mut Vec<u8>) -> Result<(), (&'a [u8], R
         if others.is_empty() {
             return Ok(());
         }
-        match append_others(others, &mut frames, out) {
+        unasked = if others.len() < left.len() {
+            1
+        } else {
+            more_unasked(unasked)
+        };
+        match append_others(unasked, others, &mut frames, out) {
             Ok(rest) => left = rest,
             Err(refused) => {
                 out.truncate(start);
@@ -234,17 +243,13 @@ struct Section<'a> {
     pods: &'a [u8],
     /// By how many bytes their encodings are shorter.
     surplus: usize,
-    /// A canonical pod behind them, or nothing.
-    canonical: &'a [u8],
     /// What follows.
     rest: &'a [u8],
 }
 
-/// How many bytes of pods that aren't canonical are looked at before they are written: so many fit into a processor's cache.
-const BLOCK: usize = 65536;
-
-/// Appends the encodings of pods the first of which isn't canonical, and answers what follows them. Refused is the first of them.
+/// Appends the encodings of pods the first of which isn't canonical, some `len` bytes, and answers what follows them. Refused is the first of them.
 fn append_others<'a>(
+    len: usize,
     pods: &'a [u8],
     frames: &mut [Inside<'a>],
     out: &mut Vec<u8>,
@@ -254,91 +259,101 @@ fn append_others<'a>(
     ensures unchanged { OnErr result (out.new.items ≡ out.old.items) }
     ensures refused { IfErr result (λ refused. IsRefusal pods.now (error_of refused.place refused.why)) }
 {
-    let section = look_over(pods, frames);
+    let section = look_over(len, pods, frames);
     if section.pods.is_empty() {
         return append_front(pods, frames, out);
     }
-    let Some(()) = append_pods(section.pods, section.surplus, out) else {
-        return Err(lacking_memory(pods));
-    };
-    let (_, behind) = pods.split_at(section.pods.len());
-    match out.extend_from_slice(section.canonical) {
-        Ok(()) => Ok(section.rest),
-        Err(_) => Ok(behind),
+    match append_pods(section.pods, section.surplus, out) {
+        Some(()) => Ok(section.rest),
+        None => Err(lacking_memory(pods)),
     }
 }
 
-/// Looks at the first pods, as long as they are accepted and aren't canonical: canonical ones that aren't asked are among them, too. Pods that keep
-/// their length end before one that gets shorter, since they are patched.
+/// Looks at the first pods, as long as they are accepted and up to one that ends behind so many bytes. Pods that keep their length end before one that
+/// gets shorter, since they are patched; and all before one that would be written and in which more than `LEVELS` structs and objects stand in one another,
+/// wherever these end: what writes such a pod calls itself for each.
 #[inline(always)]
-fn look_over<'a>(pods: &'a [u8], frames: &mut [Inside<'a>]) -> Section<'a>
+fn look_over<'a>(len: usize, pods: &'a [u8], frames: &mut [Inside<'a>]) -> Section<'a>
     ensures { IsSection pods.now result }
 {
     let mut left = pods;
     let mut surplus = 0;
-    // The first one was asked.
-    let mut unasked = 1;
-    loop {
-        let seen = pods.len() - left.len();
-        if seen >= BLOCK {
-            return cut_section(pods, left, left, surplus);
-        }
-        let Ok(pod) = look_to_write(unasked == 0, surplus > 0, left, frames) else {
-            return cut_section(pods, left, left, surplus);
+    while pods.len() - left.len() < len {
+        let Some((rest, more)) = behind_front(left, frames) else {
+            return cut_section(pods, left, surplus);
         };
-        if pod.canonical {
-            return cut_section(pods, left, pod.rest, surplus);
+        if surplus == 0 && more > 0 && left.len() < pods.len() {
+            return cut_section(pods, left, surplus);
         }
-        if seen > 0 && surplus == 0 && pod.surplus > 0 {
-            return cut_section(pods, left, left, surplus);
+        let all = surplus + more;
+        if all > 0 && is_deep(left, rest) {
+            return cut_section(pods, left, surplus);
         }
-        unasked = fewer_unasked(unasked);
-        surplus += pod.surplus;
-        left = pod.rest;
+        surplus = all;
+        left = rest;
+    }
+    cut_section(pods, left, surplus)
+}
+
+/// What follows the pod at the front, where a look accepts it, and by how many bytes its encoding is shorter. It isn't asked whether the pod is canonical.
+#[inline(always)]
+fn behind_front<'a>(input: &'a [u8], frames: &mut [Inside<'a>]) -> Option<(&'a [u8], usize)>
+    ensures { IfSome result (λ passed. BeginsShorter input.now passed.0.now passed.1) }
+{
+    if let Some(rest) = short_front(input) {
+        return Some((rest, 0));
+    }
+    let front = open(input)?;
+    let Some(inside) = inside_of(front.type_, front.body) else {
+        let surplus = leaf_surplus(front.type_, front.body)?;
+        return Some((front.rest, surplus));
+    };
+    match look_into(false, inside.keyed, false, inside.pods, frames) {
+        Found::Fits(_, surplus) => Some((front.rest, surplus)),
+        _ => None,
     }
 }
 
-/// The pods up to what is left of them, whose encodings are so many bytes shorter, and a canonical one up to the rest.
+/// Whether more than `LEVELS` structs and objects stand in one another in the pod at the front, which the rest follows.
 #[inline(always)]
-fn cut_section<'a>(pods: &'a [u8], left: &'a [u8], rest: &'a [u8], surplus: usize) -> Section<'a>
-    requires looked { IsLookedOver pods.now left.now surplus }
-    requires canonical { IsStretch left.now rest.now }
+fn is_deep(input: &[u8], rest: &[u8]) -> bool
+    requires { length rest.now ≤ length input.now }
+    ensures { result ≡ true → (v : Tree) → Begins input.now v → levels_looked_into < depth_of v }
+{
+    input.len() - rest.len() >= DEEP_BODY && !nests_within(input, LEVELS)
+}
+
+/// The pods up to what is left of them, whose encodings are so many bytes shorter.
+#[inline(always)]
+fn cut_section<'a>(pods: &'a [u8], left: &'a [u8], surplus: usize) -> Section<'a>
+    requires { IsLookedOver pods.now left.now surplus }
     ensures { IsSection pods.now result }
 {
-    let (some, _) = pods.split_at(pods.len() - left.len());
-    let (canonical, _) = left.split_at(left.len() - rest.len());
+    let (first, rest) = pods.split_at(pods.len() - left.len());
     Section {
-        pods: some,
+        pods: first,
         surplus,
-        canonical,
         rest,
     }
 }
 
-/// Looks at the pod at the front as `look_at_front` does, and rejects pods as too deep that are written and hold more than `LEVELS` structs and
-/// objects in one another, wherever these end: what writes such a pod calls itself for each. Written are those that get shorter, and, where `moves`
-/// is set, all that aren't canonical.
+/// Looks at the pod at the front, and rejects it as too deep also where it gets shorter and is deep.
 #[inline(always)]
 fn look_to_write<'a>(
-    canonical: bool,
-    moves: bool,
     input: &'a [u8],
     frames: &mut [Inside<'a>],
 ) -> Result<AcceptedPod<'a>, Rejected<'a>>
-    ensures accepted { IfOk result (IsAcceptedAsked canonical input.now) }
+    ensures accepted { IfOk result (IsAcceptedAsked true input.now) }
     ensures rejected { IfErr result (IsUnwritten input.now) }
     // Each pod of so many levels is accepted.
     ensures missed { IfErr result (λ _. (v : Tree) → Begins input.now v → levels_looked_into < depth_of v) }
 {
-    let pod = match look_at_front(canonical, input, frames) {
+    let pod = match look_at_front(true, input, frames) {
         Ok(pod) => pod,
         Err(rejected) => return Err(rejected),
     };
-    let written = pod.surplus > 0 || moves && !pod.canonical;
-    if written && input.len() - pod.rest.len() >= DEEP_BODY {
-        if !nests_within(input, LEVELS) {
-            return Err(Rejected::TooDeep);
-        }
+    if pod.surplus > 0 && is_deep(input, pod.rest) {
+        return Err(Rejected::TooDeep);
     }
     Ok(pod)
 }
@@ -372,7 +387,7 @@ fn append_front<'a>(
     ensures unchanged { OnErr result (out.new.items ≡ out.old.items) }
     ensures refused { IfErr result (λ refused. IsRefusal input.now (error_of refused.place refused.why)) }
 {
-    match look_to_write(true, false, input, frames) {
+    match look_to_write(input, frames) {
         Ok(pod) => {
             let (front, _) = input.split_at(input.len() - pod.rest.len());
             match append_pod(pod.canonical, front, pod.surplus, out) {

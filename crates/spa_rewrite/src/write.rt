@@ -33,6 +33,7 @@ pub fn write_all<S: Source>(surplus: usize, source: S, out: &mut [u8]) -> usize
     ensures { WritesPods false (S.pods source out.old) out.old out.new result }
 {
     let end = source.read(out).len() - surplus;
+    let looks = source.looks_for_runs();
     let (mut outermost, mut keyed) = (true, false);
     // A look at all pods has ended at the first.
     let mut look_at = 1;
@@ -40,7 +41,7 @@ pub fn write_all<S: Source>(surplus: usize, source: S, out: &mut [u8]) -> usize
     loop {
         let pods = source.read(out);
         let left = &pods[from..];
-        if let Some(run) = run_len(outermost, keyed, &mut look_at, from, left) {
+        if let Some(run) = run_len(looks, outermost, keyed, &mut look_at, from, left) {
             put_run(source, out, from, to, run);
             from += run;
             to += run;
@@ -73,10 +74,11 @@ pub fn write_all<S: Source>(surplus: usize, source: S, out: &mut [u8]) -> usize
     }
 }
 
-/// How many bytes the pods from a place on take that are a run, with key and flags before each where `keyed` is set, if there is one. Before the
-/// place to look at none is looked for. That goes on: behind a run to the pod behind the one that ended it.
+/// How many bytes the pods from a place on take that are a run, with key and flags before each where `keyed` is set, if there is one. None is looked for
+/// where `looks` isn't set, or before the place to look at. That goes on: behind a run to the pod behind the one that ended it.
 #[inline(always)]
 fn run_len(
+    looks: bool,
     outermost: bool,
     keyed: bool,
     look_at: &mut usize,
@@ -85,31 +87,13 @@ fn run_len(
 ) -> Option<usize>
     ensures { IfSome result (λ len. BeginsRun keyed left.now len) }
 {
-    if from < *look_at {
+    if !looks || from < *look_at {
         return None;
     }
     let len = run_at(outermost, keyed, left);
     let unlooked = if len < LONG_RUN { UNLOOKED } else { 1 };
     *look_at = from.saturating_add(len).saturating_add(unlooked);
     if len == 0 { None } else { Some(len) }
-}
-
-/// Does what `run_len` does for pods in others, where `looks` is set; else there is none.
-#[inline(always)]
-fn run_inside(
-    looks: bool,
-    keyed: bool,
-    look_at: &mut usize,
-    from: usize,
-    left: &[u8],
-) -> Option<usize>
-    ensures { IfSome result (λ len. BeginsRun keyed left.now len) }
-{
-    if looks {
-        run_len(false, keyed, look_at, from, left)
-    } else {
-        None
-    }
 }
 
 /// How many bytes the first canonical pods take. Inside others only pods that hold none are looked at: a look at structs would be one at each level
@@ -192,7 +176,7 @@ pub fn write_pods<S: Source>(keyed: bool, source: S, out: &mut [u8]) -> usize
     loop {
         let pods = source.read(out);
         let left = &pods[from..];
-        if let Some(run) = run_inside(looks, keyed, &mut look_at, from, left) {
+        if let Some(run) = run_len(looks, false, keyed, &mut look_at, from, left) {
             put_run(source, out, from, to, run);
             from += run;
             to += run;

@@ -10,7 +10,8 @@ use Rattle.spa_rewrite.proofs.Accepted.{fault_front}
 use Rattle.spa_rewrite.proofs.Changed.{changed_shorter}
 use Rattle.spa_rewrite.proofs.ShorterLemmas.{within_behind}
 use Rattle.spa_rewrite.proofs.Stretches.{list_refused}
-use Rattle.spa_in_place.proofs.InPlaceLemmas.{asks_behind, copied_behind, deep_memory, others_left, refused_behind, rest_placed, rewritten_room}
+use Rattle.spa_in_place.proofs.ChangedPods.{behind_canonical}
+use Rattle.spa_in_place.proofs.InPlaceLemmas.{asks_behind, copied_behind, deep_memory, others_left, refused_behind, rewritten_room}
 use Rattle.spa_in_place.proofs.in_place.rewrite_in_place.Goals as goal
 
 pub place_rest-requires : goal.place_rest-requires
@@ -24,18 +25,18 @@ pub returns-in-Ok-clause-rewritten : goal.returns-in-Ok-clause-rewritten
 returns-in-Ok-clause-rewritten c =
     let bytes = c.args.bytes.now in
     let first = c.canonical_stretch.result.0.now in
-    let all = rest_placed bytes first _ _ c.place_rest.new.pods (length bytes - length first) c.in-Ok.changed.surplus c.canonical_stretch.ensures.parts
-    c.canonical_stretch.ensures.canonical (changed_shorter _ _ c.in-Ok.ensures.there) refl (take_rest bytes (length first))
-    c.place_rest.ensures.rewritten c.place_rest.ensures.behind in
+    let stretch = c.canonical_stretch.ensures in
+    let all = behind_canonical bytes first _ _ c.place_rest.new.pods (length bytes - length first) c.in-Ok.changed.surplus stretch.parts
+    stretch.canonical refl (take_rest bytes (length first)) (changed_shorter _ _ c.in-Ok.ensures.there) c.place_rest.ensures in
     all.rewritten
 
 pub returns-in-Ok-clause-behind : goal.returns-in-Ok-clause-behind
 returns-in-Ok-clause-behind c =
     let bytes = c.args.bytes.now in
     let first = c.canonical_stretch.result.0.now in
-    let all = rest_placed bytes first _ _ c.place_rest.new.pods (length bytes - length first) c.in-Ok.changed.surplus c.canonical_stretch.ensures.parts
-    c.canonical_stretch.ensures.canonical (changed_shorter _ _ c.in-Ok.ensures.there) refl (take_rest bytes (length first))
-    c.place_rest.ensures.rewritten c.place_rest.ensures.behind in
+    let stretch = c.canonical_stretch.ensures in
+    let all = behind_canonical bytes first _ _ c.place_rest.new.pods (length bytes - length first) c.in-Ok.changed.surplus stretch.parts
+    stretch.canonical refl (take_rest bytes (length first)) (changed_shorter _ _ c.in-Ok.ensures.there) c.place_rest.ensures in
     all.behind
 
 pub returns-in-Fault-clause-refused : goal.returns-in-Fault-clause-refused

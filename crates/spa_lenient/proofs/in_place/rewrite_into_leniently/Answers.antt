@@ -3,11 +3,11 @@ use Rattle.spa_lenient.proofs.InPlace.{as_shorter, exactly_all, exactly_as}
 use Rattle.spa_lenient.proofs.in_place.rewrite_into_leniently.Goals as goal
 
 pub returns-in-Some-clause-counted : goal.returns-in-Some-clause-counted
-returns-in-Some-clause-counted c = exactly_as _ _ c.in-Some.ensures.told
+returns-in-Some-clause-counted c = exactly_as _ _ c.in-Some.ensures.counted
 
 pub returns-in-Some-clause-within : goal.returns-in-Some-clause-within
 returns-in-Some-clause-within c =
-    as_shorter _ _ (λ i. omega (arith, c.type_inv.input i)) (exactly_as _ _ c.in-Some.ensures.told)
+    as_shorter _ _ (λ i. omega (arith, c.type_inv.input i)) (exactly_as _ _ c.in-Some.ensures.counted)
 
 pub returns-in-Some-clause-rewritten : goal.returns-in-Some-clause-rewritten
 returns-in-Some-clause-rewritten c = λ room. exactly_all _ [] _ (c.in-Some.ensures.rewritten room)

@@ -3,7 +3,7 @@ use Rattle.spa_rewrite.proofs.Changed.{ChangesUpTo}
 use Rattle.spa_rewrite.proofs.look.look_for_changes.Given as goal
 
 abbrev pub invariant-loop-frames : goal.invariant-loop-frames
-invariant-loop-frames l = ChangesUpTo l.pods l.tail l.left l.surplus
+invariant-loop-frames l = ChangesUpTo l.pods l.others l.tail l.left l.surplus
 
 abbrev pub decreases-loop-frames : goal.decreases-loop-frames
 decreases-loop-frames l = length l.left

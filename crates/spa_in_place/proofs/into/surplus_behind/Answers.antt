@@ -1,8 +1,0 @@
-use Rattle.std.proofs.Common.{sym, ◌∙◌}
-use Rattle.std.specs.Prelude.{false}
-use Rattle.std.proofs.lemmas.Bool.{eqb-true}
-use Rattle.spa_rewrite.proofs.ShorterLemmas.{shorter_none}
-use Rattle.spa_in_place.proofs.into.surplus_behind.Goals as goal
-
-pub returns-then-is_empty-clause-there : goal.returns-then-is_empty-clause-there
-returns-then-is_empty-clause-there c = shorter_none false _ (eqb-true _ _ (sym c.is_empty.ensures ∙ c.if-is_empty.true))

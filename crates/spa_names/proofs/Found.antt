@@ -81,3 +81,9 @@ module _ (type : ℕ) (r : Result ℕ ℕ) (in_range : IsSearchInRange r (length
       found_or : (r : Result ℕ ℕ) → MatchResult r (λ at. (d : ℕ × Table × Table) → object_at type ≡ Some (get_or OBJECTS at d)) (λ at. object_at type ≡ None) → MatchResult r (λ at. (d : ℕ × Table × Table) → Some (get_or OBJECTS at d) ≡ object_at type) (λ at. None ≡ object_at type)
       found_or (Ok at) found = λ d. sym (found d)
       found_or (Err at) found = sym found
+
+-- a type of objects that has the number is the list's
+pub object_there : (type at : ℕ) (object : ℕ × Table × Table) → at < length OBJECTS → HoldsAt (λ other. object ≡ other) OBJECTS at → object.0 ≡ type →
+    Some object ≡ object_at type
+object_there type at object in_range there is =
+    ap Some (there object) ∙ object_found type (Ok at) in_range (λ d. ap (λ o. nat_cmp o.0 type) (sym (there d)) ∙ rw is (nat_cmp-same type)) object

@@ -11,6 +11,7 @@ use crate::entry::{Entry, Expected};
 use crate::guess::guess_of;
 use crate::key_entries::EXPECTED;
 use crate::table::{OBJECTS, Table};
+use crate::types::OBJECT_PROP_INFO;
 use spa_utils::SpaTypes;
 
 /// The name of a number. None: the table has none.
@@ -67,7 +68,8 @@ pub fn number_of(table: Table, name: &str) -> Option<u32>
 
 /// The number of a key by its name, and what is expected of the value under it. None: the table of its object's keys doesn't have the name.
 pub fn key_named(keys: Table, name: &str) -> Option<(u32, Expected)>
-    ensures { MatchOption result (number_of keys name.now ≡ None) (λ key. (number_of keys name.now ≡ Some key.0) × (key.1 ≡ expected_under keys key.0)) }
+    ensures { MatchOption result (number_of keys name.now ≡ None)
+        (λ key. (number_of keys name.now ≡ Some key.0) × (key.1 ≡ expected_under keys key.0)) }
 {
     match number_at(keys, name) {
         Some((number, place)) => match entry_near(keys, number, place) {
@@ -115,11 +117,20 @@ pub fn ids_of(type_: SpaTypes) -> Table
     }
 }
 
+/// The number of the first type of parameters less its index in `OBJECTS`.
+const FIRST_PLACE: u32 = OBJECT_PROP_INFO - 3;
+
 /// The tables of a type of objects.
 fn object_of(type_: SpaTypes) -> Option<(u32, Table, Table)>
     ensures { result ≡ object_at type_.0 }
 {
     let objects: &'static [(u32, Table, Table)] = &OBJECTS;
+    // The types of parameters stand last, and leave out no number.
+    if let Some(object) = objects.get(type_.0.wrapping_sub(FIRST_PLACE) as usize) {
+        if object.0 == type_.0 {
+            return Some(*object);
+        }
+    }
     match objects.binary_search_by_key(&type_.0, |object| object.0) {
         Ok(at) => Some(objects[at]),
         Err(_) => None,

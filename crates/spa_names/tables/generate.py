@@ -91,22 +91,27 @@ def entries_in(table, place_of):
     return [rows[it] for it in sorted(rows)]
 
 
-MASK = 0xFFFFFFFF
-# By how much a word of a name is multiplied; with this, SLOTS and DISPLACEMENTS places are found for all guesses.
-MULTIPLIER, OF_LENGTH, OF_COUNT, OF_SECOND = 0x3CEB3FFD, 0x9E37, 0x79B9, 0x5BD1
+MASK = 0xFFFFFFFFFFFFFFFF
+# What is multiplied to make a hash, as src/guess.rt has it; with these, SLOTS and DISPLACEMENTS places are found for all guesses.
+MULTIPLIER, OF_LAST, OF_LENGTH, OF_COUNT = 0x6513270E269E0D37, 0x85EBCA6B, 0xC2B2AE35, 0x27D4EB2F
 SLOTS, DISPLACEMENTS = 1024, 256
 
 
 def hash_of(name, count):
-    """As src/guess.rt has it: a number made of five bytes of a name, of its length, and of how many names its table has."""
-    second, before_last = (name[1], name[-2]) if len(name) > 1 else (0, 0)
-    word = name[0] | name[len(name) // 2] << 8 | before_last << 16 | name[-1] << 24
-    others = len(name) * OF_LENGTH + count * OF_COUNT + second * OF_SECOND
-    return (word ^ others) * MULTIPLIER & MASK
+    """As src/guess.rt has it: a number made of the first and last four bytes of a name, of its length, and of how many names its table has."""
+    if len(name) < 4:
+        first, last = int.from_bytes(name, "big"), 0
+    else:
+        first, last = (int.from_bytes(it, "little") for it in (name[:4], name[-4:]))
+    return (first + last * OF_LAST + len(name) * OF_LENGTH + count * OF_COUNT) * MULTIPLIER & MASK
+
+
+def bucket_of(hash_):
+    return hash_ >> 56
 
 
 def slot_of(hash_, displacement):
-    return (hash_ >> 12 ^ displacement * 4) % SLOTS
+    return (hash_ >> 40 ^ displacement * 4) % SLOTS
 
 
 def guesses_of(tables):
@@ -119,7 +124,7 @@ def guesses_of(tables):
             guesses.setdefault(hash_of(name, len(names)), (at, numbers.index(number)))
     buckets = {}
     for hash_ in guesses:
-        buckets.setdefault(hash_ >> 24, []).append(hash_)
+        buckets.setdefault(bucket_of(hash_), []).append(hash_)
     for bucket, hashes in sorted(buckets.items(), key=lambda it: -len(it[1])):
         for displacement in range(256):
             ours = {slot_of(hash_, displacement): guesses[hash_] for hash_ in hashes}

@@ -15,7 +15,7 @@ use Rattle.spa_names.specs.declared.table.Table.{Table}
 use Rattle.spa_names.specs.declared.table.Table.TheVariants.{Types}
 use Rattle.spa_text_read.specs.Grammar.{AreMembers, AreProperties, Opened, ReadsValue, ReadsAs, an_object, close, flagged_at, is_flags, key_number, nothing, opens, or_else, tag_named, tagged_at}
 use Rattle.spa_text_read.specs.Names.{expected_under, ids_of, keys_of, number_of}
-use Rattle.spa_text_read.specs.Numerals.{unsigned}
+use Rattle.spa_text_read.specs.Numerals.{unsigned_number}
 use Rattle.spa_text_read.specs.Options.{◌>>=◌}
 use Rattle.std.proofs.lemmas.Slice.Eq.{bytes_eq-Decides}
 use Rattle.spa_text.specs.Printed.{HasNoFloat, flags_end, flags_front, name_token, tokens_of}
@@ -26,15 +26,15 @@ use Rattle.spa_text.specs.declared.printing.Begun.{Begun}
 use Rattle.spa_text.proofs.Appending.{append_on}
 use Rattle.spa_text.proofs.Exactly.{cancel, empty, leaf_whole}
 use Rattle.spa_text.proofs.Listed.{not_ended}
-use Rattle.spa_text.proofs.Numbers.{unsigned-decimal}
+use Rattle.spa_text.proofs.Numbers.{unsigned_number-decimal}
 
 -- ---- A key and its flags
 
-pub key_by_name : (t : Table) (s : List ℕ) (k : ℕ) → None ≡ unsigned s → number_of t s ≡ Some k → key_number t s ≡ Some k
+pub key_by_name : (t : Table) (s : List ℕ) (k : ℕ) → None ≡ unsigned_number s → number_of t s ≡ Some k → key_number t s ≡ Some k
 key_by_name t s k e n = ap (λ o. or_else o (number_of t s)) (sym e) ∙ n
 
 pub key_by_digits : (t : Table) (k : ℕ) → k < 2 ^ 32 → key_number t (decimal k) ≡ Some k
-key_by_digits t k h = ap (λ o. or_else o (number_of t (decimal k))) (unsigned-decimal k h)
+key_by_digits t k h = ap (λ o. or_else o (number_of t (decimal k))) (unsigned_number-decimal k h)
 
 pub property_bare : (t : Table) (k : ℕ) (o n : List Token) → PutsKey t k o n → BeginsProperty false t k 0 o n
 property_bare t k o n w = record {
@@ -70,7 +70,7 @@ property_braced t k f o p q r s l some w e d g = record {
       (append_on p (Token.begin_object ∷ Token.key (codes "flags") ∷ []) (Token.number (decimal f) ∷ Token.key (codes "value") ∷ []) e
       (append_on q (Token.number (decimal f) ∷ []) (Token.key (codes "value") ∷ []) d g));
   numbered = w.numbered;
-  flagged = λ us vs h e f. rw (unsigned-decimal _ l, e) refl;
+  flagged = λ us vs h e f. rw (unsigned_number-decimal _ l, e) refl;
   named = w.named;
   exact = flags_printed f some;
   ends = flags_ended f some;
@@ -146,9 +146,9 @@ member_begun m v vs b rest o n e f g w = record {
 -- ---- Properties
 
 -- the brace behind a value is taken
-closed : (b : Bool) (us : List Token) → close b (closing b ++ us) ≡ Some us
-closed true us = refl
-closed false us = refl
+close-closing : (b : Bool) (us : List Token) → close b (closing b ++ us) ≡ Some us
+close-closing true us = refl
+close-closing false us = refl
 
 pub properties_ended : (t : Table) (m : List Property) (o p q : List Token) → length m ≡ 0 → p ≡ o ++ Token.end_object ∷ [] →
     q ≡ p ++ Token.end_object ∷ [] →
@@ -180,7 +180,7 @@ property_printed t m p ps b o q r s e a w d = record {
   continued = λ us rest l.
       let tail = closing b ++ us in
       let reads = property_reads t p.key p.flags.0 (view p.value) (property_views ps) b o q a (w.ts ++ tail) tail us l.0
-      (w.continued tail tail refl) (closed b us) l.1 in
+      (w.continued tail tail refl) (close-closing b us) l.1 in
       let same : a.ts ++ (w.ts ++ tail) ≡ (a.ts ++ (w.ts ++ closing b)) ++ us =
       sym (append_assoc a.ts (w.ts ++ closing b) us ∙ ap (λ x. a.ts ++ x) (append_assoc w.ts (closing b) us)) in (
         l.0,
@@ -332,7 +332,7 @@ one_ended v b around outer rest o m n p e a w d = record {
       let tail = closing around.braced ++ us in
       let turned : reverse outer ≡ around ∷ reverse rest = ap reverse e ∙ reverse-append rest (around ∷ []) in
       let here : AreAround (reverse outer) tail ws =
-      subst (λ z. AreAround z tail ws) (sym turned) (us, l.0, closed around.braced us, l.1, l.2) in
+      subst (λ z. AreAround z tail ws) (sym turned) (us, l.0, close-closing around.braced us, l.1, l.2) in
       let same : a.ts ++ (w.ts ++ tail) ≡ (a.ts ++ (w.ts ++ closing around.braced)) ++ us =
       sym (append_assoc a.ts (w.ts ++ closing around.braced) us ∙ ap (λ x. a.ts ++ x) (append_assoc w.ts (closing around.braced) us)) in
       subst (λ z. ReadsAs nothing v z ws) same (a.continued (w.ts ++ tail) ws (tail, w.continued tail tail refl, here));

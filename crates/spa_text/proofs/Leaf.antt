@@ -23,7 +23,7 @@ use Rattle.spa_text_read.specs.declared.tag.Scalar.{Scalar}
 use Rattle.spa_text_read.specs.declared.tag.Scalar.TheVariants as scalar
 use Rattle.spa_text_read.specs.declared.tag.Tag.TheVariants as tag
 use Rattle.spa_text.proofs.Appending.{append_on}
-use Rattle.spa_text.proofs.Numbers.{hex-bytes, signed-decimal, unsigned-decimal, wide_bits-text}
+use Rattle.spa_text.proofs.Numbers.{hex-bytes, signed_number-decimal, unsigned_number-decimal, wide_bits-text}
 
 -- what follows from a success
 pub on_ok : {A E : Type 0} {P Q : Type 0} (r : Result A E) → (P → Q) → OnOk r P → OnOk r Q
@@ -210,7 +210,7 @@ said_by : {A B : Type 0} (f : Token → Option A) (g : A → B) (x : A) (o n : L
 said_by f g x o n w = record { token = w.token; appended = w.appended; said = ap (option_map g) w.said }
 
 wide_written : (z : ℤ) (o n : List Token) → mag z < 2 ^ 63 → n ≡ o ++ Token.number (signed_decimal z) ∷ [] → Puts wide_of z o n
-wide_written z o n h e = record { token = Token.number (signed_decimal z); appended = e; said = signed-decimal 63 z h h }
+wide_written z o n h e = record { token = Token.number (signed_decimal z); appended = e; said = signed_number-decimal 63 z h h }
 
 pub id_printed : (c : Expected) (b : Bool) (n : ℕ) (o p q r : List Token) → BeginsNumber b c.type_.0 scalar.Id o p →
     PutsName c.ids n p q → r ≡ q ++ closing b → Prints c (fixed (id n)) o r
@@ -218,7 +218,7 @@ id_printed c b n o p q r s w d =
     number_printed c scalar.Id b (id n) o p q r s (record { token = w.token; appended = w.appended; said = ap (option_map (λ m. id m)) w.said })
     (λ h. ap (λ x. scalar_tokens c scalar.Id x) w.exact) d
 
--- a signed number, as it was passed on
+-- a signed_number number, as it was passed on
 passed : (z : ℤ) (o n : List Token) → SFits w64 z → n ≡ o ++ Token.number (signed_decimal (to_z w64 (of_z w64 z))) ∷ [] →
     n ≡ o ++ Token.number (signed_decimal z) ∷ []
 passed z o n h e = e ∙ ap (λ y. o ++ Token.number (signed_decimal y) ∷ []) (to_z-of_z w64 z h)
@@ -230,7 +230,7 @@ int_printed c b z o p q r h s e d =
     let fits : mag z < 2 ^ 31 = h.sfits in
     let same = passed z p q (record { sfits = omega (arith, fits) }) narrow in
     number_printed c scalar.Int b (int z) o p q r s
-    (record { token = Token.number (signed_decimal z); appended = same; said = ap (option_map (λ n. int n)) (signed-decimal 31 z (omega (arith, fits)) fits) })
+    (record { token = Token.number (signed_decimal z); appended = same; said = ap (option_map (λ n. int n)) (signed_number-decimal 31 z (omega (arith, fits)) fits) })
     (λ h. refl) d
 
 pub long_printed : (c : Expected) (b : Bool) (z : ℤ) (o p q r : List Token) → SFits w64 z → BeginsNumber b c.type_.0 scalar.Long o p →
@@ -269,7 +269,7 @@ unfolding opens
 rectangle_printed c m n o p h g e = record {
   ts = two_tokens (codes "width") m (codes "height") n;
   appended = e;
-  reads = λ rest. (Token.key (codes "width"), _, refl, rw (unsigned-decimal m h, unsigned-decimal n g) refl);
+  reads = λ rest. (Token.key (codes "width"), _, refl, rw (unsigned_number-decimal m h, unsigned_number-decimal n g) refl);
   exact = λ h. refl;
 }
 
@@ -279,7 +279,7 @@ unfolding opens
 fraction_printed c m n o p h g e = record {
   ts = two_tokens (codes "num") m (codes "denom") n;
   appended = e;
-  reads = λ rest. (Token.key (codes "num"), _, refl, rw (unsigned-decimal m h, unsigned-decimal n g) refl);
+  reads = λ rest. (Token.key (codes "num"), _, refl, rw (unsigned_number-decimal m h, unsigned_number-decimal n g) refl);
   exact = λ h. refl;
 }
 

@@ -19,7 +19,7 @@ use Rattle.spa_text_read.specs.Tokens.{head}
 use Rattle.spa_text.specs.Written.{Lists, Opens, Prints, PutsName, PutsType, shape_in, values_in}
 use Rattle.spa_text.proofs.Appending.{append_on}
 use Rattle.spa_text.proofs.Leaf.{choose, refuse}
-use Rattle.spa_text.proofs.Numbers.{unsigned-decimal}
+use Rattle.spa_text.proofs.Numbers.{unsigned_number-decimal}
 
 -- ---- Values of one kind
 
@@ -273,13 +273,13 @@ choice_opened c name h f n o p q r s u w small text e1 e2 e3 typed e5 e6 k numbe
     by_type (suc g) l a (inl t) = record {
       ts = front ++ (Token.key (codes "flags") ∷ Token.number (decimal (suc g)) ∷ back);
       appended = put (Token.key (codes "flags") ∷ Token.number (decimal (suc g)) ∷ []) [] a (t.0 ∙ sym (append-nil r));
-      opened = λ us. (Token.key (codes "choice"), _, refl, rw (named, unsigned-decimal (suc g) l, t.1, kind) refl);
+      opened = λ us. (Token.key (codes "choice"), _, refl, rw (named, unsigned_number-decimal (suc g) l, t.1, kind) refl);
       exact = said (Token.key (codes "flags") ∷ Token.number (decimal (suc g)) ∷ []) [] (sym (type_silent c.type_.0 n t.1));
     }
     by_type (suc g) l a (inr t) = record {
       ts = front ++ (Token.key (codes "flags") ∷ Token.number (decimal (suc g)) ∷ Token.key (codes "of") ∷ t.0 ∷ back);
       appended = put (Token.key (codes "flags") ∷ Token.number (decimal (suc g)) ∷ []) (Token.key (codes "of") ∷ t.0 ∷ []) a t.1;
-      opened = λ us. (Token.key (codes "choice"), _, refl, rw (named, unsigned-decimal (suc g) l, t.2, kind) refl);
+      opened = λ us. (Token.key (codes "choice"), _, refl, rw (named, unsigned_number-decimal (suc g) l, t.2, kind) refl);
       exact = said (Token.key (codes "flags") ∷ Token.number (decimal (suc g)) ∷ []) (Token.key (codes "of") ∷ t.0 ∷ []) (told t.0 t.3 t.4);
     }
 

@@ -15,7 +15,7 @@ use Rattle.std.proofs.lemmas.Str.Parse.{digit_from_value, without_leading_plus_n
 use lib.Ieee.Bits.{to_bits-of_bits}
 use Rattle.hex.specs.Hex.{IsBytes, decode_of, encode_lower, lower_digits}
 use Rattle.hex.proofs.HexLemmas.{decode_of-encode_lower, decode_sized-twice, length-encode_with}
-use Rattle.spa_text_read.specs.Numerals.{behind_0x, double_digits, finite_bits, float_digits, ok_of, signed, spelled, unsigned, wide_bits, word_bits}
+use Rattle.spa_text_read.specs.Numerals.{behind_0x, double_digits, finite_bits, float_digits, ok_of, signed_number, digit_bytes, unsigned_number, wide_bits, word_bits}
 use Rattle.spa_text_read.proofs.Digits.{signed_some, unsigned_none, unsigned_some}
 
 first_is : (ds : List ℕ) → IsNumeral 10 ds → (get_or ds 0 0 ≢ 43) × (get_or ds 0 0 ≢ 45)
@@ -25,14 +25,14 @@ first_is (c ∷ cs) h = let d = digit_from_value c h.1.0 in (λ e. omega (arith,
 -- ---- Digits
 
 -- a text is no number that begins with a byte above the digits
-pub none_above : (s : List ℕ) (first : ℕ) → 57 < first → 0 < length s → HoldsAt (λ c. first ≡ c) s 0 → unsigned s ≡ None
+pub none_above : (s : List ℕ) (first : ℕ) → 57 < first → 0 < length s → HoldsAt (λ c. first ≡ c) s 0 → unsigned_number s ≡ None
 none_above [] first above some is = absurd (omega (arith, some))
 none_above (c ∷ cs) first above some is =
     let same = without_leading_plus_none (c ∷ cs) (λ e. omega (arith, e, above, is 0)) in
     unsigned_none (c ∷ cs) (λ h _. let d = digit_from_value c (subst (IsNumeral 10) same h).1.0 in omega (arith, d, above, is 0))
 
-pub unsigned-decimal : (n : ℕ) → n < 2 ^ 32 → unsigned (decimal n) ≡ Some n
-unsigned-decimal n h =
+pub unsigned_number-decimal : (n : ℕ) → n < 2 ^ 32 → unsigned_number (decimal n) ≡ Some n
+unsigned_number-decimal n h =
     let d = decimal_is_IsNumeral n (omega arith) in
     let same = without_leading_plus_none (decimal n) (first_is (decimal n) d.0).0 in
     unsigned_some (decimal n) n (subst (IsNumeral 10) (sym same) d.0) (sym (ap (digits_value 10) same ∙ d.1)) h
@@ -40,8 +40,8 @@ unsigned-decimal n h =
 no_minus : (ds : List ℕ) → IsNumeral 10 ds → starts_with_minus ds ≡ false
 no_minus ds h = let n = (first_is ds h).1 in grind (arith, n)
 
-pub signed-decimal : (k : ℕ) (z : ℤ) → mag z < 2 ^ 63 → mag z < 2 ^ k → signed k (signed_decimal z) ≡ Some z
-signed-decimal k (pos n) wide h =
+pub signed_number-decimal : (k : ℕ) (z : ℤ) → mag z < 2 ^ 63 → mag z < 2 ^ k → signed_number k (signed_decimal z) ≡ Some z
+signed_number-decimal k (pos n) wide h =
     let ds = decimal n in
     let d = decimal_is_IsNumeral n (omega (arith, wide)) in
     let m = no_minus ds d.0 in
@@ -51,7 +51,7 @@ signed-decimal k (pos n) wide h =
     ap (λ b. cond b (neg_ℤ (pos (digits_value 10 (without_leading_sign ds)))) (pos (digits_value 10 (without_leading_sign ds)))) m
     ∙ ap (λ l. pos (digits_value 10 l)) plain ∙ ap pos d.1 in
     signed_some k ds (pos n) (subst (IsNumeral 10) (sym plain) d.0) (sym value) h
-signed-decimal k (negsuc n) wide h =
+signed_number-decimal k (negsuc n) wide h =
     let d = decimal_is_IsNumeral (suc n) (omega (arith, wide)) in
     signed_some k (45 ∷ decimal (suc n)) (negsuc n) d.0 (sym (ap (λ m. neg_ℤ (pos m)) d.1)) h
 
@@ -82,15 +82,15 @@ double_digits-bits s b l e h =
 
 -- ---- Bits
 
-spelled-bytes : (bs : List ℕ) (n : ℕ) → length bs ≡ n → IsBytes bs → spelled n (Some (encode_lower bs)) ≡ Some bs
-spelled-bytes bs n l h =
+digit_bytes-encode : (bs : List ℕ) (n : ℕ) → length bs ≡ n → IsBytes bs → digit_bytes n (Some (encode_lower bs)) ≡ Some bs
+digit_bytes-encode bs n l h =
     let len = length-encode_with lower_digits bs in
     ap ok_of (decode_sized-twice (encode_lower bs) n (omega (arith, len, l)) ∙ decode_of-encode_lower bs h)
 
 pub word_bits-text : (n : ℕ) → n < 2 ^ 32 → word_bits (codes "0x" ++ encode_lower (to_be_bytes w32 n)) ≡ Some n
 unfolding word_bits behind_0x
 word_bits-text n h =
-    ap (option_map (from_be_bytes w32)) (spelled-bytes (to_be_bytes w32 n) 4 refl cells) ∙ ap Some (from_be_bytes-to_be_bytes_4 n h)
+    ap (option_map (from_be_bytes w32)) (digit_bytes-encode (to_be_bytes w32 n) 4 refl cells) ∙ ap Some (from_be_bytes-to_be_bytes_4 n h)
   where
     cells : IsBytes (to_be_bytes w32 n)
     cells i = search rules
@@ -98,7 +98,7 @@ word_bits-text n h =
 pub wide_bits-text : (n : ℕ) → n < 2 ^ 64 → wide_bits (codes "0x" ++ encode_lower (to_be_bytes w64 n)) ≡ Some n
 unfolding wide_bits behind_0x
 wide_bits-text n h =
-    ap (option_map (from_be_bytes w64)) (spelled-bytes (to_be_bytes w64 n) 8 refl cells) ∙ ap Some (from_be_bytes-to_be_bytes_8 n h)
+    ap (option_map (from_be_bytes w64)) (digit_bytes-encode (to_be_bytes w64 n) 8 refl cells) ∙ ap Some (from_be_bytes-to_be_bytes_8 n h)
   where
     cells : IsBytes (to_be_bytes w64 n)
     cells i = search rules

@@ -12,7 +12,7 @@ use Rattle.spa_names.specs.declared.table.Table.{Table}
 use Rattle.spa_names.specs.declared.table.Table.TheVariants.{Types}
 use Rattle.spa_text_read.specs.Grammar.{Opening, a_struct, an_array, a_choice, an_object, bare, element, nothing, takes_text}
 use Rattle.spa_text_read.specs.Names.{expected_under, ids_of, keys_of, name_of}
-use Rattle.spa_text_read.specs.Numerals.{unsigned}
+use Rattle.spa_text_read.specs.Numerals.{unsigned_number}
 use Rattle.spa_text_read.specs.declared.tag.Scalar.{Scalar}
 use Rattle.spa_text_read.specs.declared.tag.Scalar.TheVariants as scalar
 
@@ -65,7 +65,7 @@ unless_number name k (Some n) = decimal k
 
 abbrev pub key_or_digits : Option (List ℕ) → ℕ → List ℕ
 key_or_digits None k = decimal k
-key_or_digits (Some name) k = unless_number name k (unsigned name)
+key_or_digits (Some name) k = unless_number name k (unsigned_number name)
 
 -- what stands for a key of this table
 abbrev pub key_text : Table → ℕ → List ℕ

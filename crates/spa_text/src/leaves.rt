@@ -143,7 +143,8 @@ pub(crate) fn print_array(
 
 /// Prints an array of this type up to its elements.
 fn begin_list(out: &mut Out, type_: u32, expected: Expected) -> Result<(), AllocError>
-    ensures { OnOk result ((kind : Kind) → type_ ≡ type_number kind → Opens expected (an_array expected.ids kind) out.old.tokens out.new.tokens) }
+    ensures { OnOk result ((kind : Kind) → type_ ≡ type_number kind →
+        Opens expected (an_array expected.ids kind) out.old.tokens out.new.tokens) }
 {
     begin_keyed_object(out, "array")?;
     print_name(out, Table::Types, type_)?;
@@ -251,7 +252,9 @@ fn begin_choice(
     type_: u32,
     expected: Expected,
 ) -> Result<(), AllocError>
-    ensures { OnOk result ((kind : Kind) → type_ ≡ type_number kind → Opens expected (a_choice (shape_of shape) flags expected.ids kind) out.old.tokens out.new.tokens) }
+    ensures { OnOk result ((kind : Kind) → type_ ≡ type_number kind →
+        Opens expected (a_choice (shape_of shape) flags expected.ids kind)
+        out.old.tokens out.new.tokens) }
 {
     begin_keyed_object(out, "choice")?;
     out.string(shape_name(shape))?;

@@ -125,7 +125,8 @@ impl Out {
     /// A finite float.
     pub(crate) fn float<F: Float>(&mut self, float: F) -> Result<(), AllocError>
         requires { IsTrue (float_is_finite (F.value float)) }
-        ensures { OnOk result ((s : List ℕ) × (self.new.tokens ≡ self.old.tokens ++ number s ∷ []) × (parse_float F.format s ≡ Some (F.value float))) }
+        ensures { OnOk result ((s : List ℕ) × (self.new.tokens ≡ self.old.tokens ++ number s ∷ [])
+            × (parse_float F.format s ≡ Some (F.value float))) }
     {
         self.writer.float(float)
     }

@@ -18,8 +18,12 @@ use std::alloc::{AllocError, Global};
 ///
 /// It is refused only where memory runs out, and then leaves `out` as it was.
 pub fn print_pretty(alloc: Global, value: &Value, out: &mut Vec<u8>) -> Result<(), AllocError>
-    ensures printed { OnOk result ((text : List ℕ) × (out.new.items ≡ out.old.items ++ text) × IsUtf8 text × ReadsAs nothing (view value.now) (tokens text) [] × (text ≡ pretty (tokens text))) }
-    ensures exact { OnOk result (HasNoFloat (view value.now) → out.new.items ≡ out.old.items ++ pretty (tokens_of nothing (view value.now))) }
+    ensures printed { OnOk result
+        ((text : List ℕ) × (out.new.items ≡ out.old.items ++ text) × IsUtf8 text
+        × ReadsAs nothing (view value.now) (tokens text) [] × (text ≡ pretty (tokens text))) }
+    ensures exact { OnOk result
+        (HasNoFloat (view value.now) →
+        out.new.items ≡ out.old.items ++ pretty (tokens_of nothing (view value.now))) }
     ensures kept { OnErr result (out.new.items ≡ out.old.items) }
 {
     let Ok(line) = String::from_utf8(line_of(alloc, value, Vec::new(alloc))?) else {

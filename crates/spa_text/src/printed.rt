@@ -188,7 +188,8 @@ fn print_double(alloc: Global, out: &mut Out, bits: u64) -> Result<(), AllocErro
 
 /// Prints the bytes of a number, the highest first, as `0x` and two digits for each.
 pub(crate) fn print_bits(alloc: Global, out: &mut Out, bytes: &[u8]) -> Result<(), AllocError>
-    ensures { OnOk result (out.new.tokens ≡ out.old.tokens ++ (token.string (codes "0x" ++ encode_lower bytes.now) ∷ [])) }
+    ensures { OnOk result
+        (out.new.tokens ≡ out.old.tokens ++ (token.string (codes "0x" ++ encode_lower bytes.now) ∷ [])) }
 {
     let digits = hex::encode(alloc, bytes)?;
     let mut text = String::from_str(alloc, "0x")?;

@@ -4,7 +4,7 @@ ghost use Rattle.std.specs.Str.{IsUtf8};
 ghost use Rattle.json.specs.Lex.{tokens};
 ghost use Rattle.spa_format.specs.Tree.{member_node_count, node_count, struct};
 ghost use Rattle.spa_text_read.specs.Grammar.{ReadsAs, an_object, key_number, nothing};
-ghost use Rattle.spa_text_read.specs.Numerals.{unsigned};
+ghost use Rattle.spa_text_read.specs.Numerals.{unsigned_number};
 ghost use Rattle.spa_text.specs.Line.{AreGood, HasNoEnd};
 ghost use Rattle.spa_text.specs.Left.{IsLess, PrintsNext, PrintsOrBegins, PrintsWhole, left_count};
 ghost use Rattle.spa_text.specs.Printed as printed;
@@ -70,8 +70,12 @@ impl TextPrinter {
 
     /// Prints a value behind what is in `out`, as `print` does.
     pub fn print(&mut self, value: &Value, out: &mut Vec<u8>) -> Result<(), AllocError>
-        ensures printed { OnOk result ((text : List ℕ) × (out.new.items ≡ out.old.items ++ text) × IsUtf8 text × ReadsAs nothing (view value.now) (tokens text) [] × HasNoEnd text) }
-        ensures exact { OnOk result (HasNoFloat (view value.now) → out.new.items ≡ out.old.items ++ printed.line_of (view value.now)) }
+        ensures printed { OnOk result
+            ((text : List ℕ) × (out.new.items ≡ out.old.items ++ text) × IsUtf8 text
+            × ReadsAs nothing (view value.now) (tokens text) [] × HasNoEnd text) }
+        ensures exact { OnOk result
+            (HasNoFloat (view value.now) →
+            out.new.items ≡ out.old.items ++ printed.line_of (view value.now)) }
         ensures kept { OnErr result (out.new.items ≡ out.old.items) }
     {
         let mut buffer = mem::replace(&mut self.line, Vec::new(self.alloc));
@@ -88,8 +92,12 @@ impl TextPrinter {
 ///
 /// It is refused only where memory runs out, and then leaves `out` as it was. A value that is nested deep is printed too, by a loop.
 pub fn print(alloc: Global, value: &Value, out: &mut Vec<u8>) -> Result<(), AllocError>
-    ensures printed { OnOk result ((text : List ℕ) × (out.new.items ≡ out.old.items ++ text) × IsUtf8 text × ReadsAs nothing (view value.now) (tokens text) [] × HasNoEnd text) }
-    ensures exact { OnOk result (HasNoFloat (view value.now) → out.new.items ≡ out.old.items ++ printed.line_of (view value.now)) }
+    ensures printed { OnOk result
+        ((text : List ℕ) × (out.new.items ≡ out.old.items ++ text) × IsUtf8 text
+        × ReadsAs nothing (view value.now) (tokens text) [] × HasNoEnd text) }
+    ensures exact { OnOk result
+        (HasNoFloat (view value.now) →
+        out.new.items ≡ out.old.items ++ printed.line_of (view value.now)) }
     ensures kept { OnErr result (out.new.items ≡ out.old.items) }
 {
     let mut printer = TextPrinter::new(alloc);
@@ -103,7 +111,9 @@ pub(crate) fn line_of(alloc: Global, value: &Value, buffer: Vec<u8>) -> Result<V
     ensures utf8 { IfOk result (λ line. IsUtf8 line.items) }
     ensures no_end { IfOk result (λ line. HasNoEnd line.items) }
     ensures good { IfOk result (λ line. AreGood (tokens line.items)) }
-    ensures exact { IfOk result (λ line. HasNoFloat (view value.now) → (line.items ≡ printed.line_of (view value.now)) × (tokens line.items ≡ tokens_of nothing (view value.now))) }
+    ensures exact { IfOk result
+        (λ line. HasNoFloat (view value.now) → (line.items ≡ printed.line_of (view value.now))
+        × (tokens line.items ≡ tokens_of nothing (view value.now))) }
 {
     let mut out = Out::new(buffer);
     print_value(alloc, &mut out, value)?;
@@ -148,8 +158,11 @@ fn print_or_begin<'a>(
     value: &'a Value,
     expected: Expected,
 ) -> Result<Option<Begun<'a>>, AllocError>
-    ensures written { IfOk result (λ begun. PrintsOrBegins expected (view value.now) begun out.old.tokens out.new.tokens) }
-    ensures fewer { IfOk result (λ begun. MatchOption begun (1 ≤ node_count (view value.now)) (λ b. left_count b.left + 1 ≡ node_count (view value.now))) }
+    ensures written { IfOk result
+        (λ begun. PrintsOrBegins expected (view value.now) begun out.old.tokens out.new.tokens) }
+    ensures fewer { IfOk result
+        (λ begun. MatchOption begun (1 ≤ node_count (view value.now))
+        (λ b. left_count b.left + 1 ≡ node_count (view value.now))) }
 {
     match value {
         Value::Struct(members) => match begin_struct(out, members.as_slice()) {
@@ -201,7 +214,10 @@ fn print_whole(
 
 /// Prints a struct up to its members.
 fn begin_struct<'a>(out: &mut Out, members: &'a [Value]) -> Result<Begun<'a>, AllocError>
-    ensures written { IfOk result (λ b. (expected : Expected) → PrintsOrBegins expected (struct (views members.now)) (Some b) out.old.tokens out.new.tokens) }
+    ensures written { IfOk result
+        (λ b. (expected : Expected) →
+        PrintsOrBegins expected (struct (views members.now)) (Some b)
+        out.old.tokens out.new.tokens) }
     ensures fewer { IfOk result (λ b. left_count b.left ≡ member_node_count (views members.now)) }
 {
     out.begin_array()?;
@@ -214,7 +230,10 @@ fn begin_struct<'a>(out: &mut Out, members: &'a [Value]) -> Result<Begun<'a>, Al
 /// Prints an object up to its properties.
 #[tactic(auto, using(crate::proofs::Counting::object_nodes))]
 fn begin_object<'a>(out: &mut Out, object: &'a Object) -> Result<Begun<'a>, AllocError>
-    ensures written { IfOk result (λ b. (expected : Expected) → PrintsOrBegins expected (object_view object.now) (Some b) out.old.tokens out.new.tokens) }
+    ensures written { IfOk result
+        (λ b. (expected : Expected) →
+        PrintsOrBegins expected (object_view object.now) (Some b)
+        out.old.tokens out.new.tokens) }
     ensures fewer { IfOk result (λ b. left_count b.left + 1 ≡ node_count (object_view object.now)) }
 {
     open_object(out, object.type_, object.id)?;
@@ -277,7 +296,9 @@ fn next_property<'a>(
     properties: &'a [Property],
     keys: Table,
 ) -> Result<Next<'a>, AllocError>
-    ensures written { IfOk result (λ next. PrintsNext (left.Properties properties.entry keys) next out.old.tokens out.new.tokens) }
+    ensures written { IfOk result
+        (λ next. PrintsNext (left.Properties properties.entry keys) next
+        out.old.tokens out.new.tokens) }
     ensures less { IfOk result (λ next. IsLess (left.Properties properties.entry keys) next) }
 {
     let Some((property, behind)) = properties.split_first() else {
@@ -303,7 +324,7 @@ fn next_property<'a>(
 /// The number that a name is, if it is one. Hardly any begins with a digit, and the others needn't be read.
 #[inline(always)]
 fn number_in(name: &str) -> Option<u32>
-    ensures { result ≡ unsigned name.now }
+    ensures { result ≡ unsigned_number name.now }
 {
     if let Some(first) = name.as_bytes().first() {
         if *first > b'9' {

@@ -18,15 +18,15 @@ use Rattle.spa_text_read.specs.declared.inside.Opened.TheVariants as opened
 use Rattle.spa_text_read.specs.declared.tag.Tag.{Tag}
 use Rattle.spa_text_read.specs.declared.tag.Tag.TheVariants as tag
 
-abbrev closed : Option (Leaf × List Token) → Option (grammar.Opened × List Token)
-closed r = r >>= (λ p. option_map (λ us. (leaf p.0, us)) (after_end_object p.1))
+abbrev whole_leaf : Option (Leaf × List Token) → Option (grammar.Opened × List Token)
+whole_leaf r = r >>= (λ p. option_map (λ us. (leaf p.0, us)) (after_end_object p.1))
 
-closes : {A : Type 0} (f : A → Leaf) (r : Option (A × List Token)) → ending f r ≡ closed (says f r)
+closes : {A : Type 0} (f : A → Leaf) (r : Option (A × List Token)) → ending f r ≡ whole_leaf (says f r)
 closes f None = refl
 closes f (Some p) = refl
 
 is_leaf : (c : Expected) (t : Tag) (ts : List Token) → t ≢ tag.Struct → t ≢ tag.Array → t ≢ tag.Choice → t ≢ tag.Object →
-    tagged_at c t ts ≡ closed (leaf_at c t ts)
+    tagged_at c t ts ≡ whole_leaf (leaf_at c t ts)
 is_leaf c (tag.Scalar n) ts s a k o = closes (λ x. a_number x) (tagged_scalar n c.ids ts)
 is_leaf c tag.String ts s a k o = closes (λ x. a_text x) (any_text ts)
 is_leaf c tag.Bytes ts s a k o = closes (λ x. some_bytes x) (hex_bytes ts)
@@ -50,7 +50,7 @@ module _ (c : Expected) (t : Tag) (ts : List Token) (s : t ≢ tag.Struct) (a : 
       IfOk r (λ x. tagged_at c t ts ≡ Some (opened_of x, new))
   leaf_ended (Ok x) v mid new e h =
       is_leaf c t ts s a k o
-      ∙ ap closed e
+      ∙ ap whole_leaf e
       ∙ ap (option_map (λ us. (leaf (leaf_of (view v)), us))) h.1
       ∙ ap (λ y. Some (opened_of y, new)) (sym h.0)
   leaf_ended (Err x) v mid new e h = tt
@@ -59,10 +59,10 @@ module _ (c : Expected) (t : Tag) (ts : List Token) (s : t ≢ tag.Struct) (a : 
       IfErr r (λ e. e ≢ cause.OutOfMemory → tagged_at c t ts ≡ None)
   leaf_unended (Ok x) v mid new e h = tt
   leaf_unended (Err x) v mid new e h = λ m.
-      is_leaf c t ts s a k o ∙ ap closed e ∙ ap (option_map (λ us. (leaf (leaf_of (view v)), us))) h.1
+      is_leaf c t ts s a k o ∙ ap whole_leaf e ∙ ap (option_map (λ us. (leaf (leaf_of (view v)), us))) h.1
 
   pub leaf_refused : leaf_at c t ts ≡ None → tagged_at c t ts ≡ None
-  leaf_refused e = is_leaf c t ts s a k o ∙ ap closed e
+  leaf_refused e = is_leaf c t ts s a k o ∙ ap whole_leaf e
 
 pub leaf_proper : (r : Result Opened Cause) (v : Value) (mid new : List Token) → tree (leaf_of (view v)) ≡ view v → Ends r v mid new → IfOk r (λ x. IsOpened x)
 leaf_proper (Ok x) v mid new p h = subst IsOpened (sym h.0) p

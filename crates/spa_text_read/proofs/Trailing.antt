@@ -22,29 +22,29 @@ above : (n : ℕ) → path_limit < n → nat_lt path_limit n ≡ true
 above n h = grind (arith, nat_tests)
 
 -- a path so far, and the steps that are left
-pub IsTold : List Open → List ℕ → List Open → Type 0
-IsTold trail told left = path_behind [] (map open_of trail) ≡ path_behind told (map open_of left)
+pub LeadsOn : List Open → List ℕ → List Open → Type 0
+LeadsOn trail path left = path_behind [] (map open_of trail) ≡ path_behind path (map open_of left)
 
-pub nothing_told : (trail left : List Open) → left ≡ trail → IsTold trail [] left
-unfolding IsTold
-nothing_told trail left e = ap (λ l. path_behind [] (map open_of l)) (sym e)
+pub no_step_taken : (trail left : List Open) → left ≡ trail → LeadsOn trail [] left
+unfolding LeadsOn
+no_step_taken trail left e = ap (λ l. path_behind [] (map open_of l)) (sym e)
 
-pub step_told : (trail left rest : List Open) (o : Open) (told next : List ℕ) → left ≡ o ∷ rest → length told ≤ path_limit →
-    next ≡ told ++ step_text (open_of o) → IsTold trail told left → IsTold trail next rest
-unfolding IsTold
-step_told trail left rest o told next l n e h =
-    h ∙ ap (λ x. path_behind told (map open_of x)) l ∙ ap (λ b. if b then told ++ codes ".." else path_behind (told ++ step_text (open_of o)) (map open_of rest)) (not_above (length told) n)
+pub step_taken : (trail left rest : List Open) (o : Open) (path next : List ℕ) → left ≡ o ∷ rest → length path ≤ path_limit →
+    next ≡ path ++ step_text (open_of o) → LeadsOn trail path left → LeadsOn trail next rest
+unfolding LeadsOn
+step_taken trail left rest o path next l n e h =
+    h ∙ ap (λ x. path_behind path (map open_of x)) l ∙ ap (λ b. if b then path ++ codes ".." else path_behind (path ++ step_text (open_of o)) (map open_of rest)) (not_above (length path) n)
     ∙ ap (λ x. path_behind x (map open_of rest)) (sym e)
 
-pub rest_untold : (trail left rest : List Open) (o : Open) (told next : List ℕ) → left ≡ o ∷ rest → path_limit < length told →
-    next ≡ told ++ codes ".." → IsTold trail told left → next ≡ path_behind [] (map open_of trail)
-unfolding IsTold
-rest_untold trail left rest o told next l n e h =
-    e ∙ sym (h ∙ ap (λ x. path_behind told (map open_of x)) l ∙ ap (λ b. if b then told ++ codes ".." else path_behind (told ++ step_text (open_of o)) (map open_of rest)) (above (length told) n))
+pub path_cut : (trail left rest : List Open) (o : Open) (path next : List ℕ) → left ≡ o ∷ rest → path_limit < length path →
+    next ≡ path ++ codes ".." → LeadsOn trail path left → next ≡ path_behind [] (map open_of trail)
+unfolding LeadsOn
+path_cut trail left rest o path next l n e h =
+    e ∙ sym (h ∙ ap (λ x. path_behind path (map open_of x)) l ∙ ap (λ b. if b then path ++ codes ".." else path_behind (path ++ step_text (open_of o)) (map open_of rest)) (above (length path) n))
 
-pub all_told : (trail left : List Open) (told : List ℕ) → left ≡ [] → IsTold trail told left → told ≡ path_behind [] (map open_of trail)
-unfolding IsTold
-all_told trail left told l h = sym (h ∙ ap (λ x. path_behind told (map open_of x)) l)
+pub all_steps_taken : (trail left : List Open) (path : List ℕ) → left ≡ [] → LeadsOn trail path left → path ≡ path_behind [] (map open_of trail)
+unfolding LeadsOn
+all_steps_taken trail left path l h = sym (h ∙ ap (λ x. path_behind path (map open_of x)) l)
 
 -- nothing is open before the first token
 pub none_open : (ts : List Token) (trail : List Open) → trail ≡ [] → Opens ts (opens_of trail) ts

@@ -16,7 +16,7 @@ use Rattle.spa_text_read.specs.declared.tag.Tag.TheVariants as tag
 use Rattle.spa_text_read.specs.declared.tag.Scalar.{Scalar}
 use Rattle.spa_text_read.specs.declared.tag.Scalar.TheVariants as scalar
 use Rattle.spa_text_read.specs.Options.{◌>>=◌, Reading, and_then}
-use Rattle.spa_text_read.specs.Numerals.{ok_of, unsigned, signed, word_bits, wide_bits, float_digits, double_digits}
+use Rattle.spa_text_read.specs.Numerals.{ok_of, unsigned_number, signed_number, word_bits, wide_bits, float_digits, double_digits}
 use Rattle.spa_text_read.specs.Tokens.{after_begin_array, after_begin_object, after_end_object, after_key, any_key, any_text, any_token, head, name_or_word, number_by_name, word}
 
 -- ---- What is expected
@@ -51,11 +51,11 @@ takes_text n = n == 3 || (n == 6 || n == 7)
 
 -- what one token says of a number
 abbrev pub int_of : Token → Option Fixed
-int_of (Token.number s) = option_map (λ n. int n) (signed 31 s)
+int_of (Token.number s) = option_map (λ n. int n) (signed_number 31 s)
 int_of _ = None
 
 abbrev pub wide_of : Token → Option ℤ
-wide_of (Token.number s) = signed 63 s
+wide_of (Token.number s) = signed_number 63 s
 wide_of _ = None
 
 abbrev pub float_of : Token → Option Fixed
@@ -248,7 +248,7 @@ or_else (Some x) other = Some x
 or_else None other = other
 
 abbrev pub key_number : Table → List ℕ → Option ℕ
-key_number t s = or_else (unsigned s) (number_of t s)
+key_number t s = or_else (unsigned_number s) (number_of t s)
 
 -- the flags of a property, whether a brace follows its value, and the first token of that
 abbrev pub is_flags : Token → Bool

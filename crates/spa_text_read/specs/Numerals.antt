@@ -19,14 +19,14 @@ abbrev pub number_where : {A : Type 0} → Bool → A → Option A
 number_where b n = if b then Some n else None
 
 -- the number below 2 ^ 32 that the text is
-unfoldable pub unsigned : List ℕ → Option ℕ
-unsigned s =
+unfoldable pub unsigned_number : List ℕ → Option ℕ
+unsigned_number s =
     number_where (are_digits (without_leading_plus s) && nat_lt (digits_value 10 (without_leading_plus s)) (2 ^ 32))
     (digits_value 10 (without_leading_plus s))
 
 -- the number of so many bits, and one for its sign, that the text is
-unfoldable pub signed : ℕ → List ℕ → Option ℤ
-signed k s =
+unfoldable pub signed_number : ℕ → List ℕ → Option ℤ
+signed_number k s =
     number_where (are_digits (without_leading_sign s) && nat_lt (mag (signed_digits_value 10 s)) (2 ^ k))
     (signed_digits_value 10 s)
 
@@ -40,17 +40,17 @@ behind_0x [] = None
 behind_0x (a ∷ []) = None
 behind_0x (a ∷ b ∷ digits) = number_where (a == 48 && b == 120) digits
 
--- the bytes, so many, that digits spell
-abbrev pub spelled : ℕ → Option (List ℕ) → Option (List ℕ)
-spelled n None = None
-spelled n (Some digits) = ok_of (decode_sized digits n)
+-- the bytes of so many pairs of hex digits, and of no others
+abbrev pub digit_bytes : ℕ → Option (List ℕ) → Option (List ℕ)
+digit_bytes n None = None
+digit_bytes n (Some digits) = ok_of (decode_sized digits n)
 
 -- the number whose eight digits stand behind `0x`, the highest first, and that of sixteen
 unfoldable pub word_bits : List ℕ → Option ℕ
-word_bits s = option_map (from_be_bytes w32) (spelled 4 (behind_0x s))
+word_bits s = option_map (from_be_bytes w32) (digit_bytes 4 (behind_0x s))
 
 unfoldable pub wide_bits : List ℕ → Option ℕ
-wide_bits s = option_map (from_be_bytes w64) (spelled 8 (behind_0x s))
+wide_bits s = option_map (from_be_bytes w64) (digit_bytes 8 (behind_0x s))
 
 -- the bits of a finite float
 abbrev pub finite_bits : Format → Float → Option ℕ

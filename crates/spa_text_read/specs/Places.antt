@@ -17,16 +17,17 @@ abbrev pub under : List ℕ → List Open → List Open
 under s (object k ∷ os) = object (Some s) ∷ os
 under s os = os
 
-abbrev pub closed : List Open → List Open
-closed [] = []
-closed (o ∷ os) = os
+-- those around the innermost
+abbrev pub outer : List Open → List Open
+outer [] = []
+outer (o ∷ os) = os
 
 -- what is open behind a token, the innermost first
 abbrev pub after : Token → List Open → List Open
 after Token.begin_object os = object None ∷ one_more os
 after Token.begin_array os = array 0 ∷ one_more os
-after Token.end_object os = closed os
-after Token.end_array os = closed os
+after Token.end_object os = outer os
+after Token.end_array os = outer os
 after (Token.key s) os = under s os
 after _ os = one_more os
 
@@ -51,10 +52,10 @@ step_text (object None) = []
 step_text (object (Some s)) = codes "." ++ key_text s
 step_text (array n) = if n == 0 then [] else codes "[" ++ (decimal (n - 1) ++ codes "]")
 
--- the path through these, the outermost first, behind what is told of it
+-- the path through these, the outermost first, behind this path
 abbrev pub path_behind : List ℕ → List Open → List ℕ
-path_behind told [] = told
-path_behind told (o ∷ os) = if nat_lt path_limit (length told) then told ++ codes ".." else path_behind (told ++ step_text o) os
+path_behind path [] = path
+path_behind path (o ∷ os) = if nat_lt path_limit (length path) then path ++ codes ".." else path_behind (path ++ step_text o) os
 
 -- the path of a place in the text: some tokens are read, and the last of them stands there
 abbrev pub IsPlace : List Token → List ℕ → Type 0

@@ -5,7 +5,7 @@ use Rattle.json.specs.Token.{Token}
 use Rattle.spa_text_read.specs.Names.{number_of}
 use Rattle.spa_names.specs.declared.table.Table.{Table}
 use Rattle.spa_text_read.specs.Options.{Reading, and_then}
-use Rattle.spa_text_read.specs.Numerals.{unsigned}
+use Rattle.spa_text_read.specs.Numerals.{unsigned_number}
 
 -- what follows the brace that closes an object
 abbrev pub after_end_object : List Token → Option (List Token)
@@ -49,13 +49,13 @@ any_token (t ∷ ts) = Some (t, ts)
 -- a number of 32 bits
 abbrev pub word : Reading ℕ
 word [] = None
-word (Token.number s ∷ ts) = and_then ts (unsigned s)
+word (Token.number s ∷ ts) = and_then ts (unsigned_number s)
 word (_ ∷ ts) = None
 
 -- a number of 32 bits, by its name in the table or by its digits
 abbrev pub number_by_name : Table → Token → Option ℕ
 number_by_name t (Token.string s) = number_of t s
-number_by_name t (Token.number s) = unsigned s
+number_by_name t (Token.number s) = unsigned_number s
 number_by_name t _ = None
 
 abbrev pub name_or_word : Table → Reading ℕ

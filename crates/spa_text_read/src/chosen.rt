@@ -16,7 +16,10 @@ use spa_value::{ChoiceValue, Value, ValueArray};
 
 /// The choice of these values, the default first.
 pub(crate) fn choice_value(shape: Shape, flags: u32, values: ValueArray) -> Result<Value, Cause>
-    ensures { MatchResult result (λ v. grammar.choice_of (shape_of shape) flags (kind_in values) (items_in values) ≡ Some (view v)) (λ _. grammar.choice_of (shape_of shape) flags (kind_in values) (items_in values) ≡ None) }
+    ensures { MatchResult result
+        (λ v. grammar.choice_of (shape_of shape) flags (kind_in values) (items_in values)
+        ≡ Some (view v))
+        (λ _. grammar.choice_of (shape_of shape) flags (kind_in values) (items_in values) ≡ None) }
 {
     match any_choice(shape, flags, values) {
         Some(choice) => Ok(Value::Choice(choice)),
@@ -26,7 +29,10 @@ pub(crate) fn choice_value(shape: Shape, flags: u32, values: ValueArray) -> Resu
 
 /// The choice of these values; there is none over values of no size.
 fn any_choice(shape: Shape, flags: u32, values: ValueArray) -> Option<ChoiceValue>
-    ensures { MatchOption result (grammar.choice_of (shape_of shape) flags (kind_in values) (items_in values) ≡ None) (λ c. grammar.choice_of (shape_of shape) flags (kind_in values) (items_in values) ≡ Some (choice_view c)) }
+    ensures { MatchOption result
+        (grammar.choice_of (shape_of shape) flags (kind_in values) (items_in values) ≡ None)
+        (λ c. grammar.choice_of (shape_of shape) flags (kind_in values) (items_in values)
+        ≡ Some (choice_view c)) }
 {
     match values {
         ValueArray::None(_) => None,
@@ -52,7 +58,10 @@ fn choice_of<T: CanonicalFixedSizedPod>(
     flags: u32,
     values: Vec<T>,
 ) -> Option<Choice<T>>
-    ensures { MatchOption result (grammar.chosen (shape_of shape) flags T.kind (map T.fixed values.items) ≡ None) (λ c. grammar.chosen (shape_of shape) flags T.kind (map T.fixed values.items) ≡ Some (choice_tree T.kind T.fixed c)) }
+    ensures { MatchOption result
+        (grammar.chosen (shape_of shape) flags T.kind (map T.fixed values.items) ≡ None)
+        (λ c. grammar.chosen (shape_of shape) flags T.kind (map T.fixed values.items)
+        ≡ Some (choice_tree T.kind T.fixed c)) }
 {
     match chosen(shape, values) {
         Some(chosen) => Some(Choice(ChoiceFlags::from_bits_retain(flags), chosen)),
@@ -62,7 +71,10 @@ fn choice_of<T: CanonicalFixedSizedPod>(
 
 /// The choice of these values without its flags, where there are as many as its shape takes.
 fn chosen<T: CanonicalFixedSizedPod>(shape: Shape, values: Vec<T>) -> Option<ChoiceEnum<T>>
-    ensures { MatchOption result ((n : ℕ) → grammar.chosen (shape_of shape) n T.kind (map T.fixed values.items) ≡ None) (λ c. (n : ℕ) → grammar.chosen (shape_of shape) n T.kind (map T.fixed values.items) ≡ Some (choice_enum_tree T.kind T.fixed n c)) }
+    ensures { MatchOption result
+        ((n : ℕ) → grammar.chosen (shape_of shape) n T.kind (map T.fixed values.items) ≡ None)
+        (λ c. (n : ℕ) → grammar.chosen (shape_of shape) n T.kind (map T.fixed values.items)
+        ≡ Some (choice_enum_tree T.kind T.fixed n c)) }
 {
     match shape {
         Shape::None => one(values.as_slice()),
@@ -84,7 +96,10 @@ fn chosen<T: CanonicalFixedSizedPod>(shape: Shape, values: Vec<T>) -> Option<Cho
 
 /// A choice of one value.
 fn one<T: CanonicalFixedSizedPod>(values: &[T]) -> Option<ChoiceEnum<T>>
-    ensures { MatchOption result ((n : ℕ) → grammar.chosen none_choice n T.kind (map T.fixed values.now) ≡ None) (λ c. (n : ℕ) → grammar.chosen none_choice n T.kind (map T.fixed values.now) ≡ Some (choice_enum_tree T.kind T.fixed n c)) }
+    ensures { MatchOption result
+        ((n : ℕ) → grammar.chosen none_choice n T.kind (map T.fixed values.now) ≡ None)
+        (λ c. (n : ℕ) → grammar.chosen none_choice n T.kind (map T.fixed values.now)
+        ≡ Some (choice_enum_tree T.kind T.fixed n c)) }
 {
     match values {
         [value] => Some(ChoiceEnum::None(*value)),
@@ -94,7 +109,10 @@ fn one<T: CanonicalFixedSizedPod>(values: &[T]) -> Option<ChoiceEnum<T>>
 
 /// A default with its minimum and maximum.
 fn three<T: CanonicalFixedSizedPod>(values: &[T]) -> Option<ChoiceEnum<T>>
-    ensures { MatchOption result ((n : ℕ) → grammar.chosen range_choice n T.kind (map T.fixed values.now) ≡ None) (λ c. (n : ℕ) → grammar.chosen range_choice n T.kind (map T.fixed values.now) ≡ Some (choice_enum_tree T.kind T.fixed n c)) }
+    ensures { MatchOption result
+        ((n : ℕ) → grammar.chosen range_choice n T.kind (map T.fixed values.now) ≡ None)
+        (λ c. (n : ℕ) → grammar.chosen range_choice n T.kind (map T.fixed values.now)
+        ≡ Some (choice_enum_tree T.kind T.fixed n c)) }
 {
     match values {
         [default, min, max] => Some(ChoiceEnum::Range {
@@ -108,7 +126,10 @@ fn three<T: CanonicalFixedSizedPod>(values: &[T]) -> Option<ChoiceEnum<T>>
 
 /// A default with its minimum, maximum and step.
 fn four<T: CanonicalFixedSizedPod>(values: &[T]) -> Option<ChoiceEnum<T>>
-    ensures { MatchOption result ((n : ℕ) → grammar.chosen step_choice n T.kind (map T.fixed values.now) ≡ None) (λ c. (n : ℕ) → grammar.chosen step_choice n T.kind (map T.fixed values.now) ≡ Some (choice_enum_tree T.kind T.fixed n c)) }
+    ensures { MatchOption result
+        ((n : ℕ) → grammar.chosen step_choice n T.kind (map T.fixed values.now) ≡ None)
+        (λ c. (n : ℕ) → grammar.chosen step_choice n T.kind (map T.fixed values.now)
+        ≡ Some (choice_enum_tree T.kind T.fixed n c)) }
 {
     match values {
         [default, min, max, step] => Some(ChoiceEnum::Step {

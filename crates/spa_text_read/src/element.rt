@@ -24,6 +24,7 @@ pub(crate) enum Element {
 }
 
 /// What a value of fixed size says.
+#[inline(always)]
 #[tactic(auto, using(crate::proofs::ViewLaws::object_part))]
 pub(crate) fn element_of(value: &Value) -> Option<Element>
     ensures { option_map said_by result ≡ fixed_part (view value.now) }
@@ -51,10 +52,14 @@ pub(crate) fn element_of(value: &Value) -> Option<Element>
 }
 
 /// Puts an element behind the others, where it is of their type.
+#[inline(always)]
 pub(crate) fn put_element(values: &mut ValueArray, element: Element) -> Result<(), Cause>
-    ensures put { OnOk result (option_map (λ x. items_in values.old ++ x ∷ []) (of_kind (kind_in values.old) (said_by element)) ≡ Some (items_in values.new)) }
+    ensures put { OnOk result
+        (option_map (λ x. items_in values.old ++ x ∷ [])
+        (of_kind (kind_in values.old) (said_by element)) ≡ Some (items_in values.new)) }
     ensures kind { OnOk result (kind_in values.new ≡ kind_in values.old) }
-    ensures refused { IfErr result (λ e. e ≢ Cause.OutOfMemory → of_kind (kind_in values.old) (said_by element) ≡ None) }
+    ensures refused { IfErr result
+        (λ e. e ≢ Cause.OutOfMemory → of_kind (kind_in values.old) (said_by element) ≡ None) }
 {
     match (values, element) {
         (ValueArray::None(values), Element::None) => push(values, ()),

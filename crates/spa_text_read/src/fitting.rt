@@ -206,7 +206,9 @@ fn takes(wanted: FullType, found: FullType) -> bool
 
 /// What a property of an object of this type has in place of the type that belongs under its key.
 pub(crate) fn misfit_of(type_: u32, property: &Property) -> Option<Misfit>
-    ensures { MatchOption result (fits_under type_ property.now.key (view property.now.value) ≡ true) (λ _. fits_under type_ property.now.key (view property.now.value) ≡ false) }
+    ensures { MatchOption result
+        (fits_under type_ property.now.key (view property.now.value) ≡ true)
+        (λ _. fits_under type_ property.now.key (view property.now.value) ≡ false) }
 {
     let wanted = type_under(type_, property.key);
     let found = full_type(&property.value);

@@ -85,7 +85,9 @@ impl Inside {
     /// Reads up to the next value in it, or to its end.
     #[tactic(auto, unfolding(crate::specs::Steps::next))]
     pub(crate) fn next<'a>(&mut self, reader: &mut Reader<'a>) -> Result<Next<'a>, Cause>
-        ensures next { IfOk result (λ n. steps.next (frame_of self.old) reader.old ≡ Some (next_of (frame_of self.new) n, reader.new)) }
+        ensures next { IfOk result
+            (λ n. steps.next (frame_of self.old) reader.old
+            ≡ Some (next_of (frame_of self.new) n, reader.new)) }
         ensures kept { IfOk result (λ n. KeepsAtEnd n self.old self.new) }
         ensures refused { OnErr result (steps.next (frame_of self.old) reader.old ≡ None) }
         ensures fewer { OnOk result (length reader.new < length reader.old) }
@@ -99,9 +101,14 @@ impl Inside {
     }
 
     /// Puts a value that is read behind the others.
+    #[inline(always)]
     pub(crate) fn put(&mut self, value: Value, reader: &mut Reader<'_>) -> Result<(), Cause>
-        ensures put { OnOk result (steps.put (frame_of self.old) (view value) reader.old ≡ Some (frame_of self.new, reader.new)) }
-        ensures refused { IfErr result (λ e. e ≢ Cause.OutOfMemory → steps.put (frame_of self.old) (view value) reader.old ≡ None) }
+        ensures put { OnOk result
+            (steps.put (frame_of self.old) (view value) reader.old
+            ≡ Some (frame_of self.new, reader.new)) }
+        ensures refused { IfErr result
+            (λ e. e ≢ Cause.OutOfMemory →
+            steps.put (frame_of self.old) (view value) reader.old ≡ None) }
         ensures no_more { length reader.new ≤ length reader.old }
     {
         match self {
@@ -114,7 +121,8 @@ impl Inside {
 
     /// Its value, where its end is read.
     pub(crate) fn into_value(self) -> Result<Value, Cause>
-        ensures value { MatchResult result (λ v. steps.value_of (frame_of self) ≡ Some (view v)) (λ _. steps.value_of (frame_of self) ≡ None) }
+        ensures value { MatchResult result (λ v. steps.value_of (frame_of self) ≡ Some (view v))
+            (λ _. steps.value_of (frame_of self) ≡ None) }
     {
         match self {
             Inside::Struct { members, .. } => Ok(Value::Struct(members)),
@@ -135,7 +143,8 @@ impl Inside {
 
     /// What its last property has in place of the type that belongs under the key, where it is an object that is read strictly.
     pub(crate) fn misfit(&self, strictness: Strictness) -> Option<Misfit>
-        ensures { MatchOption result (AdmitsLast strictness (frame_of self.now)) (λ _. ¬ (AdmitsLast strictness (frame_of self.now))) }
+        ensures { MatchOption result (AdmitsLast strictness (frame_of self.now))
+            (λ _. ¬ (AdmitsLast strictness (frame_of self.now))) }
     {
         if strictness == Strictness::Plain {
             return None;
@@ -174,7 +183,8 @@ fn element(ids: Table, values: &ValueArray) -> Expected
 
 /// Takes the brace behind the end of a value, where there is one.
 fn close(reader: &mut Reader<'_>, braced: bool) -> Option<()>
-    ensures taken { MatchOption result (grammar.close braced reader.old ≡ None) (λ _. grammar.close braced reader.old ≡ Some reader.new) }
+    ensures taken { MatchOption result (grammar.close braced reader.old ≡ None)
+        (λ _. grammar.close braced reader.old ≡ Some reader.new) }
     ensures no_more { length reader.new ≤ length reader.old }
 {
     if braced {
@@ -189,8 +199,13 @@ fn next_item<'a>(
     braced: bool,
     expected: Expected,
 ) -> Result<Next<'a>, Cause>
-    ensures next { IfOk result (λ n. (f : Frame) → IsListed f braced expected → steps.next_item f reader.old (after_end_array reader.old) ≡ Some (next_of f n, reader.new)) }
-    ensures refused { OnErr result ((f : Frame) → IsListed f braced expected → steps.next_item f reader.old (after_end_array reader.old) ≡ None) }
+    ensures next { IfOk result
+        (λ n. (f : Frame) → IsListed f braced expected →
+        steps.next_item f reader.old (after_end_array reader.old)
+        ≡ Some (next_of f n, reader.new)) }
+    ensures refused { OnErr result
+        ((f : Frame) → IsListed f braced expected →
+        steps.next_item f reader.old (after_end_array reader.old) ≡ None) }
     ensures fewer { OnOk result (length reader.new < length reader.old) }
 {
     let Some(found) = item(reader) else {
@@ -208,9 +223,14 @@ fn next_item<'a>(
 impl OpenObject {
     /// Reads the key and flags of the next property, and the first token of its value; or the braces behind the last.
     fn next_property<'a>(&mut self, reader: &mut Reader<'a>) -> Result<Next<'a>, Cause>
-        ensures next { IfOk result (λ n. steps.after_key_read self.old.type_ self.old.id (property_views self.old.properties.items) (read_key reader.old) ≡ Some (next_of (frame_of (inside.Object self.new)) n, reader.new)) }
+        ensures next { IfOk result
+            (λ n. steps.after_key_read self.old.type_ self.old.id
+            (property_views self.old.properties.items) (read_key reader.old)
+            ≡ Some (next_of (frame_of (inside.Object self.new)) n, reader.new)) }
         ensures kept { IfOk result (λ n. KeepsAtEnd n (inside.Object self.old) (inside.Object self.new)) }
-        ensures refused { OnErr result (steps.after_key_read self.old.type_ self.old.id (property_views self.old.properties.items) (read_key reader.old) ≡ None) }
+        ensures refused { OnErr result
+            (steps.after_key_read self.old.type_ self.old.id
+            (property_views self.old.properties.items) (read_key reader.old) ≡ None) }
         ensures fewer { OnOk result (length reader.new < length reader.old) }
     {
         let Some(found) = next_key(reader) else {
@@ -234,7 +254,9 @@ impl OpenObject {
 
     /// What the last property has in place of the type that belongs under its key.
     fn misfit(&self) -> Option<Misfit>
-        ensures { MatchOption result (last_fits self.now.type_ (property_views self.now.properties.items) ≡ true) (λ _. last_fits self.now.type_ (property_views self.now.properties.items) ≡ false) }
+        ensures { MatchOption result
+            (last_fits self.now.type_ (property_views self.now.properties.items) ≡ true)
+            (λ _. last_fits self.now.type_ (property_views self.now.properties.items) ≡ false) }
     {
         match self.properties.last() {
             Some(property) => misfit_of(self.type_, property),
@@ -243,10 +265,17 @@ impl OpenObject {
     }
 
     /// Puts the value of the property whose key and flags are read behind the others.
+    #[inline(always)]
     fn put(&mut self, value: Value, reader: &mut Reader<'_>) -> Result<(), Cause>
         ensures closed { OnOk result (grammar.close self.old.braced reader.old ≡ Some reader.new) }
-        ensures put { OnOk result (property_views self.new.properties.items ≡ join_properties (property_views self.old.properties.items) (property self.old.key self.old.flags.0 (view value) no_properties)) }
-        ensures kept { OnOk result ((self.new.type_ ≡ self.old.type_) × (self.new.id ≡ self.old.id) × (self.new.key ≡ self.old.key) × (self.new.flags.0 ≡ self.old.flags.0) × (self.new.braced ≡ self.old.braced)) }
+        ensures put { OnOk result
+            (property_views self.new.properties.items
+            ≡ join_properties (property_views self.old.properties.items)
+            (property self.old.key self.old.flags.0 (view value) no_properties)) }
+        ensures kept { OnOk result
+            ((self.new.type_ ≡ self.old.type_) × (self.new.id ≡ self.old.id)
+            × (self.new.key ≡ self.old.key) × (self.new.flags.0 ≡ self.old.flags.0)
+            × (self.new.braced ≡ self.old.braced)) }
         ensures refused { IfErr result (λ e. e ≢ Cause.OutOfMemory → grammar.close self.old.braced reader.old ≡ None) }
         ensures no_more { length reader.new ≤ length reader.old }
     {
@@ -274,7 +303,9 @@ impl OpenObject {
 
 /// The number of a key, by its digits or by its name, and what is expected of the value under it.
 fn key_at(keys: Table, name: &str) -> Option<(u32, Expected)>
-    ensures { MatchOption result (grammar.key_number keys name.now ≡ None) (λ key. (grammar.key_number keys name.now ≡ Some key.0) × (key.1 ≡ spec.expected_under keys key.0)) }
+    ensures { MatchOption result (grammar.key_number keys name.now ≡ None)
+        (λ key. (grammar.key_number keys name.now ≡ Some key.0)
+        × (key.1 ≡ spec.expected_under keys key.0)) }
 {
     match number_of_digits(name) {
         Some(number) => Some((number, expected_under(keys, number))),
@@ -294,7 +325,9 @@ fn is_flags(token: Token<'_>) -> bool
 
 /// The flags of a property, whether a brace follows its value, and the first token of that.
 fn property_at<'a>(reader: &mut Reader<'a>) -> Result<(u32, bool, Token<'a>), Cause>
-    ensures taken { MatchResult result (λ p. grammar.property_at reader.old ≡ Some ((p.0, (p.1, token_of p.2)), reader.new)) (λ _. grammar.property_at reader.old ≡ None) }
+    ensures taken { MatchResult result
+        (λ p. grammar.property_at reader.old ≡ Some ((p.0, (p.1, token_of p.2)), reader.new))
+        (λ _. grammar.property_at reader.old ≡ None) }
     ensures no_more { length reader.new ≤ length reader.old }
 {
     let Some(first) = head(reader) else {
@@ -314,8 +347,11 @@ fn property_at<'a>(reader: &mut Reader<'a>) -> Result<(u32, bool, Token<'a>), Ca
 }
 
 /// Puts a member behind the others.
+#[inline(always)]
 fn put_member(members: &mut Vec<Value>, value: Value) -> Result<(), Cause>
-    ensures ok { OnOk result (views members.new.items ≡ join_members (views members.old.items) (member (view value) no_trees)) }
+    ensures ok { OnOk result
+        (views members.new.items
+        ≡ join_members (views members.old.items) (member (view value) no_trees)) }
     ensures memory { IfErr result (λ e. e ≡ Cause.OutOfMemory) }
 {
     let Ok(()) = members.reserve(1) else {
@@ -327,10 +363,14 @@ fn put_member(members: &mut Vec<Value>, value: Value) -> Result<(), Cause>
 }
 
 /// Puts a value of fixed size behind the others, where it is of their type.
+#[inline(always)]
 fn put_value(values: &mut ValueArray, value: Value) -> Result<(), Cause>
-    ensures put { OnOk result (option_map (λ x. items_in values.old ++ x ∷ []) (steps.element_of (kind_in values.old) (view value)) ≡ Some (items_in values.new)) }
+    ensures put { OnOk result
+        (option_map (λ x. items_in values.old ++ x ∷ [])
+        (steps.element_of (kind_in values.old) (view value)) ≡ Some (items_in values.new)) }
     ensures kind { OnOk result (kind_in values.new ≡ kind_in values.old) }
-    ensures refused { IfErr result (λ e. e ≢ Cause.OutOfMemory → steps.element_of (kind_in values.old) (view value) ≡ None) }
+    ensures refused { IfErr result
+        (λ e. e ≢ Cause.OutOfMemory → steps.element_of (kind_in values.old) (view value) ≡ None) }
 {
     match element_of(&value) {
         Some(element) => put_element(values, element),

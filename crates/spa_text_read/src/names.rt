@@ -17,7 +17,9 @@ pub(crate) fn number_of(table: Table, name: &str) -> Option<u32>
 /// The number of a key by its name, and what is expected of the value under it.
 #[tactic(auto, unfolding(crate::specs::Names::expected_under, crate::specs::Names::number_of))]
 pub(crate) fn key_named(keys: Table, name: &str) -> Option<(u32, Expected)>
-    ensures { MatchOption result (spec.number_of keys name.now ≡ None) (λ key. (spec.number_of keys name.now ≡ Some key.0) × (key.1 ≡ spec.expected_under keys key.0)) }
+    ensures { MatchOption result (spec.number_of keys name.now ≡ None)
+        (λ key. (spec.number_of keys name.now ≡ Some key.0)
+        × (key.1 ≡ spec.expected_under keys key.0)) }
 {
     spa_names::key_named(keys, name)
 }

@@ -31,7 +31,10 @@ impl Nest {
     #[tactic(auto, using(crate::proofs::Nesting::step_not_next))]
     pub(crate) fn step(&mut self, alloc: Global, reader: &mut Reader<'_>) -> Result<bool, Cause>
         ensures taken { IfOk result (λ goes_on. Steps goes_on self.old reader.old self.new reader.new) }
-        ensures refused { IfErr result (λ e. e ≢ Cause.OutOfMemory → steps.step (frame_of self.old.inner) (stack_of self.old.outer.items) reader.old ≡ steps.refused) }
+        ensures refused { IfErr result
+            (λ e. e ≢ Cause.OutOfMemory →
+            steps.step (frame_of self.old.inner) (stack_of self.old.outer.items) reader.old
+            ≡ steps.refused) }
         ensures fewer { OnOk result (length reader.new < length reader.old) }
     {
         match self.inner.next(reader) {
@@ -49,8 +52,13 @@ impl Nest {
         head: Token<'_>,
         expected: Expected,
     ) -> Result<bool, Cause>
-        ensures taken { IfOk result (λ goes_on. Begins goes_on self.old expected (token_of head.entry) reader.old self.new reader.new) }
-        ensures refused { IfErr result (λ e. e ≢ Cause.OutOfMemory → steps.after_opening (frame_of self.old.inner ∷ stack_of self.old.outer.items) (opens expected (token_of head.entry) reader.old) ≡ steps.refused) }
+        ensures taken { IfOk result
+            (λ goes_on. Begins goes_on self.old expected (token_of head.entry) reader.old
+            self.new reader.new) }
+        ensures refused { IfErr result
+            (λ e. e ≢ Cause.OutOfMemory →
+            steps.after_opening (frame_of self.old.inner ∷ stack_of self.old.outer.items)
+            (opens expected (token_of head.entry) reader.old) ≡ steps.refused) }
         ensures no_more { length reader.new ≤ length reader.old }
     {
         match open(alloc, reader, head, expected) {
@@ -69,7 +77,9 @@ impl Nest {
     /// Goes into the one that is begun.
     fn push(&mut self, begun: Inside) -> Result<(), Cause>
         ensures inner { OnOk result (self.new.inner ≡ begun) }
-        ensures outer { OnOk result (stack_of self.new.outer.items ≡ frame_of self.old.inner ∷ stack_of self.old.outer.items) }
+        ensures outer { OnOk result
+            (stack_of self.new.outer.items
+            ≡ frame_of self.old.inner ∷ stack_of self.old.outer.items) }
         ensures memory { IfErr result (λ e. e ≡ Cause.OutOfMemory) }
     {
         let Ok(()) = self.outer.reserve(1) else {
@@ -84,7 +94,10 @@ impl Nest {
     /// Puts the innermost, which is read, into the one around it. Whether there is one.
     fn end(&mut self, reader: &mut Reader<'_>) -> Result<bool, Cause>
         ensures ended { IfOk result (λ within. EndsWithin within self.old reader.old self.new reader.new) }
-        ensures refused { IfErr result (λ e. e ≢ Cause.OutOfMemory → steps.give_ended (steps.value_of (frame_of self.old.inner)) (stack_of self.old.outer.items) reader.old ≡ steps.refused) }
+        ensures refused { IfErr result
+            (λ e. e ≢ Cause.OutOfMemory →
+            steps.give_ended (steps.value_of (frame_of self.old.inner))
+            (stack_of self.old.outer.items) reader.old ≡ steps.refused) }
         ensures no_more { length reader.new ≤ length reader.old }
     {
         let Some(around) = self.outer.pop() else {

@@ -7,7 +7,7 @@ use hex::FromHex;
 /// The number that the text is.
 #[tactic(auto, using(crate::proofs::Digits::unsigned_some, crate::proofs::Digits::unsigned_none))]
 pub fn unsigned(text: &str) -> Option<u32>
-    ensures { result ≡ spec.unsigned text.now }
+    ensures { result ≡ spec.unsigned_number text.now }
 {
     match fast_float::parse_u64(text.as_bytes()) {
         Ok(number) => {
@@ -24,7 +24,7 @@ pub fn unsigned(text: &str) -> Option<u32>
 /// The number that the name of a key is. Few are: behind the digits of ASCII no number begins.
 #[tactic(auto, using(crate::proofs::Digits::no_number))]
 pub(crate) fn number_of_digits(name: &str) -> Option<u32>
-    ensures { result ≡ spec.unsigned name.now }
+    ensures { result ≡ spec.unsigned_number name.now }
 {
     match name.as_bytes() {
         [first, ..] if *first > b'9' => None,
@@ -35,7 +35,7 @@ pub(crate) fn number_of_digits(name: &str) -> Option<u32>
 /// The signed number of 32 bits that the text is.
 #[tactic(auto, using(crate::proofs::Digits::signed_some, crate::proofs::Digits::signed_none))]
 pub(crate) fn signed(text: &str) -> Option<i32>
-    ensures { result ≡ spec.signed 31 text.now }
+    ensures { result ≡ spec.signed_number 31 text.now }
 {
     match fast_float::parse_i64(text.as_bytes()) {
         Ok(number) => i32::try_from(number).ok(),
@@ -46,7 +46,7 @@ pub(crate) fn signed(text: &str) -> Option<i32>
 /// The signed number of 64 bits that the text is.
 #[tactic(auto, using(crate::proofs::Digits::signed_some, crate::proofs::Digits::signed_none))]
 pub(crate) fn signed_wide(text: &str) -> Option<i64>
-    ensures { result ≡ spec.signed 63 text.now }
+    ensures { result ≡ spec.signed_number 63 text.now }
 {
     match fast_float::parse_i64(text.as_bytes()) {
         Ok(number) => Some(number),

@@ -29,6 +29,7 @@ use spa_value::{PropertyFlags, Value, ValueArray, discard};
 use std::alloc::Global;
 
 /// Reads what begins with this token: a whole value, or a value with others in it up to these.
+#[inline(always)]
 #[tactic(auto, unfolding(crate::specs::Grammar::opens))]
 pub(crate) fn open(
     alloc: Global,
@@ -36,9 +37,13 @@ pub(crate) fn open(
     head: Token<'_>,
     expected: Expected,
 ) -> Result<Opened, Cause>
-    ensures opened { IfOk result (λ o. grammar.opens expected (token_of head.entry) reader.old ≡ Some (opened_of o, reader.new)) }
+    ensures opened { IfOk result
+        (λ o. grammar.opens expected (token_of head.entry) reader.old
+        ≡ Some (opened_of o, reader.new)) }
     ensures proper { IfOk result (λ o. IsOpened o) }
-    ensures refused { IfErr result (λ e. e ≢ Cause.OutOfMemory → grammar.opens expected (token_of head.entry) reader.old ≡ None) }
+    ensures refused { IfErr result
+        (λ e. e ≢ Cause.OutOfMemory →
+        grammar.opens expected (token_of head.entry) reader.old ≡ None) }
     ensures no_more { length reader.new ≤ length reader.old }
 {
     match head {
@@ -188,7 +193,8 @@ fn scalar_at(reader: &mut Reader<'_>, scalar: Scalar, ids: Table) -> Result<Valu
 
 /// Takes a text.
 fn text_at(alloc: Global, reader: &mut Reader<'_>) -> Result<Value, Cause>
-    ensures value { IfOk result (λ v. says (λ s. a_text s) (any_text reader.old) ≡ Some (leaf_of (view v), reader.new)) }
+    ensures value { IfOk result
+        (λ v. says (λ s. a_text s) (any_text reader.old) ≡ Some (leaf_of (view v), reader.new)) }
     ensures leaf { IfOk result (λ v. tree (leaf_of (view v)) ≡ view v) }
     ensures refused { IfErr result (λ e. e ≢ Cause.OutOfMemory → any_text reader.old ≡ None) }
     ensures no_more { length reader.new ≤ length reader.old }
@@ -204,7 +210,9 @@ fn text_at(alloc: Global, reader: &mut Reader<'_>) -> Result<Value, Cause>
 
 /// Takes the brace behind a value without members.
 fn end_leaf(value: Value, reader: &mut Reader<'_>) -> Result<Opened, Cause>
-    ensures ended { MatchResult result (λ o. (o ≡ Leaf value) × (after_end_object reader.old ≡ Some reader.new)) (λ e. (e ≡ Cause.Token) × (after_end_object reader.old ≡ None)) }
+    ensures ended { MatchResult result
+        (λ o. (o ≡ Leaf value) × (after_end_object reader.old ≡ Some reader.new))
+        (λ e. (e ≡ Cause.Token) × (after_end_object reader.old ≡ None)) }
     ensures no_more { length reader.new ≤ length reader.old }
 {
     match end_object(reader) {
@@ -234,7 +242,9 @@ fn hex_bytes(alloc: Global, reader: &mut Reader<'_>) -> Result<Vec<u8>, Cause>
 
 /// Takes two numbers, the second under this key.
 fn two_words(reader: &mut Reader<'_>, name: &str) -> Result<(u32, u32), Cause>
-    ensures taken { MatchResult result (λ p. grammar.two_words name.now reader.old ≡ Some (p, reader.new)) (λ _. grammar.two_words name.now reader.old ≡ None) }
+    ensures taken { MatchResult result
+        (λ p. grammar.two_words name.now reader.old ≡ Some (p, reader.new))
+        (λ _. grammar.two_words name.now reader.old ≡ None) }
     ensures no_more { length reader.new ≤ length reader.old }
 {
     let Some(first) = word(reader) else {
@@ -251,7 +261,8 @@ fn two_words(reader: &mut Reader<'_>, name: &str) -> Result<(u32, u32), Cause>
 
 /// Takes a type and an address.
 fn pointer_at(reader: &mut Reader<'_>) -> Result<(u32, u64), Cause>
-    ensures taken { MatchResult result (λ p. grammar.pointer_at reader.old ≡ Some (p, reader.new)) (λ _. grammar.pointer_at reader.old ≡ None) }
+    ensures taken { MatchResult result (λ p. grammar.pointer_at reader.old ≡ Some (p, reader.new))
+        (λ _. grammar.pointer_at reader.old ≡ None) }
     ensures no_more { length reader.new ≤ length reader.old }
 {
     let type_ = name_or_word(reader, Table::Types)?;
@@ -287,7 +298,9 @@ fn no_elements(alloc: Global, type_: u32) -> Option<ValueArray>
 
 /// Begins an array, behind its first key.
 fn array_at(alloc: Global, reader: &mut Reader<'_>, expected: Expected) -> Result<Inside, Cause>
-    ensures begun { MatchResult result (λ i. grammar.array_at expected reader.old ≡ Some (opening_of i, reader.new)) (λ _. grammar.array_at expected reader.old ≡ None) }
+    ensures begun { MatchResult result
+        (λ i. grammar.array_at expected reader.old ≡ Some (opening_of i, reader.new))
+        (λ _. grammar.array_at expected reader.old ≡ None) }
     ensures fresh { IfOk result (λ i. IsFresh i) }
     ensures no_more { length reader.new ≤ length reader.old }
 {
@@ -307,7 +320,9 @@ fn array_at(alloc: Global, reader: &mut Reader<'_>, expected: Expected) -> Resul
 
 /// Begins an object, behind its first key.
 fn object_at(alloc: Global, reader: &mut Reader<'_>) -> Result<Inside, Cause>
-    ensures begun { MatchResult result (λ i. grammar.object_at reader.old ≡ Some (opening_of i, reader.new)) (λ _. grammar.object_at reader.old ≡ None) }
+    ensures begun { MatchResult result
+        (λ i. grammar.object_at reader.old ≡ Some (opening_of i, reader.new))
+        (λ _. grammar.object_at reader.old ≡ None) }
     ensures fresh { IfOk result (λ i. IsFresh i) }
     ensures no_more { length reader.new ≤ length reader.old }
 {
@@ -344,7 +359,8 @@ fn shape_named(name: &str) -> Option<Shape>
 
 /// The flags of a choice, where this is their key, and the key behind them.
 fn choice_flags<'a>(reader: &mut Reader<'a>, name: &'a str) -> Option<(u32, &'a str)>
-    ensures taken { MatchOption result (grammar.choice_flags (name.now, reader.old) ≡ None) (λ p. grammar.choice_flags (name.now, reader.old) ≡ Some (p.0, (p.1.now, reader.new))) }
+    ensures taken { MatchOption result (grammar.choice_flags (name.now, reader.old) ≡ None)
+        (λ p. grammar.choice_flags (name.now, reader.old) ≡ Some (p.0, (p.1.now, reader.new))) }
     ensures no_more { length reader.new ≤ length reader.old }
 {
     if name != "flags" {
@@ -365,7 +381,10 @@ fn choice_type<'a>(
     name: &'a str,
     expected: u32,
 ) -> Result<(u32, &'a str), Cause>
-    ensures taken { MatchResult result (λ p. grammar.choice_type expected (name.now, reader.old) ≡ Some (p.0, (p.1.now, reader.new))) (λ _. grammar.choice_type expected (name.now, reader.old) ≡ None) }
+    ensures taken { MatchResult result
+        (λ p. grammar.choice_type expected (name.now, reader.old)
+        ≡ Some (p.0, (p.1.now, reader.new)))
+        (λ _. grammar.choice_type expected (name.now, reader.old) ≡ None) }
     ensures no_more { length reader.new ≤ length reader.old }
 {
     if name != "of" {
@@ -380,7 +399,9 @@ fn choice_type<'a>(
 
 /// Begins a choice, behind its first key.
 fn choice_at(alloc: Global, reader: &mut Reader<'_>, expected: Expected) -> Result<Inside, Cause>
-    ensures begun { MatchResult result (λ i. grammar.choice_at expected reader.old ≡ Some (opening_of i, reader.new)) (λ _. grammar.choice_at expected reader.old ≡ None) }
+    ensures begun { MatchResult result
+        (λ i. grammar.choice_at expected reader.old ≡ Some (opening_of i, reader.new))
+        (λ _. grammar.choice_at expected reader.old ≡ None) }
     ensures fresh { IfOk result (λ i. IsFresh i) }
     ensures no_more { length reader.new ≤ length reader.old }
 {

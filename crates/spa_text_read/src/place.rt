@@ -99,7 +99,7 @@ fn name<'a>(trail: &mut Vec<Open<'a>>, key: &'a str) -> Result<(), AllocError>
 }
 
 /// The path through these, the outermost first.
-#[tactic(auto, using(crate::proofs::Trailing::nothing_told, crate::proofs::Trailing::step_told, crate::proofs::Trailing::rest_untold, crate::proofs::Trailing::all_told))]
+#[tactic(auto, using(crate::proofs::Trailing::no_step_taken, crate::proofs::Trailing::step_taken, crate::proofs::Trailing::path_cut, crate::proofs::Trailing::all_steps_taken))]
 fn path_through(alloc: Global, trail: &[Open<'_>]) -> Result<String, AllocError>
     ensures { IfOk result (λ path. string_bytes path ≡ path_behind [] (map open_of trail.now)) }
 {

@@ -42,9 +42,12 @@ impl TextReader {
     #[tactic(auto, using(crate::proofs::Strictly::plainly_refused))]
     pub fn read(&mut self, text: &str) -> Result<Value, TextError>
         ensures value { IfOk result (λ v. ReadsAs nothing (view v) (tokens text.now) []) }
-        ensures refused { IfErr result (λ e. e.cause ≢ Cause.OutOfMemory → (v : Tree) → ¬ (ReadsAs nothing v (tokens text.now) [])) }
+        ensures refused { IfErr result
+            (λ e. e.cause ≢ Cause.OutOfMemory → (v : Tree) →
+            ¬ (ReadsAs nothing v (tokens text.now) [])) }
         ensures no_path { IfErr result (λ e. e.cause ≡ Cause.OutOfMemory → string_bytes e.path ≡ []) }
-        ensures path { IfErr result (λ e. e.cause ≢ Cause.OutOfMemory → IsPlace (tokens text.now) (string_bytes e.path)) }
+        ensures path { IfErr result
+            (λ e. e.cause ≢ Cause.OutOfMemory → IsPlace (tokens text.now) (string_bytes e.path)) }
     {
         self.read_with(text, Strictness::Plain)
     }
@@ -54,9 +57,12 @@ impl TextReader {
     pub fn read_with(&mut self, text: &str, strictness: Strictness) -> Result<Value, TextError>
         ensures value { IfOk result (λ v. ReadsAs nothing (view v) (tokens text.now) []) }
         ensures admitted { IfOk result (λ v. Admits strictness (view v)) }
-        ensures refused { IfErr result (λ e. e.cause ≢ Cause.OutOfMemory → (v : Tree) → ReadsAs nothing v (tokens text.now) [] → ¬ (Admits strictness v)) }
+        ensures refused { IfErr result
+            (λ e. e.cause ≢ Cause.OutOfMemory → (v : Tree) →
+            ReadsAs nothing v (tokens text.now) [] → ¬ (Admits strictness v)) }
         ensures no_path { IfErr result (λ e. e.cause ≡ Cause.OutOfMemory → string_bytes e.path ≡ []) }
-        ensures path { IfErr result (λ e. e.cause ≢ Cause.OutOfMemory → IsPlace (tokens text.now) (string_bytes e.path)) }
+        ensures path { IfErr result
+            (λ e. e.cause ≢ Cause.OutOfMemory → IsPlace (tokens text.now) (string_bytes e.path)) }
     {
         let Ok(mut reader) = Reader::new(text, &mut self.scratch) else {
             return Err(error_at(NO_MEMORY, text, 0, String::new(self.alloc)));
@@ -97,7 +103,9 @@ impl TextReader {
 /// `discard`.
 pub fn read(alloc: Global, text: &str) -> Result<Value, TextError>
     ensures value { IfOk result (λ v. ReadsAs nothing (view v) (tokens text.now) []) }
-    ensures refused { IfErr result (λ e. e.cause ≢ Cause.OutOfMemory → (v : Tree) → ¬ (ReadsAs nothing v (tokens text.now) [])) }
+    ensures refused { IfErr result
+        (λ e. e.cause ≢ Cause.OutOfMemory → (v : Tree) →
+        ¬ (ReadsAs nothing v (tokens text.now) [])) }
     ensures no_path { IfErr result (λ e. e.cause ≡ Cause.OutOfMemory → string_bytes e.path ≡ []) }
     ensures path { IfErr result (λ e. e.cause ≢ Cause.OutOfMemory → IsPlace (tokens text.now) (string_bytes e.path)) }
 {
@@ -164,7 +172,9 @@ fn error_at(why: Why, text: &str, offset: usize, path: String) -> TextError
 fn read_whole(alloc: Global, reader: &mut Reader<'_>, strictness: Strictness) -> Result<Value, Why>
     ensures value { IfOk result (λ v. ReadsAs nothing (view v) reader.old []) }
     ensures admitted { IfOk result (λ v. Admits strictness (view v)) }
-    ensures refused { IfErr result (λ e. e.cause ≢ Cause.OutOfMemory → (v : Tree) → ReadsAs nothing v reader.old [] → ¬ (Admits strictness v)) }
+    ensures refused { IfErr result
+        (λ e. e.cause ≢ Cause.OutOfMemory → (v : Tree) → ReadsAs nothing v reader.old [] →
+        ¬ (Admits strictness v)) }
 {
     match read_value(alloc, reader, strictness) {
         Ok(value) => match reader.next() {

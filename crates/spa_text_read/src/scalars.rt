@@ -15,6 +15,7 @@ use spa_utils::{Fd, Float32, Float64, Id};
 use spa_value::Value;
 
 /// What one token says of a number.
+#[inline(always)]
 pub(crate) fn scalar_of(scalar: Scalar, table: Table, token: Token<'_>) -> Option<Value>
     ensures said { option_map number_in result ≡ grammar.scalar_of scalar table (token_of token.entry) }
     ensures number { IfSome result (λ v. IsNumber v) }
@@ -38,6 +39,7 @@ pub(crate) fn scalar_of(scalar: Scalar, table: Table, token: Token<'_>) -> Optio
     }
 }
 
+#[inline(always)]
 fn int_of(token: Token<'_>) -> Option<Value>
     ensures said { option_map number_in result ≡ grammar.int_of (token_of token.entry) }
     ensures number { IfSome result (λ v. IsNumber v) }
@@ -51,6 +53,7 @@ fn int_of(token: Token<'_>) -> Option<Value>
     }
 }
 
+#[inline(always)]
 fn wide_of(token: Token<'_>) -> Option<i64>
     ensures { result ≡ grammar.wide_of (token_of token.entry) }
 {
@@ -60,6 +63,7 @@ fn wide_of(token: Token<'_>) -> Option<i64>
     signed_wide(text)
 }
 
+#[inline(always)]
 fn float_of(token: Token<'_>) -> Option<Value>
     ensures said { option_map number_in result ≡ grammar.float_of (token_of token.entry) }
     ensures number { IfSome result (λ v. IsNumber v) }
@@ -75,6 +79,7 @@ fn float_of(token: Token<'_>) -> Option<Value>
     }
 }
 
+#[inline(always)]
 fn double_of(token: Token<'_>) -> Option<Value>
     ensures said { option_map number_in result ≡ grammar.double_of (token_of token.entry) }
     ensures number { IfSome result (λ v. IsNumber v) }

@@ -13,7 +13,8 @@ use spa_names::Table;
 
 /// Takes the brace that closes an object.
 pub(crate) fn end_object(reader: &mut Reader<'_>) -> Option<()>
-    ensures taken { MatchOption result (spec.after_end_object reader.old ≡ None) (λ _. spec.after_end_object reader.old ≡ Some reader.new) }
+    ensures taken { MatchOption result (spec.after_end_object reader.old ≡ None)
+        (λ _. spec.after_end_object reader.old ≡ Some reader.new) }
     ensures no_more { length reader.new ≤ length reader.old }
 {
     match reader.next() {
@@ -24,7 +25,8 @@ pub(crate) fn end_object(reader: &mut Reader<'_>) -> Option<()>
 
 /// Takes the brace that opens an object.
 pub(crate) fn begin_object(reader: &mut Reader<'_>) -> Option<()>
-    ensures taken { MatchOption result (spec.after_begin_object reader.old ≡ None) (λ _. spec.after_begin_object reader.old ≡ Some reader.new) }
+    ensures taken { MatchOption result (spec.after_begin_object reader.old ≡ None)
+        (λ _. spec.after_begin_object reader.old ≡ Some reader.new) }
     ensures no_more { length reader.new ≤ length reader.old }
 {
     match reader.next() {
@@ -35,7 +37,8 @@ pub(crate) fn begin_object(reader: &mut Reader<'_>) -> Option<()>
 
 /// Takes the bracket that opens an array.
 pub(crate) fn begin_array(reader: &mut Reader<'_>) -> Option<()>
-    ensures taken { MatchOption result (spec.after_begin_array reader.old ≡ None) (λ _. spec.after_begin_array reader.old ≡ Some reader.new) }
+    ensures taken { MatchOption result (spec.after_begin_array reader.old ≡ None)
+        (λ _. spec.after_begin_array reader.old ≡ Some reader.new) }
     ensures no_more { length reader.new ≤ length reader.old }
 {
     match reader.next() {
@@ -46,7 +49,8 @@ pub(crate) fn begin_array(reader: &mut Reader<'_>) -> Option<()>
 
 /// Takes a key.
 pub(crate) fn any_key<'a>(reader: &mut Reader<'a>) -> Option<&'a str>
-    ensures taken { MatchOption result (spec.any_key reader.old ≡ None) (λ s. spec.any_key reader.old ≡ Some (s.now, reader.new)) }
+    ensures taken { MatchOption result (spec.any_key reader.old ≡ None)
+        (λ s. spec.any_key reader.old ≡ Some (s.now, reader.new)) }
     ensures no_more { length reader.new ≤ length reader.old }
 {
     match reader.next() {
@@ -57,7 +61,8 @@ pub(crate) fn any_key<'a>(reader: &mut Reader<'a>) -> Option<&'a str>
 
 /// Takes the key of this name.
 pub(crate) fn key(reader: &mut Reader<'_>, name: &str) -> Result<(), Cause>
-    ensures taken { MatchResult result (λ _. spec.after_key name.now reader.old ≡ Some reader.new) (λ _. spec.after_key name.now reader.old ≡ None) }
+    ensures taken { MatchResult result (λ _. spec.after_key name.now reader.old ≡ Some reader.new)
+        (λ _. spec.after_key name.now reader.old ≡ None) }
     ensures no_more { length reader.new ≤ length reader.old }
 {
     match reader.next() {
@@ -74,7 +79,8 @@ pub(crate) fn key(reader: &mut Reader<'_>, name: &str) -> Result<(), Cause>
 
 /// Takes a text.
 pub(crate) fn any_text<'a>(reader: &mut Reader<'a>) -> Option<&'a str>
-    ensures taken { MatchOption result (spec.any_text reader.old ≡ None) (λ s. spec.any_text reader.old ≡ Some (s.now, reader.new)) }
+    ensures taken { MatchOption result (spec.any_text reader.old ≡ None)
+        (λ s. spec.any_text reader.old ≡ Some (s.now, reader.new)) }
     ensures no_more { length reader.new ≤ length reader.old }
 {
     match reader.next() {
@@ -85,7 +91,8 @@ pub(crate) fn any_text<'a>(reader: &mut Reader<'a>) -> Option<&'a str>
 
 /// Takes any token.
 pub(crate) fn any_token<'a>(reader: &mut Reader<'a>) -> Option<Token<'a>>
-    ensures taken { MatchOption result (spec.any_token reader.old ≡ None) (λ t. spec.any_token reader.old ≡ Some (token_of t, reader.new)) }
+    ensures taken { MatchOption result (spec.any_token reader.old ≡ None)
+        (λ t. spec.any_token reader.old ≡ Some (token_of t, reader.new)) }
     ensures no_more { length reader.new ≤ length reader.old }
 {
     reader.next()
@@ -93,7 +100,8 @@ pub(crate) fn any_token<'a>(reader: &mut Reader<'a>) -> Option<Token<'a>>
 
 /// Takes a number of 32 bits.
 pub(crate) fn word(reader: &mut Reader<'_>) -> Option<u32>
-    ensures taken { MatchOption result (spec.word reader.old ≡ None) (λ n. spec.word reader.old ≡ Some (n, reader.new)) }
+    ensures taken { MatchOption result (spec.word reader.old ≡ None)
+        (λ n. spec.word reader.old ≡ Some (n, reader.new)) }
     ensures no_more { length reader.new ≤ length reader.old }
 {
     match reader.next() {
@@ -115,7 +123,9 @@ pub(crate) fn number_by_name(table: Table, token: Token<'_>) -> Option<u32>
 
 /// Takes a number of 32 bits, by its name in the table or by its digits.
 pub(crate) fn name_or_word(reader: &mut Reader<'_>, table: Table) -> Result<u32, Cause>
-    ensures taken { MatchResult result (λ n. spec.name_or_word table reader.old ≡ Some (n, reader.new)) (λ _. spec.name_or_word table reader.old ≡ None) }
+    ensures taken { MatchResult result
+        (λ n. spec.name_or_word table reader.old ≡ Some (n, reader.new))
+        (λ _. spec.name_or_word table reader.old ≡ None) }
     ensures no_more { length reader.new ≤ length reader.old }
 {
     let Some(token) = reader.next() else {
@@ -138,7 +148,8 @@ pub(crate) fn no_number(token: Token<'_>) -> Cause {
 
 /// Takes the first token of a value; of an object its brace and its first key, which is answered.
 pub(crate) fn head<'a>(reader: &mut Reader<'a>) -> Option<Token<'a>>
-    ensures taken { MatchOption result (spec.head reader.old ≡ None) (λ t. spec.head reader.old ≡ Some (token_of t, reader.new)) }
+    ensures taken { MatchOption result (spec.head reader.old ≡ None)
+        (λ t. spec.head reader.old ≡ Some (token_of t, reader.new)) }
     ensures no_more { length reader.new ≤ length reader.old }
 {
     match reader.next() {
@@ -153,7 +164,9 @@ pub(crate) fn head<'a>(reader: &mut Reader<'a>) -> Option<Token<'a>>
 
 /// Takes the bracket behind the items of an array, where it answers no token, or the first token of the next item.
 pub(crate) fn item<'a>(reader: &mut Reader<'a>) -> Option<Option<Token<'a>>>
-    ensures taken { MatchOption result ((after_end_array reader.old ≡ None) × (spec.head reader.old ≡ None)) (λ o. IsItem reader.old o reader.new) }
+    ensures taken { MatchOption result
+        ((after_end_array reader.old ≡ None) × (spec.head reader.old ≡ None))
+        (λ o. IsItem reader.old o reader.new) }
     ensures fewer { IfSome result (λ _. length reader.new < length reader.old) }
     ensures no_more { length reader.new ≤ length reader.old }
 {
@@ -170,7 +183,8 @@ pub(crate) fn item<'a>(reader: &mut Reader<'a>) -> Option<Option<Token<'a>>>
 
 /// Takes a key, or the brace that closes an object, where it answers no key.
 pub(crate) fn next_key<'a>(reader: &mut Reader<'a>) -> Option<Option<&'a str>>
-    ensures taken { MatchOption result (read_key reader.old ≡ None) (λ k. read_key reader.old ≡ Some (option_map (λ s. s.now) k, reader.new)) }
+    ensures taken { MatchOption result (read_key reader.old ≡ None)
+        (λ k. read_key reader.old ≡ Some (option_map (λ s. s.now) k, reader.new)) }
     ensures fewer { IfSome result (λ _. length reader.new < length reader.old) }
     ensures no_more { length reader.new ≤ length reader.old }
 {

@@ -1,4 +1,4 @@
-use Rattle.spa_text.proofs.Numbers.{unsigned-decimal}
+use Rattle.spa_text.proofs.Numbers.{unsigned_number-decimal}
 use Rattle.spa_text.proofs.Leaf.{on_ok, unnamed}
 use Rattle.spa_text.proofs.printed.print_name.Goals as goal
 
@@ -8,7 +8,7 @@ returns-in-None c =
     (λ e. record {
       token = _;
       appended = e;
-      said = unsigned-decimal c.args.number c.ranges.number.fits;
+      said = unsigned_number-decimal c.args.number c.ranges.number.fits;
       exact = unnamed _ _ c.args.table c.args.number c.in-None.is c.name_of.ensures.name;
     })
     c.u64.ensures.ok

@@ -221,8 +221,8 @@ eqb-same m n e = grind (arith, e)
 type_silent : (e t : ℕ) → e ≡ t → type_tokens e t ≡ []
 type_silent e t s = choose (e == t) [] (Token.key (codes "of") ∷ name_token Types t ∷ []) (eqb-same e t s)
 
-type_told : (e t : ℕ) → e ≢ t → type_tokens e t ≡ Token.key (codes "of") ∷ name_token Types t ∷ []
-type_told e t d = refuse (e == t) [] (Token.key (codes "of") ∷ name_token Types t ∷ []) (λ s. d (eqb-true e t s))
+type_tokens-named : (e t : ℕ) → e ≢ t → type_tokens e t ≡ Token.key (codes "of") ∷ name_token Types t ∷ []
+type_tokens-named e t d = refuse (e == t) [] (Token.key (codes "of") ∷ name_token Types t ∷ []) (λ s. d (eqb-true e t s))
 
 pub choice_opened : (c : Expected) (name : List ℕ) (h : Shape) (f n : ℕ) (o p q r s u w : List Token) → f < 2 ^ 32 → name ≡ shape_text h →
     p ≡ o ++ Token.begin_object ∷ Token.key (codes "choice") ∷ [] → q ≡ p ++ Token.string name ∷ [] → r ≡ q ++ flag_tokens f →
@@ -254,8 +254,8 @@ choice_opened c name h f n o p q r s u w small text e1 e2 e3 typed e5 e6 k numbe
         ap (λ x. Token.begin_object ∷ Token.key (codes "choice") ∷ Token.string x ∷ (fs ++ (ts ++ back))) text
         ∙ ap (λ l. Token.begin_object ∷ Token.key (codes "choice") ∷ Token.string (shape_text h) ∷ (fs ++ (l ++ back))) (e ∙ ap (type_tokens c.type_.0) number)
 
-    told : (x : Token) → x ≡ name_token Types n → c.type_.0 ≢ n → Token.key (codes "of") ∷ x ∷ [] ≡ type_tokens c.type_.0 n
-    told x e d = ap (λ y. Token.key (codes "of") ∷ y ∷ []) e ∙ sym (type_told c.type_.0 n d)
+    of_key : (x : Token) → x ≡ name_token Types n → c.type_.0 ≢ n → Token.key (codes "of") ∷ x ∷ [] ≡ type_tokens c.type_.0 n
+    of_key x e d = ap (λ y. Token.key (codes "of") ∷ y ∷ []) e ∙ sym (type_tokens-named c.type_.0 n d)
 
     by_type : (g : ℕ) → g < 2 ^ 32 → r ≡ q ++ flag_tokens g → PutsType c.type_.0 n r s → Opens c (a_choice h g c.ids k) o w
     by_type zero l a (inl t) = record {
@@ -268,7 +268,7 @@ choice_opened c name h f n o p q r s u w small text e1 e2 e3 typed e5 e6 k numbe
       ts = front ++ (Token.key (codes "of") ∷ t.0 ∷ back);
       appended = put [] (Token.key (codes "of") ∷ t.0 ∷ []) a t.1;
       opened = λ us. (Token.key (codes "choice"), _, refl, rw (named, t.2, kind) refl);
-      exact = said [] (Token.key (codes "of") ∷ t.0 ∷ []) (told t.0 t.3 t.4);
+      exact = said [] (Token.key (codes "of") ∷ t.0 ∷ []) (of_key t.0 t.3 t.4);
     }
     by_type (suc g) l a (inl t) = record {
       ts = front ++ (Token.key (codes "flags") ∷ Token.number (decimal (suc g)) ∷ back);
@@ -280,7 +280,7 @@ choice_opened c name h f n o p q r s u w small text e1 e2 e3 typed e5 e6 k numbe
       ts = front ++ (Token.key (codes "flags") ∷ Token.number (decimal (suc g)) ∷ Token.key (codes "of") ∷ t.0 ∷ back);
       appended = put (Token.key (codes "flags") ∷ Token.number (decimal (suc g)) ∷ []) (Token.key (codes "of") ∷ t.0 ∷ []) a t.1;
       opened = λ us. (Token.key (codes "choice"), _, refl, rw (named, unsigned_number-decimal (suc g) l, t.2, kind) refl);
-      exact = said (Token.key (codes "flags") ∷ Token.number (decimal (suc g)) ∷ []) (Token.key (codes "of") ∷ t.0 ∷ []) (told t.0 t.3 t.4);
+      exact = said (Token.key (codes "flags") ∷ Token.number (decimal (suc g)) ∷ []) (Token.key (codes "of") ∷ t.0 ∷ []) (of_key t.0 t.3 t.4);
     }
 
     by_flags : (g : ℕ) → g < 2 ^ 32 → r ≡ q ++ flag_tokens g → Opens c (a_choice h g c.ids k) o w

@@ -1,9 +1,8 @@
 //! The laws of the text, as contracts of functions.
 ghost use Rattle.std.specs.Prelude.{◌≡◌, [], IfOk};
 ghost use Rattle.std.specs.Str.{IsUtf8};
-ghost use Rattle.json.specs.Lex.{tokens};
 ghost use Rattle.spa_format.specs.Tree.{Tree};
-ghost use Rattle.spa_text_read.specs.Grammar.{ReadsAs, nothing};
+ghost use Rattle.spa_text_read.specs.Grammar.{IsTextOf};
 ghost use Rattle.spa_text.specs.Printed.{HasNoFloat};
 ghost use Rattle.spa_value.specs.View.{view};
 
@@ -48,8 +47,8 @@ pub fn print_again(alloc: Global, value: &Value) -> Result<(Vec<u8>, Vec<u8>), A
 
 /// The value of a text that is one's.
 fn read_again(alloc: Global, bytes: &[u8]) -> Result<Value, AllocError>
-    requires { IsUtf8 bytes.now × ((v : Tree) × ReadsAs nothing v (tokens bytes.now) []) }
-    ensures { (v : Tree) → ReadsAs nothing v (tokens bytes.now) [] → IfOk result (λ again. view again ≡ v) }
+    requires { IsUtf8 bytes.now × ((v : Tree) × IsTextOf v bytes.now) }
+    ensures { (v : Tree) → IsTextOf v bytes.now → IfOk result (λ again. view again ≡ v) }
 {
     reads_one_value();
     let Ok(text) = str::from_utf8(bytes) else {

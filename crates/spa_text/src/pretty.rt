@@ -3,7 +3,7 @@ ghost use Rattle.std.specs.Prelude.{◌≡◌, ◌++◌, [], List, ℕ, IfOk, On
 ghost use Rattle.std.specs.Str.{IsUtf8};
 ghost use Rattle.json.specs.Layout.{pretty};
 ghost use Rattle.json.specs.Lex.{tokens};
-ghost use Rattle.spa_text_read.specs.Grammar.{ReadsAs, nothing};
+ghost use Rattle.spa_text_read.specs.Grammar.{IsTextOf, nothing};
 ghost use Rattle.spa_text.specs.Line.{AreGood};
 ghost use Rattle.spa_text.specs.Printed.{HasNoFloat, tokens_of};
 ghost use Rattle.spa_value.specs.View.{view};
@@ -20,7 +20,7 @@ use std::alloc::{AllocError, Global};
 pub fn print_pretty(alloc: Global, value: &Value, out: &mut Vec<u8>) -> Result<(), AllocError>
     ensures printed { OnOk result
         ((text : List ℕ) × (out.new.items ≡ out.old.items ++ text) × IsUtf8 text
-        × ReadsAs nothing (view value.now) (tokens text) [] × (text ≡ pretty (tokens text))) }
+        × IsTextOf (view value.now) text × (text ≡ pretty (tokens text))) }
     ensures exact { OnOk result
         (HasNoFloat (view value.now) →
         out.new.items ≡ out.old.items ++ pretty (tokens_of nothing (view value.now))) }

@@ -3,7 +3,7 @@ ghost use Rattle.std.specs.Prelude.{◌≡◌, ◌+◌, ◌≤◌, ◌++◌, [],
 ghost use Rattle.std.specs.Str.{IsUtf8};
 ghost use Rattle.json.specs.Lex.{tokens};
 ghost use Rattle.spa_format.specs.Tree.{member_node_count, node_count, struct};
-ghost use Rattle.spa_text_read.specs.Grammar.{ReadsAs, an_object, key_number, nothing};
+ghost use Rattle.spa_text_read.specs.Grammar.{IsTextOf, an_object, key_number, nothing};
 ghost use Rattle.spa_text_read.specs.Numerals.{unsigned_number};
 ghost use Rattle.spa_text.specs.Line.{AreGood, HasNoEnd};
 ghost use Rattle.spa_text.specs.Left.{IsLess, PrintsNext, PrintsOrBegins, PrintsWhole, left_count};
@@ -72,7 +72,7 @@ impl TextPrinter {
     pub fn print(&mut self, value: &Value, out: &mut Vec<u8>) -> Result<(), AllocError>
         ensures printed { OnOk result
             ((text : List ℕ) × (out.new.items ≡ out.old.items ++ text) × IsUtf8 text
-            × ReadsAs nothing (view value.now) (tokens text) [] × HasNoEnd text) }
+            × IsTextOf (view value.now) text × HasNoEnd text) }
         ensures exact { OnOk result
             (HasNoFloat (view value.now) →
             out.new.items ≡ out.old.items ++ printed.line_of (view value.now)) }
@@ -94,7 +94,7 @@ impl TextPrinter {
 pub fn print(alloc: Global, value: &Value, out: &mut Vec<u8>) -> Result<(), AllocError>
     ensures printed { OnOk result
         ((text : List ℕ) × (out.new.items ≡ out.old.items ++ text) × IsUtf8 text
-        × ReadsAs nothing (view value.now) (tokens text) [] × HasNoEnd text) }
+        × IsTextOf (view value.now) text × HasNoEnd text) }
     ensures exact { OnOk result
         (HasNoFloat (view value.now) →
         out.new.items ≡ out.old.items ++ printed.line_of (view value.now)) }
@@ -107,7 +107,7 @@ pub fn print(alloc: Global, value: &Value, out: &mut Vec<u8>) -> Result<(), Allo
 /// The line of a value, in this buffer.
 pub(crate) fn line_of(alloc: Global, value: &Value, buffer: Vec<u8>) -> Result<Vec<u8>, AllocError>
     requires { buffer.items ≡ [] }
-    ensures reads { IfOk result (λ line. ReadsAs nothing (view value.now) (tokens line.items) []) }
+    ensures reads { IfOk result (λ line. IsTextOf (view value.now) line.items) }
     ensures utf8 { IfOk result (λ line. IsUtf8 line.items) }
     ensures no_end { IfOk result (λ line. HasNoEnd line.items) }
     ensures good { IfOk result (λ line. AreGood (tokens line.items)) }

@@ -104,9 +104,9 @@ pub runs_out : (start : List ℕ) (why : Failure) → why ≡ OutOfMemory → Is
 runs_out start why e = subst (IsStopped start) (sym e) tt
 
 -- a refusal that is handed on
-pub told : {T : Type 0} (P : Failure → Type 0) (r : Result T Failure) (why : Failure) → IsErrAnd r (λ w. w ≡ why) → P why → IfErr r P
-told P (Ok x) why h p = absurd h
-told P (Err w) why h p = subst P (sym h) p
+pub err_by : {T : Type 0} (P : Failure → Type 0) (r : Result T Failure) (why : Failure) → IsErrAnd r (λ w. w ≡ why) → P why → IfErr r P
+err_by P (Ok x) why h p = absurd h
+err_by P (Err w) why h p = subst P (sym h) p
 
 -- behind first pods it stops in the whole
 pub stops_whole : (input first left : List ℕ) (vs : Trees) (why : Failure) → input ≡ first ++ left → AreMembers vs first → IsStopped left why →

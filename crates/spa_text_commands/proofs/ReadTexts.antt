@@ -8,7 +8,8 @@ use Rattle.spa_format.specs.Writable.{HasNul, IsTooLarge}
 use Rattle.std.proofs.Math.Seq.{take-append_seam}
 use Rattle.std.proofs.lemmas.List.{length-take-le, take-append-drop}
 use Rattle.spa_text_commands.specs.Extent.{BeginsText, column_behind, line_behind}
-use Rattle.spa_text_commands.specs.Texts.{BeginTexts, HasNoPod, IsRefusedAt, IsText, IsTextFor, ReadsTexts, RefusesTexts}
+use Rattle.spa_text_read.specs.Grammar.{IsTextOf}
+use Rattle.spa_text_commands.specs.Texts.{BeginTexts, HasNoPod, IsRefusedAt, IsTextFor, ReadsTexts, RefusesTexts}
 use Rattle.spa_text_commands.specs.Unread.{IsFor, IsNoPod, IsNoText}
 use Rattle.spa_text_commands.specs.declared.answer.Failure.{Failure}
 use Rattle.spa_text_commands.specs.declared.answer.Failure.TheVariants.{NoPods, Line, OutOfMemory, WriteFailed}
@@ -135,7 +136,7 @@ pub no_encoding : (s : Strictness) (line : List ℕ) (v : Tree) → IsTextFor s 
 no_encoding s line v t h = inr (inr (v, t, h))
 
 -- a value that is the same one, and its text
-pub text_of : (s : Strictness) (v w : Tree) (text line : List ℕ) → w ≡ v → text ≡ line → IsText v text → Admits s v → IsTextFor s w line
+pub text_of : (s : Strictness) (v w : Tree) (text line : List ℕ) → w ≡ v → text ≡ line → IsTextOf v text → Admits s v → IsTextFor s w line
 text_of s v w text line e t h a = subst (IsTextFor s w) t (subst (λ u. IsTextFor s u text) (sym e) (h, a))
 
 -- a refusal that memory isn't the cause of
@@ -144,5 +145,5 @@ is_for s line unread.OutOfMemory h w = tt
 is_for s line (unread.For kind offset path misfit) h w = h
 
 pub no_value : (s : Strictness) (line text : List ℕ) (c : Cause) → text ≡ line →
-    (c ≢ cause.OutOfMemory → (v : Tree) → IsText v text → ¬ (Admits s v)) → c ≢ cause.OutOfMemory → HasNoPod s line
-no_value s line text c e h w = no_text s line (λ v t. h w v (subst (IsText v) (sym e) t.0) t.1)
+    (c ≢ cause.OutOfMemory → (v : Tree) → IsTextOf v text → ¬ (Admits s v)) → c ≢ cause.OutOfMemory → HasNoPod s line
+no_value s line text c e h w = no_text s line (λ v t. h w v (subst (IsTextOf v) (sym e) t.0) t.1)

@@ -1,8 +1,9 @@
--- Where a string in a text ends. Only private clauses cite it.
+-- Where a JSON string within a text ends. Only private clauses cite it.
 use Rattle.std.specs.Prelude.{◌≡◌, ℕ, List, ◌++◌}
 use Rattle.spa_text_commands.specs.Extent.{outside, within, first_text, behind_text}
 
--- the bytes, which stand in a string, go on with its end, and these follow that: the text goes on there, with as many brackets open
+-- The bytes begin inside of a JSON string, and `behind` follows its closing quote: however many brackets are open, the string hides no end of
+-- the text, which ends where it does from `behind` on.
 pub record ClosesString (bytes behind : List ℕ) : Type 0 where
   pub front : List ℕ
   pub cut : bytes ≡ front ++ behind

@@ -10,7 +10,7 @@ use Rattle.spa_format.specs.Front.{IsRefused}
 use Rattle.spa_format.specs.Writable.{HasNul, IsTooLarge}
 use Rattle.spa_rewrite.specs.Rewriting.{IsLeft}
 use Rattle.spa_text_read.specs.Fitting.{Admits}
-use Rattle.spa_text_read.specs.Grammar.{ReadsAs, nothing}
+use Rattle.spa_text_read.specs.Grammar.{IsTextOf}
 use Rattle.spa_text_read.specs.declared.fitting.Strictness.{Strictness}
 use Rattle.spa_text.specs.Line.{HasNoEnd}
 use Rattle.spa_text_commands.specs.Extent.{BeginsText, column_behind, line_behind}
@@ -19,18 +19,14 @@ use Rattle.spa_text_commands.specs.declared.answer.Failure.TheVariants.{NoPods, 
 use Rattle.spa_text_commands.specs.declared.printing.Layout.{Layout}
 use Rattle.spa_text_commands.specs.declared.printing.Layout.TheVariants.{OneLine, Indented}
 
--- the text reads as this value, and nothing follows it
-abbrev pub IsText : Tree → List ℕ → Type 0
-IsText v text = ReadsAs nothing v (tokens text) []
-
--- it reads as this value, which a reader of this strictness takes
+-- the text is one of this value, which a reader of this strictness takes
 abbrev pub IsTextFor : Strictness → Tree → List ℕ → Type 0
-IsTextFor strictness v text = IsText v text × Admits strictness v
+IsTextFor strictness v text = IsTextOf v text × Admits strictness v
 
--- it reads so on one line, or with each member and each property on one of its own
+-- it is such a text on one line, or with each member and each property on one of its own
 abbrev pub IsTextIn : Layout → Tree → List ℕ → Type 0
-IsTextIn OneLine v text = IsText v text × HasNoEnd text
-IsTextIn Indented v text = IsText v text × (text ≡ pretty (tokens text))
+IsTextIn OneLine v text = IsTextOf v text × HasNoEnd text
+IsTextIn Indented v text = IsTextOf v text × (text ≡ pretty (tokens text))
 
 -- a text in this layout behind this mark for each of these values, in order, and the end of its last line
 abbrev pub AreTexts : Layout → (mark : List ℕ) → Trees → List ℕ → Type 0

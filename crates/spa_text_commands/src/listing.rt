@@ -49,7 +49,10 @@ pub(crate) fn add_selected(
 ) -> Result<usize, AllocError>
     requires count { count + 1 < 2 ^ 64 }
     requires place { place + length (pod_bytes pod) < 2 ^ 64 }
-    ensures added { IfOk result (AddsParts printout.entry.form (selected_of printout.entry.selection count place (pod_bytes pod.entry)) page.old.lines.items page.new.lines.items) }
+    ensures added { IfOk result
+        (AddsParts printout.entry.form
+        (selected_of printout.entry.selection count place (pod_bytes pod.entry))
+        page.old.lines.items page.new.lines.items) }
     ensures few { IfOk result (λ refused. refused ≤ length (pod_bytes pod.entry)) }
 {
     if !printout.selection.has_pod(count) {
@@ -81,7 +84,9 @@ fn add_values(
 ) -> Result<usize, AllocError>
     requires count { count + 1 < 2 ^ 64 }
     requires place { place + length (pod_bytes pod) < 2 ^ 64 }
-    ensures added { IfOk result (AddsParts form (values_in name.now count place (pod_bytes pod.entry)) page.old.lines.items page.new.lines.items) }
+    ensures added { IfOk result
+        (AddsParts form (values_in name.now count place (pod_bytes pod.entry))
+        page.old.lines.items page.new.lines.items) }
     ensures few { IfOk result (λ refused. refused ≤ length (pod_bytes pod.entry)) }
 {
     match pod.as_object() {
@@ -102,7 +107,9 @@ fn add_object_values(
 ) -> Result<usize, AllocError>
     requires count { count + 1 < 2 ^ 64 }
     requires place { place + length (object_bytes object) < 2 ^ 64 }
-    ensures added { IfOk result (AddsParts form (values_of name.now count place (object_bytes object.entry)) page.old.lines.items page.new.lines.items) }
+    ensures added { IfOk result
+        (AddsParts form (values_of name.now count place (object_bytes object.entry))
+        page.old.lines.items page.new.lines.items) }
     ensures few { IfOk result (λ refused. refused ≤ length (object_bytes object.entry)) }
 {
     let keys = keys_of(object.type_());
@@ -128,7 +135,9 @@ fn add_value_of(
 ) -> Result<usize, AllocError>
     requires count { count + 1 < 2 ^ 64 }
     requires place { place + length (prop_bytes property) < 2 ^ 64 }
-    ensures added { IfOk result (AddsParts form (value_at keys name.now count place (prop_bytes property.entry)) page.old.lines.items page.new.lines.items) }
+    ensures added { IfOk result
+        (AddsParts form (value_at keys name.now count place (prop_bytes property.entry))
+        page.old.lines.items page.new.lines.items) }
     ensures few { IfOk result (λ refused. refused ≤ 1) }
 {
     let key = property.key().0;
@@ -153,7 +162,9 @@ fn add_part(
 ) -> Result<usize, AllocError>
     requires count { count + 1 < 2 ^ 64 }
     requires place { place + length (pod_bytes pod) < 2 ^ 64 }
-    ensures added { IfOk result (AddsParts form (part_of count place (pod_bytes pod.entry) ∷ []) page.old.lines.items page.new.lines.items) }
+    ensures added { IfOk result
+        (AddsParts form (part_of count place (pod_bytes pod.entry) ∷ [])
+        page.old.lines.items page.new.lines.items) }
     ensures few { IfOk result (λ refused. refused ≤ 1) }
 {
     let refusal = refusal_of(alloc, pod)?;
@@ -176,7 +187,9 @@ fn print_part(
 ) -> Result<(), AllocError>
     requires count { count + 1 < 2 ^ 64 }
     requires place { place + length (pod_bytes pod) < 2 ^ 64 }
-    ensures { OnOk result (AddsPart form (part_of count place (pod_bytes pod.entry)) refused page.old.lines.items page.new.lines.items) }
+    ensures { OnOk result
+        (AddsPart form (part_of count place (pod_bytes pod.entry)) refused
+        page.old.lines.items page.new.lines.items) }
 {
     match form {
         Form::Lines => list(alloc, page, pod, ids, refusal, count, place),
@@ -222,7 +235,8 @@ fn add_pod_text(
 
 /// Adds bytes as a JSON string of their hex digits, on a line.
 fn add_string(lines: &mut Vec<u8>, bytes: &[u8]) -> Result<(), AllocError>
-    ensures { OnOk result (lines.new.items ≡ lines.old.items ++ (quote ∷ (encode_lower bytes.now ++ (quote ∷ 10 ∷ [])))) }
+    ensures { OnOk result
+        (lines.new.items ≡ lines.old.items ++ (quote ∷ (encode_lower bytes.now ++ (quote ∷ 10 ∷ [])))) }
 {
     lines.push(b'"')?;
     add_hex(lines, bytes)?;
@@ -240,7 +254,9 @@ fn list(
     place: usize,
 ) -> Result<(), AllocError>
     requires { count + 1 < 2 ^ 64 }
-    ensures { OnOk result (AddsPodLines (part_of count place (pod_bytes pod.entry)) page.old.lines.items page.new.lines.items) }
+    ensures { OnOk result
+        (AddsPodLines (part_of count place (pod_bytes pod.entry))
+        page.old.lines.items page.new.lines.items) }
 {
     let levels = Vec::new(alloc);
     let mut listing = Listing {
@@ -409,7 +425,8 @@ fn has_members(parts: Parts<'_>) -> bool {
 /// Why the reader refuses the pod, if it does.
 fn refusal_of(alloc: Global, pod: Pod<'_>) -> Result<Option<&'static str>, AllocError>
     ensures accepted { IfOk result (λ found. IfNone found ((vs : Trees) × AreMembers vs (pod_bytes pod.entry))) }
-    ensures refused { IfOk result (λ found. IfSome found (λ _. (vs : Trees) → ¬ (AreMembers vs (pod_bytes pod.entry)))) }
+    ensures refused { IfOk result
+        (λ found. IfSome found (λ _. (vs : Trees) → ¬ (AreMembers vs (pod_bytes pod.entry)))) }
 {
     let Err((_, error)) = accept_all(alloc, whole_bytes(&pod)) else {
         return Ok(None);

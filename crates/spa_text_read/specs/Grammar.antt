@@ -4,6 +4,7 @@ use Rattle.std.specs.Str.{bytes_eq}
 use Rattle.hex.specs.Hex.{decode_of}
 use Rattle.json.specs.Token.{Token}
 use Rattle.json.specs.Json.{after_end_array, read_key}
+use Rattle.json.specs.Lex.{tokens}
 use Rattle.spa_format.specs.Kind.{Kind, none_kind, bool_kind, id_kind, int_kind, long_kind, float_kind, double_kind, rectangle_kind, fraction_kind, fd_kind, Fixed, none, bool, id, int, long, float, double, rectangle, fraction, fd, kind_of, type_number}
 use Rattle.spa_format.specs.Tree.{Shape, none_choice, range_choice, step_choice, enum_choice, flags_choice, Tree, fixed, bytes, bitmap, array, choice, pointer, struct, object, Trees, no_trees, member, Properties, no_properties, property}
 use Rattle.spa_value.specs.Equality.{kind_eq}
@@ -314,3 +315,7 @@ abbrev mutual
 -- the tokens begin with a value, where this is expected, and this follows it
 abbrev pub ReadsAs : Expected → Tree → List Token → List Token → Type 0
 ReadsAs c v ts rest = (h : Token) × (us : List Token) × (head ts ≡ Some (h, us)) × ReadsValue c v h us rest
+
+-- the text is one of this value: where nothing is known, it reads as the value, and nothing follows it
+abbrev pub IsTextOf : Tree → List ℕ → Type 0
+IsTextOf v text = ReadsAs nothing v (tokens text) []

@@ -4,7 +4,7 @@ ghost use Rattle.json.specs.Lex.{tokens};
 ghost use Rattle.spa_format.specs.Tree.{Tree};
 ghost use Rattle.spa_text_read.specs.Fitting.{Admits};
 ghost use Rattle.spa_text_read.specs.FramesFit.{AdmitsNone};
-ghost use Rattle.spa_text_read.specs.Grammar.{ReadsAs, nothing};
+ghost use Rattle.spa_text_read.specs.Grammar.{IsTextOf, ReadsAs, nothing};
 ghost use Rattle.spa_text_read.specs.Places.{IsPlace};
 ghost use Rattle.spa_text_read.specs.Steps.{ComesTo};
 ghost use Rattle.spa_value.specs.View.{view};
@@ -41,10 +41,9 @@ impl TextReader {
     /// Reads the value that a text is, as `read` does.
     #[tactic(auto, using(crate::proofs::Strictly::plainly_refused))]
     pub fn read(&mut self, text: &str) -> Result<Value, TextError>
-        ensures value { IfOk result (λ v. ReadsAs nothing (view v) (tokens text.now) []) }
+        ensures value { IfOk result (λ v. IsTextOf (view v) text.now) }
         ensures refused { IfErr result
-            (λ e. e.cause ≢ Cause.OutOfMemory → (v : Tree) →
-            ¬ (ReadsAs nothing v (tokens text.now) [])) }
+            (λ e. e.cause ≢ Cause.OutOfMemory → (v : Tree) → ¬ (IsTextOf v text.now)) }
         ensures no_path { IfErr result (λ e. e.cause ≡ Cause.OutOfMemory → string_bytes e.path ≡ []) }
         ensures path { IfErr result
             (λ e. e.cause ≢ Cause.OutOfMemory → IsPlace (tokens text.now) (string_bytes e.path)) }
@@ -55,11 +54,11 @@ impl TextReader {
     /// Reads the value that a text is; strictly only where each value under a key of an object is of the type that belongs there: the one
     /// that PipeWire's tables give, for a choice the type of its values. Any value may stand under a key that they don't know.
     pub fn read_with(&mut self, text: &str, strictness: Strictness) -> Result<Value, TextError>
-        ensures value { IfOk result (λ v. ReadsAs nothing (view v) (tokens text.now) []) }
+        ensures value { IfOk result (λ v. IsTextOf (view v) text.now) }
         ensures admitted { IfOk result (λ v. Admits strictness (view v)) }
         ensures refused { IfErr result
-            (λ e. e.cause ≢ Cause.OutOfMemory → (v : Tree) →
-            ReadsAs nothing v (tokens text.now) [] → ¬ (Admits strictness v)) }
+            (λ e. e.cause ≢ Cause.OutOfMemory → (v : Tree) → IsTextOf v text.now →
+            ¬ (Admits strictness v)) }
         ensures no_path { IfErr result (λ e. e.cause ≡ Cause.OutOfMemory → string_bytes e.path ≡ []) }
         ensures path { IfErr result
             (λ e. e.cause ≢ Cause.OutOfMemory → IsPlace (tokens text.now) (string_bytes e.path)) }
@@ -102,10 +101,9 @@ impl TextReader {
 /// A value that is nested deep is read too, by a loop; its drop calls itself for each level, unless it is handed to `Held` or to
 /// `discard`.
 pub fn read(alloc: Global, text: &str) -> Result<Value, TextError>
-    ensures value { IfOk result (λ v. ReadsAs nothing (view v) (tokens text.now) []) }
+    ensures value { IfOk result (λ v. IsTextOf (view v) text.now) }
     ensures refused { IfErr result
-        (λ e. e.cause ≢ Cause.OutOfMemory → (v : Tree) →
-        ¬ (ReadsAs nothing v (tokens text.now) [])) }
+        (λ e. e.cause ≢ Cause.OutOfMemory → (v : Tree) → ¬ (IsTextOf v text.now)) }
     ensures no_path { IfErr result (λ e. e.cause ≡ Cause.OutOfMemory → string_bytes e.path ≡ []) }
     ensures path { IfErr result (λ e. e.cause ≢ Cause.OutOfMemory → IsPlace (tokens text.now) (string_bytes e.path)) }
 {

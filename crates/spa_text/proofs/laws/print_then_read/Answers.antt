@@ -1,8 +1,7 @@
 use Rattle.std.proofs.Common.{◌≡◌, [], ◌++◌, ap, subst, sym, ◌∙◌}
 use Rattle.std.specs.Str.{IsUtf8}
-use Rattle.json.specs.Lex.{tokens}
 use Rattle.spa_value.specs.View.{view}
-use Rattle.spa_text_read.specs.Grammar.{ReadsAs, nothing}
+use Rattle.spa_text_read.specs.Grammar.{IsTextOf}
 use Rattle.spa_text.proofs.laws.print_then_read.Goals as goal
 
 pub read_again-requires : goal.read_again-requires
@@ -11,7 +10,7 @@ read_again-requires c =
     let printed = c.in_ok-print.ensures.printed in
     let text : printed.0 ≡ c.as_slice.result.now =
     sym (c.as_slice.ensures.value ∙ printed.1 ∙ ap (λ l. l ++ printed.0) c.new-bytes.ensures.items) in
-    (subst IsUtf8 text printed.2, (v, subst (λ l. ReadsAs nothing v (tokens l) []) text printed.3))
+    (subst IsUtf8 text printed.2, (v, subst (IsTextOf v) text printed.3))
 
 pub returns : goal.returns
 returns c =
@@ -19,4 +18,4 @@ returns c =
     let printed = c.in_ok-print.ensures.printed in
     let text : printed.0 ≡ c.as_slice.result.now =
     sym (c.as_slice.ensures.value ∙ printed.1 ∙ ap (λ l. l ++ printed.0) c.new-bytes.ensures.items) in
-    c.read_again.ensures v (subst (λ l. ReadsAs nothing v (tokens l) []) text printed.3)
+    c.read_again.ensures v (subst (IsTextOf v) text printed.3)

@@ -2,18 +2,18 @@ use Rattle.std.proofs.Common.{arith, subst}
 use Rattle.spa_value.specs.View.{view}
 use Rattle.spa_text_commands.specs.Texts.{IsTextIn}
 use Rattle.spa_text_commands.specs.Unread.{IsStopped}
-use Rattle.spa_text_commands.proofs.PrintedPods.{ends, goes_on, runs_out, stops, told}
+use Rattle.spa_text_commands.proofs.PrintedPods.{ends, goes_on, runs_out, stops, err_by}
 use Rattle.spa_text_commands.proofs.Saying.{shrinks}
 use Rattle.spa_text_commands.proofs.printing.add_texts.Goals as goal
 
 pub returns-in_err-rest-clause-refused : goal.returns-in_err-rest-clause-refused
 returns-in_err-rest-clause-refused c =
-    told (IsStopped c.args.pods.now) c.from_residual.result _ c.from_residual.ensures.1
+    err_by (IsStopped c.args.pods.now) c.from_residual.result _ c.from_residual.ensures.1
     (stops _ _ _ _ _ _ _ c.loop-left.invariant (λ e. grind (arith, e, c.loop-left-test.true, c.is_empty.ensures)) c.in_err-rest.ensures.refused)
 
 pub returns-in_err-add_text-clause-refused : goal.returns-in_err-add_text-clause-refused
 returns-in_err-add_text-clause-refused c =
-    told (IsStopped c.args.pods.now) c.from_residual-in_err-add_text.result _
+    err_by (IsStopped c.args.pods.now) c.from_residual-in_err-add_text.result _
     c.from_residual-in_err-add_text.ensures.1 (runs_out _ _ c.in_err-add_text.ensures.cause)
 
 pub loop-left-smaller : goal.loop-left-smaller

@@ -1,11 +1,11 @@
 use Rattle.std.proofs.Common.{refl}
 use Rattle.spa_text_commands.specs.Texts.{RefusesPods}
-use Rattle.spa_text_commands.proofs.PrintedPods.{prints_all, refuses_all, told}
+use Rattle.spa_text_commands.proofs.PrintedPods.{prints_all, refuses_all, err_by}
 use Rattle.spa_text_commands.proofs.printing.print_all.Goals as goal
 
 pub returns-in_err-add_texts-clause-refused : goal.returns-in_err-add_texts-clause-refused
 returns-in_err-add_texts-clause-refused c =
-    told (RefusesPods c.args.pods.now) c.from_residual.result _ c.from_residual.ensures.1
+    err_by (RefusesPods c.args.pods.now) c.from_residual.result _ c.from_residual.ensures.1
     (refuses_all c.args.pods.now _ c.in_err-add_texts.ensures.refused)
 
 pub returns-clause-printed : goal.returns-clause-printed

@@ -1,17 +1,16 @@
 use Rattle.std.proofs.Common.{◌≡◌, ℕ, List, [], ◌++◌, Result, Ok, Err, ap, ◌∙◌}
 use Rattle.std.specs.Prelude.{OnOk, if◌then◌else◌, is_ok}
 use Rattle.std.specs.Str.{IsUtf8}
-use Rattle.json.specs.Lex.{tokens}
 use Rattle.spa_format.specs.Tree.{Tree}
 use Rattle.spa_value.specs.View.{view}
-use Rattle.spa_text_read.specs.Grammar.{ReadsAs, nothing}
+use Rattle.spa_text_read.specs.Grammar.{IsTextOf}
 use Rattle.spa_text.specs.Line.{HasNoEnd}
 use Rattle.spa_text.specs.Printed as printed
 use Rattle.spa_text.proofs.printing.TextPrinter.print.Goals as goal
 
 appended : {A E : Type 0} (r : Result A E) (v : Tree) (old new text : List ℕ) → new ≡ (if is_ok r then old ++ text else old) → IsUtf8 text →
-    ReadsAs nothing v (tokens text) [] → HasNoEnd text →
-    OnOk r ((x : List ℕ) × (new ≡ old ++ x) × IsUtf8 x × ReadsAs nothing v (tokens x) [] × HasNoEnd x)
+    IsTextOf v text → HasNoEnd text →
+    OnOk r ((x : List ℕ) × (new ≡ old ++ x) × IsUtf8 x × IsTextOf v x × HasNoEnd x)
 appended (Ok x) v old new text e u r h = (text, e, u, r, h)
 appended (Err x) v old new text e u r h = tt
 

@@ -2,6 +2,7 @@
 ghost use Rattle.std.specs.Prelude.{◌≡◌, ◌≢◌, ◌++◌, [], ◌∷◌, IfErr, OnOk, Some, None, option_map};
 ghost use Rattle.spa_text_read.specs.Seen.{items_in, kind_in, said_by};
 ghost use Rattle.spa_text_read.specs.Steps.{fixed_part, of_kind};
+ghost use Rattle.spa_format.specs.Tree.{fixed};
 ghost use Rattle.spa_value.specs.View.{view};
 
 use crate::cause::Cause;
@@ -24,7 +25,6 @@ pub(crate) enum Element {
 }
 
 /// What a value of fixed size says.
-#[inline(always)]
 #[tactic(auto, using(crate::proofs::ViewLaws::object_part))]
 pub(crate) fn element_of(value: &Value) -> Option<Element>
     ensures { option_map said_by result ≡ fixed_part (view value.now) }
@@ -48,6 +48,25 @@ pub(crate) fn element_of(value: &Value) -> Option<Element>
         Value::Choice(_) => None,
         Value::Struct(_) => None,
         Value::Object(_) => None,
+    }
+}
+
+/// The value that an element is.
+#[inline(always)]
+pub(crate) fn value_of(element: Element) -> Value
+    ensures { view result ≡ fixed (said_by element) }
+{
+    match element {
+        Element::None => Value::None,
+        Element::Bool(x) => Value::Bool(x),
+        Element::Id(x) => Value::Id(x),
+        Element::Int(x) => Value::Int(x),
+        Element::Long(x) => Value::Long(x),
+        Element::Float(x) => Value::Float(x),
+        Element::Double(x) => Value::Double(x),
+        Element::Rectangle(x) => Value::Rectangle(x),
+        Element::Fraction(x) => Value::Fraction(x),
+        Element::Fd(x) => Value::Fd(x),
     }
 }
 

@@ -2,11 +2,11 @@
 ghost use Rattle.std.specs.Prelude.{◌≡◌, ◌≢◌, ◌<◌, ◌≤◌, ◌++◌, ◌∷◌, [], IfErr, IfOk, MatchOption, MatchResult, OnErr, OnOk, Some, None, false, length, option_map, true};
 ghost use Rattle.json.specs.Json.{after_end_array, read_key};
 ghost use Rattle.json.specs.Reads.{token_of};
-ghost use Rattle.spa_format.specs.Tree.{join_members, join_properties, member, no_properties, no_trees, property};
+ghost use Rattle.spa_format.specs.Tree.{fixed, join_members, join_properties, member, no_properties, no_trees, property};
 ghost use Rattle.spa_text_read.specs.Grammar as grammar;
 ghost use Rattle.spa_text_read.specs.Names as spec;
 ghost use Rattle.spa_text_read.specs.FramesFit.{AdmitsLast, last_fits};
-ghost use Rattle.spa_text_read.specs.Seen.{IsListed, KeepsAtEnd, frame_of, items_in, kind_in, next_of};
+ghost use Rattle.spa_text_read.specs.Seen.{IsListed, KeepsAtEnd, frame_of, items_in, kind_in, next_of, said_by};
 ghost use Rattle.spa_text_read.specs.Steps as steps;
 ghost use Rattle.spa_text_read.specs.Steps.{Frame};
 ghost use Rattle.spa_text_read.specs.declared.inside.Inside.TheVariants as inside;
@@ -15,7 +15,7 @@ ghost use Rattle.spa_value.specs.Views.{property_views, views};
 
 use crate::cause::Cause;
 use crate::chosen::choice_value;
-use crate::element::{element_of, put_element};
+use crate::element::{Element, element_of, put_element, value_of};
 use crate::fitting::{Misfit, Strictness, element_type, misfit_of};
 use crate::names::{expected_under, key_named, keys_of};
 use crate::numerals::number_of_digits;
@@ -101,7 +101,6 @@ impl Inside {
     }
 
     /// Puts a value that is read behind the others.
-    #[inline(always)]
     pub(crate) fn put(&mut self, value: Value, reader: &mut Reader<'_>) -> Result<(), Cause>
         ensures put { OnOk result
             (steps.put (frame_of self.old) (view value) reader.old
@@ -116,6 +115,29 @@ impl Inside {
             Inside::Array { values, .. } => put_value(values, value),
             Inside::Choice { values, .. } => put_value(values, value),
             Inside::Object(object) => object.put(value, reader),
+        }
+    }
+
+    /// Puts a value of fixed size that is read behind the others.
+    #[inline(always)]
+    pub(crate) fn put_number(
+        &mut self,
+        number: Element,
+        reader: &mut Reader<'_>,
+    ) -> Result<(), Cause>
+        ensures put { OnOk result
+            (steps.put (frame_of self.old) (fixed (said_by number)) reader.old
+            ≡ Some (frame_of self.new, reader.new)) }
+        ensures refused { IfErr result
+            (λ e. e ≢ Cause.OutOfMemory →
+            steps.put (frame_of self.old) (fixed (said_by number)) reader.old ≡ None) }
+        ensures no_more { length reader.new ≤ length reader.old }
+    {
+        match self {
+            Inside::Struct { members, .. } => put_member(members, value_of(number)),
+            Inside::Array { values, .. } => put_element(values, number),
+            Inside::Choice { values, .. } => put_element(values, number),
+            Inside::Object(object) => object.put(value_of(number), reader),
         }
     }
 
@@ -363,7 +385,6 @@ fn put_member(members: &mut Vec<Value>, value: Value) -> Result<(), Cause>
 }
 
 /// Puts a value of fixed size behind the others, where it is of their type.
-#[inline(always)]
 fn put_value(values: &mut ValueArray, value: Value) -> Result<(), Cause>
     ensures put { OnOk result
         (option_map (λ x. items_in values.old ++ x ∷ [])

@@ -10,6 +10,7 @@ ghost use Rattle.spa_value.specs.View.{view};
 use crate::cause::Cause;
 use crate::inside::{Inside, Next, Opened};
 use crate::opening::open;
+use crate::scalars::plain_number;
 use json::{Reader, Token};
 use spa_names::Expected;
 use spa_value::{Value, discard};
@@ -61,6 +62,12 @@ impl Nest {
             (opens expected (token_of head.entry) reader.old) ≡ steps.refused) }
         ensures no_more { length reader.new ≤ length reader.old }
     {
+        if let Some(number) = plain_number(head, expected) {
+            return match self.inner.put_number(number, reader) {
+                Ok(()) => Ok(true),
+                Err(cause) => Err(cause),
+            };
+        }
         match open(alloc, reader, head, expected) {
             Ok(Opened::Leaf(value)) => match self.inner.put(value, reader) {
                 Ok(()) => Ok(true),

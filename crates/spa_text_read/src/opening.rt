@@ -29,7 +29,7 @@ use spa_value::{PropertyFlags, Value, ValueArray, discard};
 use std::alloc::Global;
 
 /// Reads what begins with this token: a whole value, or a value with others in it up to these.
-#[inline(always)]
+#[inline(never)]
 #[tactic(auto, unfolding(crate::specs::Grammar::opens))]
 pub(crate) fn open(
     alloc: Global,

@@ -14,7 +14,7 @@ use crate::extent::{position_behind, split_text};
 use spa_sink::GenError;
 use spa_text::{Cause, Misfit, Strictness, TextReader};
 use spa_value::Held;
-use spa_write::write_value;
+use spa_write::write_sized;
 use std::alloc::Global;
 
 /// Why a text isn't read.
@@ -64,6 +64,7 @@ fn split_front(bytes: &[u8]) -> (&[u8], &[u8])
 }
 
 /// The first text and what follows it, where it ends with the first line and no backslash is in it: `split_text` for most texts, but faster.
+/// None promises nothing: `split_front` asks `split_text` then, so to give None more often costs time alone.
 #[tactic(auto, using(crate::proofs::Splitting::string_shorter, crate::proofs::Extents::few_open))]
 fn split_line(bytes: &[u8]) -> Option<(&[u8], &[u8])>
     ensures { IfSome result (λ parts. bytes.now ≢ [] → BeginsText bytes.now parts.0.now parts.1.now) }
@@ -106,11 +107,14 @@ fn behind_string(bytes: &[u8]) -> Option<&[u8]>
     let mut left = bytes;
     while let Some((byte, behind)) = left.split_first() {
         let byte = *byte;
-        if byte == b'"' {
-            return Some(behind);
-        }
-        if byte == b'\\' || byte == b'\n' {
-            return None;
+        // Small letters stand behind the three in ASCII.
+        if byte <= b'\\' {
+            if byte == b'"' {
+                return Some(behind);
+            }
+            if byte == b'\\' || byte == b'\n' {
+                return None;
+            }
         }
         left = behind;
     }
@@ -151,7 +155,9 @@ fn add_pod(
     bytes: &[u8],
     pods: &mut Vec<u8>,
 ) -> Result<(), Unread>
-    ensures added { OnOk result ((v : Tree) × IsTextFor strictness v bytes.now × (pods.new.items ≡ pods.old.items ++ encoding_of v)) }
+    ensures added { OnOk result
+        ((v : Tree) × IsTextFor strictness v bytes.now
+        × (pods.new.items ≡ pods.old.items ++ encoding_of v)) }
     ensures refused { IfErr result (λ why. IsNoPod strictness bytes.now why) }
 {
     let text = match str::from_utf8(bytes) {
@@ -172,7 +178,7 @@ fn add_pod(
             });
         }
     };
-    match write_value(alloc, pods, &*value) {
+    match write_sized(pods, &*value) {
         Ok(_) => Ok(()),
         Err(error) => match error {
             GenError::NulInText => Err(unread_at(alloc, "NulInText", 0)),

@@ -12,7 +12,7 @@ returns-in-Err-read_with-clause-refused c =
 
 pub returns-in-NulInText-clause-refused : goal.returns-in-NulInText-clause-refused
 returns-in-NulInText-clause-refused c =
-    let why = rw c.in-NulInText.is at c.in-Err-write_value.ensures.refused in
+    let why = rw c.in-NulInText.is at c.in-Err-write_sized.ensures.refused in
     is_for _ _ _
     (no_encoding _ _ _ (text_of _ _ _ _ _ (ap view (c.deref.ensures ∙ c.from-value.ensures)) c.in-Ok.ensures.cases.0 c.in-Ok-read_with.ensures.value c.in-Ok-read_with.ensures.admitted)
     (inl why.cause.0))
@@ -20,15 +20,15 @@ returns-in-NulInText-clause-refused c =
 
 pub returns-in-TooLarge-clause-refused : goal.returns-in-TooLarge-clause-refused
 returns-in-TooLarge-clause-refused c =
-    let why = rw c.in-TooLarge.is at c.in-Err-write_value.ensures.refused in
+    let why = rw c.in-TooLarge.is at c.in-Err-write_sized.ensures.refused in
     is_for _ _ _
     (no_encoding _ _ _ (text_of _ _ _ _ _ (ap view (c.deref.ensures ∙ c.from-value.ensures)) c.in-Ok.ensures.cases.0 c.in-Ok-read_with.ensures.value c.in-Ok-read_with.ensures.admitted)
     (inr why.cause.0))
     c.unread_at-in-TooLarge.ensures
 
-pub returns-in-Ok-write_value-clause-added : goal.returns-in-Ok-write_value-clause-added
-returns-in-Ok-write_value-clause-added c = (
+pub returns-in-Ok-write_sized-clause-added : goal.returns-in-Ok-write_sized-clause-added
+returns-in-Ok-write_sized-clause-added c = (
   view c.deref.result.now,
   text_of _ _ _ _ _ (ap view (c.deref.ensures ∙ c.from-value.ensures)) c.in-Ok.ensures.cases.0 c.in-Ok-read_with.ensures.value c.in-Ok-read_with.ensures.admitted,
-  c.in-Ok-write_value.ensures.put.encoding,
+  c.in-Ok-write_sized.ensures.put.encoding,
 )

@@ -84,7 +84,8 @@ fn add_piece(out: &mut Vec<u8>, piece: &[u8], colour: Option<Colour>) -> Result<
     out.extend_from_slice(RESET)
 }
 
-/// How long the first piece of what is left of a text is: a text in quotes, a word, or a byte.
+/// How long the first piece of what is left of a text is: a text in quotes, a word, or a byte. Nothing but its bounds is
+/// proved: which bytes have one colour is only tested.
 fn piece_len(left: &[u8]) -> usize
     requires { 0 < length left.now }
     ensures some { 0 < result }

@@ -15,8 +15,9 @@ use crate::shims::sorted::BTreeSet;
 /// those that only `b` has, in the same order. On each side the first property with a key counts.
 ///
 /// A key of both has a value that admits exactly what both values admit, with the flags that both have: a plain value where one of them
-/// is plain, else an Enum where one of them is one, else a Range. Its default is the first of these that both admit: a's default, b's
-/// default, the first alternative of an Enum or the minimum of a Range. A key of one side has the flags and the value of that side.
+/// is plain, else an Enum where one of them is one, else a Range, a Step where one of them is one, or Flags. Its default is the first of
+/// these that both admit: a's default, b's default, the first alternative of the Enum, the minimum of the Range, the first multiple
+/// within the Step, all bits of the Flags. A key of one side has the flags and the value of that side.
 ///
 /// The refusals: `TypeMismatch` before any other; then, at the first key under which the two don't agree, `Missing` where only one side
 /// has it, and else `Unsupported` before `Disjoint`; and `OutOfMemory`.

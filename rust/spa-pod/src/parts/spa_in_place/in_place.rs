@@ -15,10 +15,10 @@ use crate::parts::spa_rewrite::{
 /// The call is refused exactly as `rewrite_all`, and then no byte is changed. A refusal gives how many bytes stand before the refused
 /// pod, and its fault without the place inside it, which `accept_all` of `spa_rewrite` gives.
 ///
-/// All pods are looked at first, and a fault that the look finds is the refusal. Then those up to the last one that isn't canonical are patched where
-/// they are, or written to the front if one of them gets shorter, and the canonical ones behind them are moved. That takes no memory where at most
-/// 1000 structs and objects stand in one another. Where more do, the look may find that the pods behind the first canonical ones nest too deep: then
-/// their rewritings are made in memory, by `rewrite_all`, and copied back.
+/// All pods are looked at first, and a fault that the look finds is the refusal. Then those before the first one that gets shorter are patched where
+/// they are, those from it up to the last one that isn't canonical are written behind them, and the canonical ones that follow are moved at once. That
+/// takes no memory where at most 1000 structs and objects stand in one another. Where more do, the look may find that the pods behind the first canonical
+/// ones nest too deep: then their rewritings are made in memory, by `rewrite_all`, and copied back.
 pub fn rewrite_in_place(
     bytes: &mut [u8],
 ) -> Result<usize, (usize, DeserializeError<()>)> {
@@ -46,26 +46,24 @@ pub fn rewrite_in_place(
     }
 }
 
-/// Replaces pods by their encodings, at their front: they are patched where none gets shorter.
+/// Replaces pods by their encodings, at their front: those before the first one that gets shorter are patched where they are.
 #[cfg_attr(not(debug_assertions), inline(always))]
 fn place_rest(changed: ChangedPods, pods: &mut [u8]) {
-    if changed.surplus > 0 {
-        move_rest(changed, pods);
-    } else {
-        patch_all(&mut pods[..changed.len]);
-    }
+    patch_all(&mut pods[..changed.same_length]);
+    move_rest(
+        changed.others,
+        changed.surplus,
+        &mut pods[changed.same_length..],
+    );
 }
 
-/// Replaces pods by their encodings, at their front. Canonical pods behind the last one that isn't are moved at once.
+/// Replaces pods by their encodings, at their front: so many bytes of them are written, and canonical pods behind them moved at once.
 #[cfg_attr(not(debug_assertions), inline(always))]
-fn move_rest(changed: ChangedPods, pods: &mut [u8]) {
-    let source = Within {
-        start: 0,
-        end: changed.len,
-    };
-    let end = write_all(changed.surplus, source, &mut pods[..changed.len]);
+fn move_rest(len: usize, surplus: usize, pods: &mut [u8]) {
+    let source = Within { start: 0, end: len };
+    let end = write_all(surplus, source, &mut pods[..len]);
     let tail = Within {
-        start: changed.len - end,
+        start: len - end,
         end: pods.len() - end,
     };
     tail.carry(&mut pods[end..]);

@@ -2,46 +2,53 @@
 use crate::shims::prelude::*;
 use crate::parts::spa_names::guesses::{DISPLACEMENTS, GUESSES};
 
-/// What a name's word, its length, how many names its table has, and the name's second byte are multiplied by; tables/generate.py has the same.
-const MULTIPLIER: u64 = 0x3ceb3ffd;
+/// What the sum that a hash is made of is multiplied by; tables/generate.py has each of these numbers, too.
+const MULTIPLIER: u64 = 0x6513270e269e0d37;
 
-const OF_LENGTH: u64 = 0x9e37;
+/// What the last four bytes of a name are multiplied by.
+const OF_LAST: u64 = 0x85ebca6b;
 
-const OF_COUNT: u64 = 0x79b9;
+/// What the length of a name is multiplied by.
+const OF_LENGTH: u64 = 0xc2b2ae35;
 
-const OF_SECOND: u64 = 0x5bd1;
+/// What the number of names of a table is multiplied by.
+const OF_COUNT: u64 = 0x27d4eb2f;
 
-/// Where a table of so many names is likely to have this one: the index among the names, and that among the entries.
+/// Where a table of so many names is likely to have this one: the index among the names, and that among the entries. Nothing is proved of
+/// these numbers: the caller compares what stands there, so a wrong guess costs time alone.
 pub(crate) fn guess_of(name: &str, count: usize) -> (usize, usize) {
     let hash = hash_of(name.as_bytes(), count);
-    let displacement = match DISPLACEMENTS.get((hash >> 24) as usize % DISPLACEMENTS.len()) {
+    let displacement = match DISPLACEMENTS.get((hash >> 56) as usize) {
         Some(displacement) => *displacement as u64,
         None => 0,
     };
-    let slot = ((hash >> 12) ^ (displacement * 4)) as usize;
+    let slot = ((hash >> 40) ^ (displacement * 4)) as usize;
     match GUESSES.get(slot % GUESSES.len()) {
         Some(guess) => (guess.0 as usize, guess.1 as usize),
         None => (0, 0),
     }
 }
 
-/// A number whose lowest 32 bits are made of five bytes of a name, of its length, and of how many names its table has.
+/// A number whose highest bits are made of the first and last four bytes of a name, of its length, and of how many names its table has.
 fn hash_of(name: &[u8], count: usize) -> u64 {
-    let len = name.len();
-    let before_last = byte_at(name, len.wrapping_sub(2));
-    let last = byte_at(name, len.wrapping_sub(1));
-    let bytes = [byte_at(name, 0), byte_at(name, len / 2), before_last, last];
-    let sizes = (len as u64)
+    let words = match (name.first_chunk::<4>(), name.last_chunk::<4>()) {
+        (Some(first), Some(last)) => {
+            let last = u32::from_le_bytes(*last) as u64;
+            (u32::from_le_bytes(*first) as u64).wrapping_add(last.wrapping_mul(OF_LAST))
+        }
+        _ => short_word(name),
+    };
+    let sizes = (name.len() as u64)
         .wrapping_mul(OF_LENGTH)
         .wrapping_add((count as u64).wrapping_mul(OF_COUNT));
-    let others = sizes.wrapping_add(byte_at(name, 1) as u64 * OF_SECOND);
-    (u32::from_le_bytes(bytes) as u64 ^ others).wrapping_mul(MULTIPLIER)
+    words.wrapping_add(sizes).wrapping_mul(MULTIPLIER)
 }
 
-/// A byte of a name, or 0 where it has none.
-fn byte_at(name: &[u8], at: usize) -> u8 {
-    match name.get(at) {
-        Some(byte) => *byte,
-        None => 0,
+/// The bytes of a name of fewer than four, as one number.
+fn short_word(name: &[u8]) -> u64 {
+    let mut word = 0u64;
+    for byte in name {
+        word = (word << 8) | *byte as u64;
     }
+    word
 }

@@ -6,6 +6,7 @@ use crate::parts::spa_names::entry::{Entry, Expected};
 use crate::parts::spa_names::guess::guess_of;
 use crate::parts::spa_names::key_entries::EXPECTED;
 use crate::parts::spa_names::table::{OBJECTS, Table};
+use crate::parts::spa_names::types::OBJECT_PROP_INFO;
 use crate::parts::spa_utils::SpaTypes;
 
 /// The name of a number. None: the table has none.
@@ -91,9 +92,18 @@ pub fn ids_of(type_: SpaTypes) -> Table {
     }
 }
 
+/// The number of the first type of parameters less its index in `OBJECTS`.
+const FIRST_PLACE: u32 = OBJECT_PROP_INFO - 3;
+
 /// The tables of a type of objects.
 fn object_of(type_: SpaTypes) -> Option<(u32, Table, Table)> {
     let objects: &'static [(u32, Table, Table)] = &OBJECTS;
+    // The types of parameters stand last, and leave out no number.
+    if let Some(object) = objects.get(type_.0.wrapping_sub(FIRST_PLACE) as usize) {
+        if object.0 == type_.0 {
+            return Some(*object);
+        }
+    }
     match objects.binary_search_by_key(&type_.0, |object| object.0) {
         Ok(at) => Some(objects[at]),
         Err(_) => None,

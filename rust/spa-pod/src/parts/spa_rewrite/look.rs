@@ -30,11 +30,13 @@ pub struct AcceptedPods {
     pub surplus: usize,
 }
 
-/// Pods one after another that are all accepted, of which the last ones are canonical.
+/// Pods one after another that are all accepted: first those before the one that gets shorter, then others, and then canonical ones.
 #[derive(Clone, Copy)]
 pub struct ChangedPods {
-    /// How many bytes the pods take before these.
-    pub len: usize,
+    /// How many first bytes are pods that are as long as their encodings.
+    pub same_length: usize,
+    /// How many bytes of pods follow these, up to the last one that isn't canonical.
+    pub others: usize,
     /// By how many bytes the encodings of all are shorter than the pods.
     pub surplus: usize,
 }
@@ -113,41 +115,32 @@ pub fn look_at_pods(pods: &[u8]) -> Result<AcceptedPods, (&[u8], Rejected<'_>)> 
     Ok(AcceptedPods { canonical, surplus })
 }
 
-/// By how many bytes the encodings of all pods of an input are shorter than these. It is refused as `look_at_pods` is, and as too deep also where
-/// pods get shorter and more than `LEVELS` structs and objects stand in one another, wherever these end: what writes such pods calls itself for each.
-pub fn surplus_of_each(pods: &[u8]) -> Result<usize, (&[u8], Rejected<'_>)> {
-    let all = match look_at_pods(pods) {
-        Ok(all) => all,
-        Err(refusal) => return Err(refusal),
-    };
-    if all.surplus > 0 && !are_shallow(pods) {
-        return Err((pods, Rejected::TooDeep));
-    }
-    Ok(all.surplus)
-}
-
-/// The pods of an input up to the last one that isn't canonical, and by how many bytes the encodings of all are shorter than these. It is refused as
-/// `surplus_of_each` is, but that structs and objects don't count that end where the input does.
+/// Finds the pods of an input that are patched where they are, those that are written, and canonical ones behind them. It is refused as `look_at_pods` is,
+/// and as too deep also where more than `LEVELS` structs and objects stand in one another in one that is written, not counting those that end where all of
+/// these do: what writes such pods calls itself for each.
 pub fn changed_pods(pods: &[u8]) -> Result<ChangedPods, (&[u8], Rejected<'_>)> {
     let changed = match look_for_changes(pods) {
         Ok(changed) => changed,
         Err(refusal) => return Err(refusal),
     };
-    if changed.surplus > 0 && !are_shallow(pods) {
-        if !are_shallow_but_at_end(pods) {
+    let (_, rest) = pods.split_at(changed.same_length);
+    let (written, _) = rest.split_at(changed.others);
+    if !are_shallow(written) {
+        if !are_shallow_but_at_end(written) {
             return Err((pods, Rejected::TooDeep));
         }
     }
     Ok(changed)
 }
 
-/// How many pods aren't asked whether they are canonical behind one that was and isn't: so many pods that change cost few questions.
-const UNASKED: usize = 15;
+/// How many bytes of pods are looked at or written together at most: so many fit into a processor's cache.
+const BLOCK: usize = 65536;
 
-/// How many aren't asked once one of them is passed, or one that was asked and isn't canonical.
+/// How many bytes of pods aren't asked whether they are canonical, behind one that was and isn't, where so many weren't before: none behind canonical
+/// pods, and more while no pod that is asked is canonical.
 #[cfg_attr(not(debug_assertions), inline(always))]
-pub(crate) fn fewer_unasked(unasked: usize) -> usize {
-    if unasked == 0 { UNASKED } else { unasked - 1 }
+pub(crate) fn more_unasked(unasked: usize) -> usize {
+    if unasked < BLOCK { 4 * unasked } else { BLOCK }
 }
 
 /// Looks at all pods for those that `changed_pods` answers, wherever structs and objects end.
@@ -155,23 +148,36 @@ fn look_for_changes(pods: &[u8]) -> Result<ChangedPods, (&[u8], Rejected<'_>)> {
     let list = Inside { keyed: false, pods };
     let mut frames = [list; FEW];
     let mut left = pods;
-    let mut tail = pods;
+    let (mut others, mut tail) = (pods, pods);
     let mut surplus = 0;
-    let mut unasked = 0;
+    let (mut unasked, mut asked_from) = (1, 0);
     while !left.is_empty() {
-        let pod = match look_at_front(unasked == 0, left, &mut frames) {
+        let at = pods.len() - left.len();
+        let asked = at >= asked_from;
+        let pod = match look_at_front(asked, left, &mut frames) {
             Ok(pod) => pod,
             Err(why) => return Err((left, why)),
         };
+        if pod.canonical {
+            unasked = 1;
+        } else {
+            if asked {
+                unasked = more_unasked(unasked);
+                asked_from = at.saturating_add(unasked);
+            }
+            if surplus == 0 {
+                others = if pod.surplus == 0 { pod.rest } else { left };
+            }
+            tail = pod.rest;
+        }
         surplus += pod.surplus;
         left = pod.rest;
-        if !pod.canonical {
-            tail = left;
-            unasked = fewer_unasked(unasked);
-        }
     }
-    let len = pods.len() - tail.len();
-    Ok(ChangedPods { len, surplus })
+    Ok(ChangedPods {
+        same_length: pods.len() - others.len(),
+        others: others.len() - tail.len(),
+        surplus,
+    })
 }
 
 /// Whether at most `LEVELS` structs and objects stand in one another in each of the pods, not counting those that end where the input does.

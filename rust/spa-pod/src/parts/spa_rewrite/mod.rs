@@ -15,7 +15,6 @@ pub use canonical::is_canonical;
 pub use leading::{canonical_front, canonical_stretch};
 pub use look::{
     AcceptedPod, AcceptedPods, ChangedPods, Rejected, changed_pods, look_at_pod, look_at_pods,
-    surplus_of_each,
 };
 pub use patch::patch_all;
 pub use rewriting::{accept_all, append_value, rewrite, rewrite_all, rewrite_in_parts};

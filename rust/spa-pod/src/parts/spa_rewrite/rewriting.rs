@@ -6,13 +6,16 @@
 use crate::shims::prelude::*;
 use crate::parts::spa_rewrite::leading::{canonical_pods, canonical_stretch};
 use crate::parts::spa_rewrite::look::{
-    AcceptedPod, DEEP_BODY, FEW, Rejected, fewer_unasked, look_at_front, look_at_pods,
+    AcceptedPod, DEEP_BODY, FEW, Found, Rejected, look_at_front, look_at_pods, look_into,
+    more_unasked,
 };
 use crate::parts::spa_rewrite::patch::patch_all;
 use crate::parts::spa_rewrite::source::Apart;
-use crate::parts::spa_rewrite::steady::Inside;
+use crate::parts::spa_rewrite::steady::{Inside, inside_of, short_front};
+use crate::parts::spa_rewrite::surplus::leaf_surplus;
 use crate::parts::spa_rewrite::write::write_pods;
 use crate::parts::spa_bodies::error_at;
+use crate::parts::spa_bytes::open;
 use crate::parts::spa_fixed_sized::{DeserializeError, Refusal};
 use crate::parts::spa_read::{Refused, read_value};
 use crate::parts::spa_scan::{LEVELS, nests_within};
@@ -113,6 +116,7 @@ fn append_all<'a>(input: &'a [u8], out: &mut Vec<u8>) -> Result<(), (&'a [u8], R
     let mut frames = [list; FEW];
     let start = out.len();
     let mut left = input;
+    let mut unasked = 1;
     loop {
         let Some(others) = append_canonical(left, &mut frames, out) else {
             out.truncate(start);
@@ -121,7 +125,12 @@ fn append_all<'a>(input: &'a [u8], out: &mut Vec<u8>) -> Result<(), (&'a [u8], R
         if others.is_empty() {
             return Ok(());
         }
-        match append_others(others, &mut frames, out) {
+        unasked = if others.len() < left.len() {
+            1
+        } else {
+            more_unasked(unasked)
+        };
+        match append_others(unasked, others, &mut frames, out) {
             Ok(rest) => left = rest,
             Err(refused) => {
                 out.truncate(start);
@@ -163,95 +172,97 @@ struct Section<'a> {
     pods: &'a [u8],
     /// By how many bytes their encodings are shorter.
     surplus: usize,
-    /// A canonical pod behind them, or nothing.
-    canonical: &'a [u8],
     /// What follows.
     rest: &'a [u8],
 }
 
-/// How many bytes of pods that aren't canonical are looked at before they are written: so many fit into a processor's cache.
-const BLOCK: usize = 65536;
-
-/// Appends the encodings of pods the first of which isn't canonical, and answers what follows them. Refused is the first of them.
+/// Appends the encodings of pods the first of which isn't canonical, some `len` bytes, and answers what follows them. Refused is the first of them.
 fn append_others<'a>(
+    len: usize,
     pods: &'a [u8],
     frames: &mut [Inside<'a>],
     out: &mut Vec<u8>,
 ) -> Result<&'a [u8], Refused<'a>> {
-    let section = look_over(pods, frames);
+    let section = look_over(len, pods, frames);
     if section.pods.is_empty() {
         return append_front(pods, frames, out);
     }
-    let Some(()) = append_pods(section.pods, section.surplus, out) else {
-        return Err(lacking_memory(pods));
-    };
-    let (_, behind) = pods.split_at(section.pods.len());
-    match out.try_extend_from_slice(section.canonical) {
-        Ok(()) => Ok(section.rest),
-        Err(_) => Ok(behind),
+    match append_pods(section.pods, section.surplus, out) {
+        Some(()) => Ok(section.rest),
+        None => Err(lacking_memory(pods)),
     }
 }
 
-/// Looks at the first pods, as long as they are accepted and aren't canonical: canonical ones that aren't asked are among them, too. Pods that keep
-/// their length end before one that gets shorter, since they are patched.
+/// Looks at the first pods, as long as they are accepted and up to one that ends behind so many bytes. Pods that keep their length end before one that
+/// gets shorter, since they are patched; and all before one that would be written and in which more than `LEVELS` structs and objects stand in one another,
+/// wherever these end: what writes such a pod calls itself for each.
 #[cfg_attr(not(debug_assertions), inline(always))]
-fn look_over<'a>(pods: &'a [u8], frames: &mut [Inside<'a>]) -> Section<'a> {
+fn look_over<'a>(len: usize, pods: &'a [u8], frames: &mut [Inside<'a>]) -> Section<'a> {
     let mut left = pods;
     let mut surplus = 0;
-    // The first one was asked.
-    let mut unasked = 1;
-    loop {
-        let seen = pods.len() - left.len();
-        if seen >= BLOCK {
-            return cut_section(pods, left, left, surplus);
-        }
-        let Ok(pod) = look_to_write(unasked == 0, surplus > 0, left, frames) else {
-            return cut_section(pods, left, left, surplus);
+    while pods.len() - left.len() < len {
+        let Some((rest, more)) = behind_front(left, frames) else {
+            return cut_section(pods, left, surplus);
         };
-        if pod.canonical {
-            return cut_section(pods, left, pod.rest, surplus);
+        if surplus == 0 && more > 0 && left.len() < pods.len() {
+            return cut_section(pods, left, surplus);
         }
-        if seen > 0 && surplus == 0 && pod.surplus > 0 {
-            return cut_section(pods, left, left, surplus);
+        let all = surplus + more;
+        if all > 0 && is_deep(left, rest) {
+            return cut_section(pods, left, surplus);
         }
-        unasked = fewer_unasked(unasked);
-        surplus += pod.surplus;
-        left = pod.rest;
+        surplus = all;
+        left = rest;
+    }
+    cut_section(pods, left, surplus)
+}
+
+/// What follows the pod at the front, where a look accepts it, and by how many bytes its encoding is shorter. It isn't asked whether the pod is canonical.
+#[cfg_attr(not(debug_assertions), inline(always))]
+fn behind_front<'a>(input: &'a [u8], frames: &mut [Inside<'a>]) -> Option<(&'a [u8], usize)> {
+    if let Some(rest) = short_front(input) {
+        return Some((rest, 0));
+    }
+    let front = open(input)?;
+    let Some(inside) = inside_of(front.type_, front.body) else {
+        let surplus = leaf_surplus(front.type_, front.body)?;
+        return Some((front.rest, surplus));
+    };
+    match look_into(false, inside.keyed, false, inside.pods, frames) {
+        Found::Fits(_, surplus) => Some((front.rest, surplus)),
+        _ => None,
     }
 }
 
-/// The pods up to what is left of them, whose encodings are so many bytes shorter, and a canonical one up to the rest.
+/// Whether more than `LEVELS` structs and objects stand in one another in the pod at the front, which the rest follows.
 #[cfg_attr(not(debug_assertions), inline(always))]
-fn cut_section<'a>(pods: &'a [u8], left: &'a [u8], rest: &'a [u8], surplus: usize) -> Section<'a> {
-    let (some, _) = pods.split_at(pods.len() - left.len());
-    let (canonical, _) = left.split_at(left.len() - rest.len());
+fn is_deep(input: &[u8], rest: &[u8]) -> bool {
+    input.len() - rest.len() >= DEEP_BODY && !nests_within(input, LEVELS)
+}
+
+/// The pods up to what is left of them, whose encodings are so many bytes shorter.
+#[cfg_attr(not(debug_assertions), inline(always))]
+fn cut_section<'a>(pods: &'a [u8], left: &'a [u8], surplus: usize) -> Section<'a> {
+    let (first, rest) = pods.split_at(pods.len() - left.len());
     Section {
-        pods: some,
+        pods: first,
         surplus,
-        canonical,
         rest,
     }
 }
 
-/// Looks at the pod at the front as `look_at_front` does, and rejects pods as too deep that are written and hold more than `LEVELS` structs and
-/// objects in one another, wherever these end: what writes such a pod calls itself for each. Written are those that get shorter, and, where `moves`
-/// is set, all that aren't canonical.
+/// Looks at the pod at the front, and rejects it as too deep also where it gets shorter and is deep.
 #[cfg_attr(not(debug_assertions), inline(always))]
 fn look_to_write<'a>(
-    canonical: bool,
-    moves: bool,
     input: &'a [u8],
     frames: &mut [Inside<'a>],
 ) -> Result<AcceptedPod<'a>, Rejected<'a>> {
-    let pod = match look_at_front(canonical, input, frames) {
+    let pod = match look_at_front(true, input, frames) {
         Ok(pod) => pod,
         Err(rejected) => return Err(rejected),
     };
-    let written = pod.surplus > 0 || moves && !pod.canonical;
-    if written && input.len() - pod.rest.len() >= DEEP_BODY {
-        if !nests_within(input, LEVELS) {
-            return Err(Rejected::TooDeep);
-        }
+    if pod.surplus > 0 && is_deep(input, pod.rest) {
+        return Err(Rejected::TooDeep);
     }
     Ok(pod)
 }
@@ -277,7 +288,7 @@ fn append_front<'a>(
     frames: &mut [Inside<'a>],
     out: &mut Vec<u8>,
 ) -> Result<&'a [u8], Refused<'a>> {
-    match look_to_write(true, false, input, frames) {
+    match look_to_write(input, frames) {
         Ok(pod) => {
             let (front, _) = input.split_at(input.len() - pod.rest.len());
             match append_pod(pod.canonical, front, pod.surplus, out) {

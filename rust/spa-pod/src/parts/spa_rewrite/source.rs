@@ -7,7 +7,7 @@ pub trait Source: Copy {
     /// The pods.
     fn read<'a>(&'a self, out: &'a [u8]) -> &'a [u8];
 
-    /// Whether the pods in others are looked through for runs, which are copied at once. To another buffer they are written faster without it.
+    /// Whether pods are looked through for runs, which are copied at once. To another buffer they are written faster without it.
     fn looks_for_runs(&self) -> bool;
 
     /// The pods from one place to another, for the output from the place `at` on.

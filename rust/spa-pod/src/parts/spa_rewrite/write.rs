@@ -21,6 +21,7 @@ const UNLOOKED: usize = 1024;
 /// A struct or object in tail position may stand at any depth: where its encoding ends is known before it is written.
 pub fn write_all<S: Source>(surplus: usize, source: S, out: &mut [u8]) -> usize {
     let end = source.read(out).len() - surplus;
+    let looks = source.looks_for_runs();
     let (mut outermost, mut keyed) = (true, false);
     // A look at all pods has ended at the first.
     let mut look_at = 1;
@@ -28,7 +29,7 @@ pub fn write_all<S: Source>(surplus: usize, source: S, out: &mut [u8]) -> usize 
     loop {
         let pods = source.read(out);
         let left = &pods[from..];
-        if let Some(run) = run_len(outermost, keyed, &mut look_at, from, left) {
+        if let Some(run) = run_len(looks, outermost, keyed, &mut look_at, from, left) {
             put_run(source, out, from, to, run);
             from += run;
             to += run;
@@ -61,39 +62,24 @@ pub fn write_all<S: Source>(surplus: usize, source: S, out: &mut [u8]) -> usize 
     }
 }
 
-/// How many bytes the pods from a place on take that are a run, with key and flags before each where `keyed` is set, if there is one. Before the
-/// place to look at none is looked for. That goes on: behind a run to the pod behind the one that ended it.
+/// How many bytes the pods from a place on take that are a run, with key and flags before each where `keyed` is set, if there is one. None is looked for
+/// where `looks` isn't set, or before the place to look at. That goes on: behind a run to the pod behind the one that ended it.
 #[cfg_attr(not(debug_assertions), inline(always))]
 fn run_len(
+    looks: bool,
     outermost: bool,
     keyed: bool,
     look_at: &mut usize,
     from: usize,
     left: &[u8],
 ) -> Option<usize> {
-    if from < *look_at {
+    if !looks || from < *look_at {
         return None;
     }
     let len = run_at(outermost, keyed, left);
     let unlooked = if len < LONG_RUN { UNLOOKED } else { 1 };
     *look_at = from.saturating_add(len).saturating_add(unlooked);
     if len == 0 { None } else { Some(len) }
-}
-
-/// Does what `run_len` does for pods in others, where `looks` is set; else there is none.
-#[cfg_attr(not(debug_assertions), inline(always))]
-fn run_inside(
-    looks: bool,
-    keyed: bool,
-    look_at: &mut usize,
-    from: usize,
-    left: &[u8],
-) -> Option<usize> {
-    if looks {
-        run_len(false, keyed, look_at, from, left)
-    } else {
-        None
-    }
 }
 
 /// How many bytes the first canonical pods take. Inside others only pods that hold none are looked at: a look at structs would be one at each level
@@ -154,7 +140,7 @@ pub fn write_pods<S: Source>(keyed: bool, source: S, out: &mut [u8]) -> usize {
     loop {
         let pods = source.read(out);
         let left = &pods[from..];
-        if let Some(run) = run_inside(looks, keyed, &mut look_at, from, left) {
+        if let Some(run) = run_len(looks, false, keyed, &mut look_at, from, left) {
             put_run(source, out, from, to, run);
             from += run;
             to += run;

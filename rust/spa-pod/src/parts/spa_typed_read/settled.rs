@@ -10,8 +10,10 @@ use crate::parts::spa_utils::SpaTypes;
 use crate::parts::spa_view::{FixedPod, FromPod, Pod};
 
 /// A value of one of the ten types of fixed size, read as itself or as the value of a None choice. Fixation leaves a None choice where a
-/// format had another choice, so `Required<KEY, Settled<i32>>` reads a property of any fixated format. It asks for no memory. A None choice
-/// over a text or over bytes is no pod, so texts and bytes need no `Settled`.
+/// format had another choice, so `Required<KEY, Settled<i32>>` reads a property also of a fixated format. It asks for no memory.
+///
+/// The whole object has to be a pod. Formats of real programs may have None choices over arrays or texts, which are no pods: rewrite them by
+/// `rewrite_leniently` first.
 pub struct Settled<T>(pub T);
 
 /// The zero-copy view of the pod at the front, where it is a choice's. None: the front isn't there or is of another type.

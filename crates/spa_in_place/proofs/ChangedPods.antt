@@ -9,7 +9,7 @@ use Rattle.spa_rewrite.specs.Look.{AreChanged}
 use Rattle.spa_rewrite.specs.Placed.{WritesPods}
 use Rattle.spa_rewrite.specs.Rewriting.{AreRewritten}
 use Rattle.spa_rewrite.specs.Shorter.{AreShorter}
-use Rattle.spa_rewrite.specs.Steady.{ArePatched}
+use Rattle.spa_rewrite.specs.Patched.{ArePatched}
 use Rattle.spa_rewrite.specs.declared.look.ChangedPods.{ChangedPods}
 use Rattle.spa_rewrite.proofs.Changed.{others_shorter}
 use Rattle.spa_rewrite.proofs.Patches.{put_end}

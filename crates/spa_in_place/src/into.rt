@@ -19,7 +19,8 @@ use spa_rewrite::{
 /// counting those that end where the input does: then it writes nothing.
 pub fn rewrite_into(input: &[u8], out: &mut [u8]) -> Option<usize>
     ensures counted { IfSome result (λ len. AreRewrittenAs input.now len) }
-    ensures rewritten { IfSome result (λ len. length input.now ≤ length out.old → AreRewritten input.now [] (take len out.new)) }
+    ensures rewritten { IfSome result (λ len. length input.now ≤ length out.old
+        → AreRewritten input.now [] (take len out.new)) }
     ensures behind { IfSome result (λ len. drop len out.new ≡ drop len out.old) }
     ensures missed { IfNone result (¬ (ArePodsWithin levels_looked_into input.now)) }
     ensures unchanged { IfNone result (out.new ≡ out.old) }

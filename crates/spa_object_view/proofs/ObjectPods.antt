@@ -19,7 +19,7 @@ use Rattle.spa_bodies.specs.Refusing.{Says}
 use Rattle.spa_scan.specs.Canonical.{BeginsCanonical}
 use Rattle.spa_rewrite.specs.Look.{IsRejected, IsTooDeep}
 use Rattle.spa_rewrite.specs.Rewriting.{IsRewriting}
-use Rattle.spa_rewrite.specs.Steady.{IsInside}
+use Rattle.spa_rewrite.specs.Inside.{IsInside}
 use Rattle.spa_rewrite.specs.declared.look.Rejected.{Rejected}
 use Rattle.spa_rewrite.specs.declared.look.Rejected.TheVariants as rejected
 use Rattle.spa_rewrite.proofs.Accepted.{fault_front}

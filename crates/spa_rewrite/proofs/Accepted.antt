@@ -27,7 +27,7 @@ use Rattle.spa_scan.proofs.Frames.{no_stretch, stretch_parts}
 use Rattle.spa_rewrite.specs.Look.{AreAccepted, AreLooked, AreMet, IsAccepted, IsAcceptedAsked, IsRejected, StopsAt}
 use Rattle.spa_rewrite.specs.Rewriting.{IsLeft, RefusesFront, RefusesList}
 use Rattle.spa_rewrite.specs.Shorter.{ArePodsWithin, BeginsShorter, IsShorterBody}
-use Rattle.spa_rewrite.specs.Steady.{IsBehindKey, IsInside}
+use Rattle.spa_rewrite.specs.Inside.{IsBehindKey, IsInside}
 use Rattle.spa_rewrite.specs.declared.look.AcceptedPod.{AcceptedPod}
 use Rattle.spa_rewrite.specs.declared.look.Rejected.{Rejected}
 use Rattle.spa_rewrite.specs.declared.look.Rejected.TheVariants as rejected
@@ -38,8 +38,8 @@ use Rattle.spa_rewrite.proofs.Refusals.{front_refused}
 use Rattle.spa_rewrite.proofs.Rewritten.{member_encodings-push, parted}
 use Rattle.spa_rewrite.proofs.ShorterLemmas.{CountsOn, counts_all, counts_more, counts_none, first_within, shorter_inside, shorter_opened, within_behind}
 use Rattle.spa_rewrite.proofs.Stretches.{FirstMembers, list_refused, no_first_member}
-use Rattle.spa_rewrite.proofs.SteadyFound.{leaf_depth, never}
-use Rattle.spa_rewrite.proofs.SteadyLemmas.{left_shorter}
+use Rattle.spa_rewrite.proofs.LeafBodies.{leaf_depth, never}
+use Rattle.spa_rewrite.proofs.SameLength.{left_shorter}
 
 -- no struct or object begins there
 pub leaf_shallow : (here body rest : List ℕ) (type : ℕ) → Opens here type body rest → type ≢ struct_type → (type ≡ object_type → length body < header_size) →

@@ -14,10 +14,10 @@ use Rattle.spa_rewrite.specs.Look.{IsAcceptedAsked}
 use Rattle.spa_rewrite.specs.Placed.{WritesPods}
 use Rattle.spa_rewrite.specs.Rewriting.{AppendsEncodings, AppendsFront, IsLookedOver}
 use Rattle.spa_rewrite.specs.Shorter.{AreShorter, BeginsShorter}
-use Rattle.spa_rewrite.specs.Steady.{ArePatched}
+use Rattle.spa_rewrite.specs.Patched.{ArePatched}
 use Rattle.spa_rewrite.specs.declared.look.AcceptedPod.{AcceptedPod}
 use Rattle.spa_rewrite.proofs.Rewritten.{parted}
-use Rattle.spa_rewrite.proofs.SteadyFound.{never}
+use Rattle.spa_rewrite.proofs.LeafBodies.{never}
 use Rattle.spa_rewrite.proofs.Stretches.{member_encodings-join}
 use Rattle.spa_rewrite.proofs.Written.{take_past}
 

@@ -24,11 +24,11 @@ use Rattle.spa_bodies.proofs.Refusals.{at_front_of, says_through}
 use Rattle.spa_bodies.proofs.Steps.{pod_read}
 use Rattle.spa_scan.specs.Depth.{depth_of}
 use Rattle.spa_rewrite.specs.Look.{AreCanonicalInside, StandsInside, StopsAt}
-use Rattle.spa_rewrite.specs.Steady.{IsBehindKey}
+use Rattle.spa_rewrite.specs.Inside.{IsBehindKey}
 use Rattle.spa_rewrite.proofs.Bodies.{fewer, listed}
 use Rattle.spa_rewrite.proofs.Looks.{first_own, stands_first}
-use Rattle.spa_rewrite.proofs.SteadyFound.{leaf_depth, some_key}
-use Rattle.spa_rewrite.proofs.SteadyLemmas.{steady_array}
+use Rattle.spa_rewrite.proofs.LeafBodies.{leaf_depth, some_key}
+use Rattle.spa_rewrite.proofs.SameLength.{array_same_length}
 
 -- no pod begins there, and not for what is inside it
 pub record IsFaulted (here : List ℕ) : Type 0 where
@@ -144,7 +144,7 @@ wrong_array body k h t n = record {
     | inl e ↦ inr (λ many l.
         let d = length-drop 8 body in
         let w : AreWhole (body_size k) (drop 8 body) = record { many = many; count = omega arith } in
-        let s = steady_array body (drop 8 body) (record { header = h; its = record { kind = k; its_number = t; whole = w }; child_size = e; behind = refl }) in
+        let s = array_same_length body (drop 8 body) (record { header = h; its = record { kind = k; its_number = t; whole = w }; child_size = e; behind = refl }) in
         n s.value s.its_type s.its_body)
   ];
 }

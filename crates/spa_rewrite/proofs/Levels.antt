@@ -16,7 +16,7 @@ use Rattle.spa_bytes.specs.Opening.{Opens}
 use Rattle.spa_scan.specs.Depth.{IsDeepBody, NestsDeeper, SomeOf, depth_of, levels_looked_into, member_depth, property_depth}
 use Rattle.spa_scan.proofs.Deeper.{deep_front, deep_input, value_of_property}
 use Rattle.spa_rewrite.specs.Look.{IsTooDeep, NestMore, nest_behind, nest_here, nest_inside, nest_last}
-use Rattle.spa_rewrite.specs.Steady.{IsBehindKey, IsInside}
+use Rattle.spa_rewrite.specs.Inside.{IsBehindKey, IsInside}
 
 -- more than so many structs and objects stand in one another in one of the properties, or of the members
 abbrev AreDeeper : ℕ → Bool → List ℕ → Type 0

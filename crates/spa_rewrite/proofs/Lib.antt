@@ -4,8 +4,8 @@ pub mod Stretches
 pub mod Own
 pub mod Bodies
 pub mod Truths
-pub mod SteadyLemmas
-pub mod SteadyFound
+pub mod SameLength
+pub mod LeafBodies
 pub mod Patches
 pub mod PatchSteps
 pub mod PatchedBodies

@@ -21,10 +21,10 @@ use Rattle.spa_scan.proofs.Opened.{object_inside, struct_inside}
 use Rattle.spa_rewrite.specs.Look.{AreLooked, DifferInside, NestMore, OpensInside, Passes, StandsInside, StopsAt, nest_behind, nest_inside, nest_last}
 use Rattle.spa_rewrite.specs.Look.{AreCanonicalInside}
 use Rattle.spa_rewrite.specs.Shorter.{AreShorterInside, BeginsShorter}
-use Rattle.spa_rewrite.specs.Steady.{IsBehindKey, IsInside}
-use Rattle.spa_rewrite.specs.declared.steady.Inside.{Inside}
+use Rattle.spa_rewrite.specs.Inside.{IsBehindKey, IsInside}
+use Rattle.spa_rewrite.specs.declared.inside.Inside.{Inside}
 use Rattle.spa_rewrite.proofs.ShorterLemmas.{shorter_inside, shorter_none, shorter_opened, shorter_room, shorter_step, whole_keyed, whole_list}
-use Rattle.spa_rewrite.proofs.SteadyFound.{never}
+use Rattle.spa_rewrite.proofs.LeafBodies.{never}
 use Rattle.spa_rewrite.proofs.Rewritten.{parted}
 
 -- a canonical pod in front of others

@@ -12,7 +12,8 @@ use Rattle.spa_format.specs.Typed.{IsBytes}
 use Rattle.spa_format.proofs.Fronts.{length-body_of, size_of_front, type_of_front}
 use Rattle.spa_format.proofs.WordLemmas.{IsBytes-drop, IsBytes-take}
 use Rattle.spa_bytes.specs.Opening.{Opens}
-use Rattle.spa_rewrite.specs.Steady.{ArePatched, BeginsWord, HoldsPods, IsPatched, IsPodOf, PatchesOn, key_size}
+use Rattle.spa_rewrite.specs.Inside.{HoldsPods, key_size}
+use Rattle.spa_rewrite.specs.Patched.{ArePatched, BeginsWord, IsPatched, IsPodOf, PatchesOn}
 use Rattle.spa_rewrite.proofs.PatchedBodies.{IsUnpatchedType, unpatched_body}
 use Rattle.spa_rewrite.proofs.Patches.{length_put, no_pods, object_patched, pods_patched, struct_patched, too_few}
 
@@ -267,7 +268,7 @@ runs_further keyed old now pod from at here next k r e l w x z p long y =
       on = λ all first h. word_done all keyed first now pod at here next k e l w x z p long y (r.on all first h);
     }
 
--- the same where it is known which of both stand there
+-- words are passed, where it is known whether these are properties or members
 pub runs_on : (keyed inner : Bool) (old now : List ℕ) (from at : ℕ) → keyed ≡ inner →
     ((all : Bool) (first : List ℕ) → PatchesOn all inner first old from → PatchesOn all inner first now at) →
     (all : Bool) (first : List ℕ) → PatchesOn all keyed first old from → PatchesOn all keyed first now at

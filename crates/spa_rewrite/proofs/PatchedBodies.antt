@@ -25,7 +25,7 @@ use Rattle.spa_scan.proofs.Words.{content_kept}
 use Rattle.spa_scan.specs.Canonical.{AreCanonicalElements}
 use Rattle.spa_scan.proofs.Parts.{no_elements, whole_elements}
 use Rattle.spa_rewrite.specs.Elements.{AreTruths}
-use Rattle.spa_rewrite.specs.Steady.{IsPatched, IsPodOf, TakesValues, TurnsWritten, bytes_taken}
+use Rattle.spa_rewrite.specs.Patched.{IsPatched, IsPodOf, TakesValues, TurnsWritten, bytes_taken}
 use Rattle.spa_rewrite.proofs.Bodies.{choice_parts, first_elements}
 use Rattle.spa_rewrite.proofs.Patches.{behind_bytes, framed_again, front_bytes, length_put, says_body, two_words_of}
 
@@ -337,7 +337,7 @@ choice_patched pod first els new number size n k shape flags child h p big w8 w1
     four_parts : (a b c d : List ℕ) → ((a ++ b) ++ c) ++ d ≡ a ++ (b ++ (c ++ d))
     four_parts a b c d = simp append_assoc
 
--- the same, whatever its first words were
+-- a choice whose first words are written anew, whatever they were
 pub values_patched : (old first els new : List ℕ) (number n k shape flags : ℕ) → IsBytes new → number ≡ word_at old 20 →
     ((s : Shape) → shape ≡ shape_number s → flags ≡ kept_flags s (word_at old 12)) →
     first ≡ (word_bytes (16 + n) ++ word_bytes choice_type) ++ (word_bytes shape ++ word_bytes flags) → k ≡ n →

@@ -16,7 +16,8 @@ use Rattle.spa_format.proofs.Shapes.{object_only, struct_only}
 use Rattle.spa_format.proofs.Short.{length-framed, padded_above, short_members, short_props, shortest}
 use Rattle.spa_format.proofs.WordLemmas.{IsBytes-drop, IsBytes-take, word_at-take}
 use Rattle.spa_scan.proofs.Words.{two_words_back}
-use Rattle.spa_rewrite.specs.Steady.{ArePatched, IsPatched, IsPodOf, key_size}
+use Rattle.spa_rewrite.specs.Inside.{key_size}
+use Rattle.spa_rewrite.specs.Patched.{ArePatched, IsPatched, IsPodOf}
 
 -- the two words at the front
 pub two_words_of : (b : List ℕ) → IsBytes (take 8 b) → 8 ≤ length b → take 8 b ≡ word_bytes (word_at b 0) ++ word_bytes (word_at b 4)

@@ -13,12 +13,12 @@ use Rattle.spa_format.proofs.Shapes.{choice_only}
 use Rattle.spa_format.proofs.Short.{length-framed, padded_above}
 use Rattle.spa_format.proofs.WordLemmas.{word_at-append, word_at-drop, word_at-take, word_at-word_bytes}
 use Rattle.spa_rewrite.specs.Placed.{IsPlaced, WritesPod}
-use Rattle.spa_rewrite.specs.Steady.{IsPatched, IsPodOf, TakesValues, bytes_taken}
+use Rattle.spa_rewrite.specs.Patched.{IsPatched, IsPodOf, TakesValues, bytes_taken}
 use Rattle.spa_rewrite.proofs.PatchedBodies.{taken_elements}
 use Rattle.spa_rewrite.proofs.Patches.{says_body}
 use Rattle.spa_rewrite.proofs.ShorterLemmas.{same_padded}
-use Rattle.spa_rewrite.proofs.SteadyFound.{leaf_depth}
-use Rattle.spa_rewrite.proofs.SteadyLemmas.{choice_length}
+use Rattle.spa_rewrite.proofs.LeafBodies.{leaf_depth}
+use Rattle.spa_rewrite.proofs.SameLength.{choice_length}
 
 -- types of pods without members, choices aside
 pub record IsLeafType (type : ℕ) : Type 0 where
@@ -52,7 +52,7 @@ leaf_written pod out front sub n type size e p t f q y =
       behind = drop_at sub (drop n (front ++ drop n out)) n many ∙ drop_at front (drop n out) n l;
     }
 
--- the same of a pod that is moved to the front of where it lies
+-- a pod that holds no others is moved to the front and patched there
 pub leaf_moved : (pod old x sub : List ℕ) (n type size : ℕ) → n ≡ length pod → IsPodOf pod type size → IsLeafType type → x ≡ take n pod ++ drop n old →
     IsPatched (take n x) sub → length sub ≡ length (take n x) → WritesPod pod old (sub ++ drop n x) n
 leaf_moved pod old x sub n type size e p t is q y =
@@ -244,7 +244,7 @@ choice_written pod out front sub end n size shape child p less e f w8 w16 taken 
       behind = drop_at sub (drop end x) end many ∙ drop_at front (drop end out) end l;
     }
 
--- the same of a choice that is moved to the front of where it lies
+-- a choice is moved to the front and patched there
 pub choice_moved : (pod old x sub : List ℕ) (end n size shape child : ℕ) → IsPodOf pod choice_type size → 16 + n ≤ size → end ≡ extent (16 + n) →
     x ≡ take end pod ++ drop end old → shape ≡ word_at pod 8 → child ≡ word_at pod 16 →
     ((s : Shape) → shape ≡ shape_number s → n ≡ bytes_taken s child (size - 16)) →

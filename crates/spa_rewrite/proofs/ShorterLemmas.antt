@@ -22,10 +22,10 @@ use Rattle.spa_scan.specs.Canonical.{AreCanonical, IsFixedLen}
 use Rattle.spa_scan.specs.Depth.{depth_of, member_depth, property_depth}
 use Rattle.spa_rewrite.specs.Elements.{HasValues}
 use Rattle.spa_rewrite.specs.Shorter.{AreInsideWithin, ArePodsWithin, ArePropertiesWithin, AreShorter, AreShorterInside, BeginsShorter, IsBodyWithin, IsShorterBody}
-use Rattle.spa_rewrite.specs.Steady.{IsBehindKey, IsInside}
+use Rattle.spa_rewrite.specs.Inside.{IsBehindKey, IsInside}
 use Rattle.spa_format.proofs.Sequences.{members_joined, members_left}
 use Rattle.spa_rewrite.proofs.Stretches.{member_encodings-join}
-use Rattle.spa_rewrite.proofs.SteadyLemmas.{as_long, kept_length, steady_fixed}
+use Rattle.spa_rewrite.proofs.SameLength.{as_long, kept_length, fixed_same_length}
 use Rattle.spa_rewrite.proofs.Rewritten.{parted}
 
 -- lists of pods are as long as a multiple of 8
@@ -80,7 +80,7 @@ shorter_short input rest size number len l z w e f p s d =
       shorter = omega arith;
       fits = omega arith;
     } in
-    shorter_opened input body rest number 0 o (steady_fixed number len body f (long ∙ e))
+    shorter_opened input body rest number 0 o (fixed_same_length number len body f (long ∙ e))
 
 -- what follows it
 pub shorter_room : (input rest : List ℕ) (n : ℕ) → BeginsShorter input rest n → n + length rest ≤ length input
@@ -291,9 +291,9 @@ same_padded (pointer t a) b w z n = elim w.1 [
 same_padded (struct vs) b w z n = absurd (omega arith)
 same_padded (object t i ps) b w z n = absurd (omega arith)
 
-pub leaf_steady : (type : ℕ) (body : List ℕ) (v : Tree) → type_of v ≡ type → depth_of v ≡ 0 → IsBody v body → type ≢ choice_type →
+pub leaf_same_length : (type : ℕ) (body : List ℕ) (v : Tree) → type_of v ≡ type → depth_of v ≡ 0 → IsBody v body → type ≢ choice_type →
     (s : IsShorterBody type body 0) × (depth_of s.value ≡ 0)
-leaf_steady type body v e z b n =
+leaf_same_length type body v e z b n =
     let s : IsShorterBody type body 0 = record { value = v; its_type = e; its_body = b; long = as_long _ _ (same_padded v body b z (λ c. n (sym e ∙ c))) } in
     (s, z)
 

@@ -9,7 +9,7 @@ use Rattle.spa_bodies.specs.Refusing.{Says, StandsInMembers, StandsInProperties}
 use Rattle.spa_scan.specs.Canonical.{AreCanonical, AreCanonicalProperties, BeginsCanonical}
 use Rattle.spa_scan.specs.Depth.{NestsDeeper, levels_looked_into}
 use Rattle.spa_rewrite.specs.Shorter.{AreShorter, AreShorterInside, BeginsShorter}
-use Rattle.spa_rewrite.specs.Steady.{IsBehindKey, IsInside}
+use Rattle.spa_rewrite.specs.Inside.{IsBehindKey, IsInside}
 use Rattle.spa_rewrite.specs.declared.look.AcceptedPod.{AcceptedPod}
 use Rattle.spa_rewrite.specs.declared.look.AcceptedPods.{AcceptedPods}
 use Rattle.spa_rewrite.specs.declared.look.ChangedPods.{ChangedPods}
@@ -41,10 +41,14 @@ pub record OpensInside (keyed : Bool) (left : List ℕ) (inner : Bool) (inside r
 
 -- More than so many structs and objects stand in one another in one of them, not counting those that nothing follows in the one around them.
 pub data NestMore : ℕ → Bool → List ℕ → Type 0 where
-  nest_here : (keyed inner : Bool) (left inside rest : List ℕ) → OpensInside keyed left inner inside rest → rest ≢ [] → NestMore 0 keyed left
-  nest_inside : (n : ℕ) (keyed inner : Bool) (left inside rest : List ℕ) → OpensInside keyed left inner inside rest → rest ≢ [] → NestMore n inner inside → NestMore (suc n) keyed left
-  nest_last : (n : ℕ) (keyed inner : Bool) (left inside rest : List ℕ) → OpensInside keyed left inner inside rest → rest ≡ [] → NestMore n inner inside → NestMore n keyed left
-  nest_behind : (n : ℕ) (keyed : Bool) (left at : List ℕ) → IsBehindKey keyed left at → HasFront at → NestMore n keyed (rest_of at) → NestMore n keyed left
+  nest_here : (keyed inner : Bool) (left inside rest : List ℕ) → OpensInside keyed left inner inside rest → rest ≢ [] →
+      NestMore 0 keyed left
+  nest_inside : (n : ℕ) (keyed inner : Bool) (left inside rest : List ℕ) → OpensInside keyed left inner inside rest →
+      rest ≢ [] → NestMore n inner inside → NestMore (suc n) keyed left
+  nest_last : (n : ℕ) (keyed inner : Bool) (left inside rest : List ℕ) → OpensInside keyed left inner inside rest →
+      rest ≡ [] → NestMore n inner inside → NestMore n keyed left
+  nest_behind : (n : ℕ) (keyed : Bool) (left at : List ℕ) → IsBehindKey keyed left at → HasFront at →
+      NestMore n keyed (rest_of at) → NestMore n keyed left
 
 -- The pod at the front nests in more levels than are looked into, also where those that nothing follows don't count.
 pub record IsTooDeep (input : List ℕ) : Type 0 where

@@ -6,7 +6,8 @@ use Rattle.spa_format.specs.Pod.{AreMembers, AreProperties, IsPod}
 use Rattle.spa_format.specs.Encoding.{encoding_of, member_encodings, property_encodings}
 use Rattle.spa_format.specs.Typed.{IsBytes}
 use Rattle.spa_rewrite.specs.Look.{AreCanonicalInside}
-use Rattle.spa_rewrite.specs.Steady.{HoldsPods, IsPodOf, key_size}
+use Rattle.spa_rewrite.specs.Inside.{HoldsPods, key_size}
+use Rattle.spa_rewrite.specs.Patched.{IsPodOf}
 
 -- this is the rewriting of a pod
 abbrev pub IsPlaced : List ℕ → List ℕ → Type 0
@@ -63,7 +64,8 @@ type_inside false = struct_type
 -- The header of a struct or an object whose encoding ends there is behind what is written, and an object's type and id, the first of these bytes, behind it.
 pub record PutsHeader (keyed : Bool) (key old new : List ℕ) (to end body : ℕ) : Type 0 where
   pub there : body ≡ to + 8 + key_size keyed
-  pub front : take body new ≡ take to old ++ ((word_bytes (end - (to + 8)) ++ word_bytes (type_inside keyed)) ++ take (key_size keyed) key)
+  pub front : take body new
+      ≡ take to old ++ ((word_bytes (end - (to + 8)) ++ word_bytes (type_inside keyed)) ++ take (key_size keyed) key)
   pub behind : drop body new ≡ drop body old
 
 -- the first of these pods, so many bytes, are canonical

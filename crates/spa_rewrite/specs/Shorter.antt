@@ -14,7 +14,7 @@ pub record AreShorter (body : List ℕ) (surplus : ℕ) : Type 0 where
   pub members : AreMembers values body
   pub long : surplus + length (member_encodings values) ≡ length body
 
--- the same with key and flags before each
+-- properties one after another whose rewritings are together so many bytes shorter: pods with key and flags before each
 pub record AreShorterProperties (body : List ℕ) (surplus : ℕ) : Type 0 where
   pub values : Properties
   pub properties : AreProperties values body
@@ -44,12 +44,13 @@ pub record ArePodsWithin (levels : ℕ) (body : List ℕ) : Type 0 where
   pub members : AreMembers values body
   pub shallow : member_depth values ≤ levels
 
--- the same with key and flags before each
+-- properties one after another that nest in so many levels at most
 pub record ArePropertiesWithin (levels : ℕ) (body : List ℕ) : Type 0 where
   pub values : Properties
   pub properties : AreProperties values body
   pub shallow : property_depth values ≤ levels
 
+-- properties, or members, that nest in so many levels at most
 abbrev pub AreInsideWithin : ℕ → Bool → List ℕ → Type 0
 AreInsideWithin levels true body = ArePropertiesWithin levels body
 AreInsideWithin levels false body = ArePodsWithin levels body

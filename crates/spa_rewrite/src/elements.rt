@@ -61,7 +61,8 @@ fn are_words(size: u32, type_: u32, len: usize) -> bool
 #[inline(always)]
 pub(crate) fn values_of(body: &[u8]) -> Option<&[u8]>
     ensures there { IfSome result (λ kept. HasValues body.now kept.now) }
-    ensures missed { IfNone result ((s : Shape) (f : ℕ) (k : Kind) (x : Fixed) (xs : List Fixed) → ¬ (IsChoice s f k x xs body.now)) }
+    ensures missed { IfNone result ((s : Shape) (f : ℕ) (k : Kind) (x : Fixed) (xs : List Fixed)
+        → ¬ (IsChoice s f k x xs body.now)) }
 {
     if body.len() < 2 * HEADER_LEN {
         return None;

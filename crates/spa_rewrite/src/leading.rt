@@ -4,8 +4,8 @@ ghost use Rattle.spa_format.specs.Front.{HasFront};
 ghost use Rattle.spa_scan.specs.Canonical.{AreCanonical, BeginsCanonical};
 ghost use Rattle.spa_scan.specs.Depth.{AreShallow, depth_of, levels_looked_into};
 
+use crate::inside::{Inside, inside_of};
 use crate::look::{FEW, Found, look_into};
-use crate::steady::{Inside, inside_of};
 use spa_bytes::open;
 use spa_scan::leaf_front;
 

@@ -12,12 +12,12 @@ ghost use Rattle.spa_rewrite.specs.Look.{AreAccepted, AreChanged, IsAccepted, Is
 ghost use Rattle.spa_rewrite.specs.Memory.{AreUnwritten};
 ghost use Rattle.spa_rewrite.specs.Rewriting.{IsLeft};
 ghost use Rattle.spa_rewrite.specs.Shorter.{ArePodsWithin, AreShorter, BeginsShorter};
-ghost use Rattle.spa_rewrite.specs.Steady.{IsInside};
+ghost use Rattle.spa_rewrite.specs.Inside.{IsInside};
 ghost use Rattle.spa_scan.specs.Canonical.{BeginsCanonical};
 ghost use Rattle.spa_scan.specs.Depth.{depth_of, levels_looked_into};
 
-use crate::steady::{CHOICE_HEADER, Inside, behind_key, inside_of, short_front};
-use crate::surplus::leaf_surplus;
+use crate::inside::{Inside, behind_key, inside_of};
+use crate::surplus::{CHOICE_HEADER, leaf_surplus, short_front};
 use spa_bodies::VALUE_TYPE_AT;
 use spa_bytes::{HEADER_LEN, SECOND_WORD, open, u32_at};
 use spa_fixed_sized::{FLAGS_SHAPE, Refusal};
@@ -586,7 +586,8 @@ fn behind_leaves(keyed: bool, pods: &[u8]) -> (&[u8], usize)
 fn stays_canonical(canonical: bool, pod: &[u8]) -> bool
     ensures so_far { result ≡ true → canonical ≡ true }
     ensures own { result ≡ true → BeginsCanonical pod.now (rest_of pod.now) }
-    ensures differs { result ≡ false → (canonical ≡ false) ⊎ ((rest : List ℕ) (c : BeginsCanonical pod.now rest) → 0 < depth_of c.value) }
+    ensures differs { result ≡ false
+        → (canonical ≡ false) ⊎ ((rest : List ℕ) (c : BeginsCanonical pod.now rest) → 0 < depth_of c.value) }
 {
     if !canonical {
         return false;

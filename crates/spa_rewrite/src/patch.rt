@@ -6,7 +6,8 @@ ghost use Rattle.spa_format.specs.Tree.{Shape, array_type, choice_type, object_t
 ghost use Rattle.spa_format.specs.Kind.{bool_kind, type_number};
 ghost use Rattle.spa_rewrite.specs.Elements.{AreTruths};
 ghost use Rattle.spa_format.specs.Words.{header_size, size_limit, word_at};
-ghost use Rattle.spa_rewrite.specs.Steady.{ArePatched, BeginsWord, HoldsPods, IsPatched, IsPodOf, IsWordType, PatchesOn, TakesValues, TurnsWritten, bytes_taken, key_size};
+ghost use Rattle.spa_rewrite.specs.Inside.{HoldsPods, key_size};
+ghost use Rattle.spa_rewrite.specs.Patched.{ArePatched, BeginsWord, IsPatched, IsPodOf, IsWordType, PatchesOn, TakesValues, TurnsWritten, bytes_taken};
 
 use crate::elements::written_flags;
 use spa_bytes::{
@@ -127,7 +128,8 @@ fn patch_inside(keyed: bool, bytes: &mut [u8])
 #[inline(always)]
 fn behind_words(keyed: bool, bytes: &mut [u8], from: usize) -> usize
     requires { from ≤ length bytes.old }
-    ensures patched { (all : Bool) (old : List ℕ) → PatchesOn all keyed old bytes.old from → PatchesOn all keyed old bytes.new result }
+    ensures patched { (all : Bool) (old : List ℕ) → PatchesOn all keyed old bytes.old from
+        → PatchesOn all keyed old bytes.new result }
     ensures within { result ≤ length bytes.old }
     ensures further { from ≤ result }
 {
@@ -147,7 +149,8 @@ fn behind_words(keyed: bool, bytes: &mut [u8], from: usize) -> usize
 #[inline(always)]
 fn behind_word_properties(bytes: &mut [u8], from: usize) -> usize
     requires { from ≤ length bytes.old }
-    ensures patched { (all : Bool) (old : List ℕ) → PatchesOn all true old bytes.old from → PatchesOn all true old bytes.new result }
+    ensures patched { (all : Bool) (old : List ℕ) → PatchesOn all true old bytes.old from
+        → PatchesOn all true old bytes.new result }
     ensures within { result ≤ length bytes.old }
     ensures further { from ≤ result }
 {
@@ -293,7 +296,8 @@ fn patch_pointer(size: usize, pod: &mut [u8])
 /// The address of a pointer whose body has this size, if pointers have.
 fn address_of(size: usize, pod: &[u8]) -> Option<u64>
     requires { IsPodOf pod.now pointer_type size }
-    ensures says { IfSome result (λ address. IsPointer (word_at pod.now 8) address (take size (drop header_size pod.now))) }
+    ensures says { IfSome result (λ address.
+        IsPointer (word_at pod.now 8) address (take size (drop header_size pod.now))) }
     ensures other { IfNone result ((size ≢ 12) × (size ≢ 16)) }
 {
     if size == SHORT_POINTER_LEN {

@@ -20,6 +20,7 @@ ghost use Rattle.spa_scan.specs.Canonical.{AreCanonical, IsStretch};
 ghost use Rattle.spa_scan.specs.Depth.{depth_of, levels_looked_into};
 ghost use Rattle.spa_value.specs.View.{view};
 
+use crate::inside::{Inside, inside_of};
 use crate::leading::{canonical_pods, canonical_stretch};
 use crate::look::{
     AcceptedPod, DEEP_BODY, FEW, Found, Rejected, look_at_front, look_at_pods, look_into,
@@ -27,8 +28,7 @@ use crate::look::{
 };
 use crate::patch::patch_all;
 use crate::source::Apart;
-use crate::steady::{Inside, inside_of, short_front};
-use crate::surplus::leaf_surplus;
+use crate::surplus::{leaf_surplus, short_front};
 use crate::write::write_pods;
 use spa_bodies::error_at;
 use spa_bytes::open;

@@ -36,7 +36,8 @@ pub trait Source: Copy {
     ghost room: { (s : Self) (out : List ℕ) → fits s (length out) → length (pods s out) ≤ length out };
 
     /// What is written changes no pods behind it.
-    ghost kept: { (s : Self) (old new : List ℕ) (n : ℕ) → fits s (length old) → n ≤ length (pods s old) → length new ≡ length old → drop n new ≡ drop n old → StaysBehind (pods s old) (pods s new) n };
+    ghost kept: { (s : Self) (old new : List ℕ) (n : ℕ) → fits s (length old) → n ≤ length (pods s old)
+        → length new ≡ length old → drop n new ≡ drop n old → StaysBehind (pods s old) (pods s new) n };
 }
 
 /// The bytes of another buffer.

@@ -18,7 +18,7 @@ use Rattle.spa_bodies.specs.Refusing.{Says}
 use Rattle.spa_bodies.proofs.Refusals.{says_through}
 use Rattle.spa_bodies.proofs.Steps.{parted}
 use Rattle.spa_rewrite.specs.Rewriting.{IsLeft}
-use Rattle.spa_rewrite.specs.Steady.{IsBehindKey}
+use Rattle.spa_rewrite.specs.Inside.{IsBehindKey}
 use Rattle.spa_scan.specs.Depth.{NestsDeeper, levels_looked_into}
 use Rattle.spav.specs.Faults.{End, FaultStands, Finds, NestsTooDeep, Scope, at_key, at_pod, faulty, fault_number, first_member, first_value, in_object, in_struct, members, next_member, next_property, pod, properties, too_deep}
 use Rattle.spav.specs.Searching.{AreNone, ComesTo, Enters, IsEntered, IsFound, IsRefusedAmong, Leads, Searches, byte_of, found_behind, scope_of}

@@ -4,7 +4,7 @@ use Rattle.spa_scan.specs.Depth.{levels_looked_into}
 use Rattle.spa_rewrite.proofs.Accepted.{leaf_differs}
 use Rattle.spa_rewrite.proofs.Levels.{deep_begun, too_deep}
 use Rattle.spa_rewrite.proofs.Looks.{inside_own, own_opened}
-use Rattle.spa_rewrite.proofs.SteadyFound.{never}
+use Rattle.spa_rewrite.proofs.LeafBodies.{never}
 use Rattle.spa_rewrite.proofs.leading.next_canonical.Goals as goal
 
 pub returns-in_default-inside_of-clause-missed : goal.returns-in_default-inside_of-clause-missed

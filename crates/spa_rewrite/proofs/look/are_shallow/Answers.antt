@@ -3,8 +3,8 @@ use Rattle.std.specs.Prelude.{false}
 use Rattle.spa_scan.specs.Depth.{levels_looked_into}
 use Rattle.spa_rewrite.specs.Shorter.{ArePodsWithin}
 use Rattle.spa_rewrite.proofs.ShorterLemmas.{first_within}
-use Rattle.spa_rewrite.proofs.SteadyFound.{never}
-use Rattle.spa_rewrite.proofs.SteadyLemmas.{left_shorter}
+use Rattle.spa_rewrite.proofs.LeafBodies.{never}
+use Rattle.spa_rewrite.proofs.SameLength.{left_shorter}
 use Rattle.spa_rewrite.proofs.look.are_shallow.Goals as goal
 
 pub loop-front-init : goal.loop-front-init

@@ -1,6 +1,6 @@
 use Rattle.std.proofs.Common.{arith}
 use Rattle.spa_rewrite.proofs.Looks.{opened_shorter, opens_inside}
-use Rattle.spa_rewrite.proofs.SteadyLemmas.{left_shorter}
+use Rattle.spa_rewrite.proofs.SameLength.{left_shorter}
 use Rattle.spa_rewrite.proofs.look.are_shallow_but_at_end.Goals as goal
 
 pub loop-here-smaller-in-Some-last_inside : goal.loop-here-smaller-in-Some-last_inside

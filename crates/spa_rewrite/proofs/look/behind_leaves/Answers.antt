@@ -3,8 +3,8 @@ use Rattle.std.specs.Prelude.{false}
 use Rattle.spa_rewrite.specs.Look.{Passes}
 use Rattle.spa_rewrite.proofs.Looks.{passes_more, passes_pod, some_left}
 use Rattle.spa_rewrite.proofs.ShorterLemmas.{shorter_opened}
-use Rattle.spa_rewrite.proofs.SteadyFound.{never}
-use Rattle.spa_rewrite.proofs.SteadyLemmas.{left_shorter}
+use Rattle.spa_rewrite.proofs.LeafBodies.{never}
+use Rattle.spa_rewrite.proofs.SameLength.{left_shorter}
 use Rattle.spa_rewrite.proofs.look.behind_leaves.Goals as goal
 
 pub loop-here-init : goal.loop-here-init

@@ -5,7 +5,7 @@ use Rattle.spa_format.specs.Typed.{IsBytes}
 use Rattle.spa_rewrite.specs.Look.{NestMore, nest_here}
 use Rattle.spa_rewrite.proofs.Accepted.{goes_over}
 use Rattle.spa_rewrite.proofs.Faulted.{stops_in}
-use Rattle.spa_rewrite.specs.declared.steady.Inside.{Inside}
+use Rattle.spa_rewrite.specs.declared.inside.Inside.{Inside}
 use Rattle.spa_rewrite.proofs.Looks.{AwaitsAll, Onward, begins_look, goes_in, goes_in_last, left_waiting, list_ends, opened_shorter, popped, pushed}
 use Rattle.spa_rewrite.proofs.look.look_inside.Goals as goal
 

@@ -2,7 +2,7 @@ use Rattle.std.proofs.Common.{arith, refl, false}
 use Rattle.std.proofs.lemmas.Option.{IfSome_then}
 use Rattle.spa_format.specs.Typed.{IsBytes}
 use Rattle.spa_rewrite.proofs.Looks.{behind_shorter, passes_pod, some_left}
-use Rattle.spa_rewrite.proofs.SteadyFound.{never}
+use Rattle.spa_rewrite.proofs.LeafBodies.{never}
 use Rattle.spa_rewrite.proofs.look.short_leaf.Goals as goal
 
 pub returns-clause-passed : goal.returns-clause-passed

@@ -1,5 +1,5 @@
 use Rattle.std.proofs.Common.{◌+◌, ◌*◌, ◌-◌, length}
-use Rattle.spa_rewrite.specs.Steady.{PatchesOn}
+use Rattle.spa_rewrite.specs.Patched.{PatchesOn}
 use Rattle.spa_rewrite.proofs.patch.+patching.Given as goal
 
 abbrev pub decreases-patch : goal.decreases-patch

@@ -1,7 +1,7 @@
 use Rattle.std.proofs.Common.{◌≡◌, ◌+◌, ◌-◌, ◌≤◌, ◌∙◌, ap, arith, drop, length, length-drop, refl, subst}
 use Rattle.std.specs.Prelude.{true}
 use Rattle.std.proofs.lemmas.List.{drop-drop, take_rest}
-use Rattle.spa_rewrite.specs.Steady.{BeginsWord}
+use Rattle.spa_rewrite.specs.Patched.{BeginsWord}
 use Rattle.spa_rewrite.proofs.PatchSteps.{runs_from, runs_further}
 use Rattle.spa_rewrite.proofs.patch.behind_word_properties.Goals as goal
 

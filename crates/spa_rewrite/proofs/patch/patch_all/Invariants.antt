@@ -1,6 +1,6 @@
 use Rattle.std.proofs.Common.{◌-◌, length}
 use Rattle.std.specs.Prelude.{false}
-use Rattle.spa_rewrite.specs.Steady.{PatchesOn}
+use Rattle.spa_rewrite.specs.Patched.{PatchesOn}
 use Rattle.spa_rewrite.proofs.patch.patch_all.Given as goal
 
 abbrev pub invariant-loop-front : goal.invariant-loop-front

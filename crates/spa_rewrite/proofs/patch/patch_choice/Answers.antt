@@ -1,6 +1,6 @@
 use Rattle.std.proofs.Common.{◌-◌, ◌∙◌, ap, arith, refl}
 use Rattle.spa_format.proofs.Short.{padded_above}
-use Rattle.spa_rewrite.specs.Steady.{bytes_taken}
+use Rattle.spa_rewrite.specs.Patched.{bytes_taken}
 use Rattle.spa_rewrite.proofs.PatchedBodies.{few_values}
 use Rattle.spa_rewrite.proofs.patch.patch_choice.Goals as goal
 

@@ -1,6 +1,6 @@
 use Rattle.std.proofs.Common.{◌-◌, length}
 use Rattle.std.specs.Prelude.{true}
-use Rattle.spa_rewrite.specs.Steady.{PatchesOn}
+use Rattle.spa_rewrite.specs.Patched.{PatchesOn}
 use Rattle.spa_rewrite.proofs.patch.patch_properties.Given as goal
 
 abbrev pub invariant-loop-bytes : goal.invariant-loop-bytes

@@ -1,7 +1,7 @@
 use Rattle.std.proofs.Common.{◌≡◌, ◌+◌, ◌-◌, ◌++◌, ◌∙◌, ap, arith, drop, length, refl, rules, subst, take}
 use Rattle.std.specs.Prelude.{false, vec_len}
 use Rattle.std.proofs.lemmas.List.{with_items_is}
-use Rattle.spa_rewrite.specs.Steady.{ArePatched}
+use Rattle.spa_rewrite.specs.Patched.{ArePatched}
 use Rattle.spa_rewrite.proofs.Appended.{written_behind}
 use Rattle.spa_rewrite.proofs.Appending.{patched_encodings, written_encodings}
 use Rattle.spa_rewrite.proofs.rewriting.append_pods.Goals as goal

@@ -1,7 +1,7 @@
 use Rattle.std.proofs.Common.{◌≤◌, ◌+◌, ◌-◌, ◌∙◌, ap, arith, drop, length, length-drop, refl, subst, sym, take}
 use Rattle.std.proofs.lemmas.List.{length-take-le, take_rest}
 use borrow.Rule.Slice.PartMut.{put_mid}
-use Rattle.spa_rewrite.specs.Steady.{key_size}
+use Rattle.spa_rewrite.specs.Inside.{key_size}
 use Rattle.spa_rewrite.proofs.Chains.{ChainsOn, chains_more, enters, last_inside}
 use Rattle.spa_rewrite.proofs.Patches.{length_put}
 use Rattle.spa_rewrite.proofs.Runs.{chains_run}
@@ -106,34 +106,15 @@ put_header-to-requires-clause-room g c =
 
 pub put_header-to-requires-clause-fits : goal.put_header-to-requires-clause-fits
 put_header-to-requires-clause-fits g c =
-    let inv = c.loop-run.invariant.sources in
-    let source = c.args.source in
-    let now = c.loop-run.out in
+    let now_pods = g.S.Source.pods c.args.source c.loop-run.out in
     let from = c.loop-run.from in
-    let now_pods = g.S.Source.pods source now in
-    let pods = g.S.Source.pods source c.args.out.now in
-    let r = c.read-pods.result.now in
     let re = c.read-pods.ensures in
     let here = c.in-Some-behind_key.here.now in
-    let rest = c.in-Some-open.front.rest.now in
-    let pod_at = length r - length here in
-    let next = length r - length rest in
-    let left_is = take_rest r from ∙ ap (drop from) re in
-    let h = pod_places c.loop-run.keyed now_pods _ here _ rest from pod_at next _ inv.within left_is c.in-Some-behind_key.ensures.there c.in-Some-open.ensures.there
-    (ap (λ x. length x - length here) re) (ap (λ x. length x - length rest) re) in
-    let order = h.order in
-    let within = h.within in
-    let here_at = h.at in
-    let at = c.put_key-to.result in
-    let keyed_out = c.put_key-to.new.out in
-    let put_at = c.put_key-to.ensures.at in
-    let before = written_before _ _ _ _ _ _ _ _ inv in
-    let fits_now = subst (g.S.Source.fits source) (sym inv.on.long) c.requires.fits in
-    let low : at ≤ pod_at = omega arith in
-    let key_kept = g.met.S.Source.kept source now keyed_out at fits_now (omega arith) c.put_key-to.auto.out c.put_key-to.ensures.behind in
-    let i = last_inside c.loop-run.keyed c.in-Some-last_whole.inner pods c.args.out.now now_pods now _ here _ rest from c.loop-run.to at pod_at (length c.read.result.now - c.args.surplus) _ _ c.loop-run.invariant left_is
+    let i = last_inside c.loop-run.keyed c.in-Some-last_whole.inner (g.S.Source.pods c.args.source c.args.out.now) c.args.out.now now_pods
+    c.loop-run.out _ here _ c.in-Some-open.front.rest.now from c.loop-run.to c.put_key-to.result (length c.read-pods.result.now - length here)
+    (length c.read.result.now - c.args.surplus) _ _ c.loop-run.invariant (take_rest c.read-pods.result.now from ∙ ap (drop from) re)
     c.in-Some-behind_key.ensures.there c.in-Some-open.ensures.there refl c.in-Some-last_whole.ensures.0 c.in-Some-last_whole.ensures.1
-    (ap (λ x. length x - length here) re) put_at in
+    (ap (λ x. length x - length here) re) c.put_key-to.ensures.at in
     i.fits
 
 pub loop-run-smaller-in-Some-last_whole : goal.loop-run-smaller-in-Some-last_whole

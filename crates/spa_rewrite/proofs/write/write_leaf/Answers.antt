@@ -2,7 +2,7 @@ use Rattle.std.proofs.Common.{◌≡◌, ◌++◌, ◌∙◌, ap, arith, drop, l
 use Rattle.std.proofs.lemmas.List.{take_all}
 use Rattle.spa_format.specs.Tree.{object_type, struct_type}
 use Rattle.spa_rewrite.specs.Placed.{HoldsWhole}
-use Rattle.spa_rewrite.specs.Steady.{IsPodOf}
+use Rattle.spa_rewrite.specs.Patched.{IsPodOf}
 use Rattle.spa_rewrite.proofs.Places.{no_object, no_struct}
 use Rattle.spa_rewrite.proofs.PlacedBodies.{leaf_moved, nothing_written}
 use Rattle.spa_rewrite.proofs.write.write_leaf.Goals as goal

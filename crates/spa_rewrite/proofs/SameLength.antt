@@ -16,7 +16,7 @@ use Rattle.spa_format.proofs.FixedKinds.{fixed_length, kind_of_content}
 use Rattle.spa_bytes.specs.Opening.{Opens}
 use Rattle.spa_scan.specs.Canonical.{IsCanonicalText, IsFixedLen}
 use Rattle.spa_rewrite.specs.Elements.{HasElements, HasValues}
-use Rattle.spa_rewrite.specs.Steady.{IsBehindKey}
+use Rattle.spa_rewrite.specs.Inside.{IsBehindKey}
 use Rattle.spa_rewrite.specs.Shorter.{IsShorterBody}
 use Rattle.spa_rewrite.proofs.Bodies.{listed}
 
@@ -24,18 +24,18 @@ pub as_long : (a b : ℕ) → a ≡ b → 0 + a ≡ b
 as_long a b e = omega arith
 
 -- bodies without members
-pub steady_text : (body : List ℕ) → IsCanonicalText body → IsShorterBody string_type body 0
-steady_text body t =
+pub text_same_length : (body : List ℕ) → IsCanonicalText body → IsShorterBody string_type body 0
+text_same_length body t =
     record { value = string t.0; its_type = refl; its_body = (t.1, t.2); long = as_long _ _ (ap (λ b. padded_size (length b)) (sym t.2)) }
 
-pub steady_bytes : (body : List ℕ) → IsShorterBody bytes_type body 0
-steady_bytes body = record { value = bytes body; its_type = refl; its_body = refl; long = as_long _ _ refl }
+pub bytes_same_length : (body : List ℕ) → IsShorterBody bytes_type body 0
+bytes_same_length body = record { value = bytes body; its_type = refl; its_body = refl; long = as_long _ _ refl }
 
-pub steady_bitmap : (body : List ℕ) → IsShorterBody bitmap_type body 0
-steady_bitmap body = record { value = bitmap body; its_type = refl; its_body = refl; long = as_long _ _ refl }
+pub bitmap_same_length : (body : List ℕ) → IsShorterBody bitmap_type body 0
+bitmap_same_length body = record { value = bitmap body; its_type = refl; its_body = refl; long = as_long _ _ refl }
 
-pub steady_fixed : (type len : ℕ) (body : List ℕ) → IsFixedLen type len → length body ≡ len → IsShorterBody type body 0
-steady_fixed type len body f l =
+pub fixed_same_length : (type len : ℕ) (body : List ℕ) → IsFixedLen type len → length body ≡ len → IsShorterBody type body 0
+fixed_same_length type len body f l =
     let k = f.0 in
     let x = content k body in
     let is : IsFixedBody k body x = record { whole = l ∙ f.2; says = refl } in
@@ -46,8 +46,8 @@ steady_fixed type len body f l =
       long = as_long _ _ (ap padded_size (fixed_length k body x is));
     }
 
-pub steady_array : (body elements : List ℕ) → HasElements body elements → IsShorterBody array_type body 0
-steady_array body elements h =
+pub array_same_length : (body elements : List ℕ) → HasElements body elements → IsShorterBody array_type body 0
+array_same_length body elements h =
     let k = h.its.kind in
     let many = h.its.whole.many in
     let count = h.its.whole.count in
@@ -87,8 +87,8 @@ kept_length body kept h =
     choice_length h.shape (kept_flags h.shape (word_at body 4)) h.kind h.default h.values
     ∙ ap (λ n. 16 + n) (elements_length h.kind (h.default ∷ h.values) kept h.its_values)
 
-pub steady_pointer : (body : List ℕ) → (length body ≡ 16) ⊎ (length body ≡ 12) → IsShorterBody pointer_type body 0
-steady_pointer body l =
+pub pointer_same_length : (body : List ℕ) → (length body ≡ 16) ⊎ (length body ≡ 12) → IsShorterBody pointer_type body 0
+pointer_same_length body l =
     elim l [
       | inl e ↦ record {
         value = pointer (word_at body 0) (wide_at body 8);

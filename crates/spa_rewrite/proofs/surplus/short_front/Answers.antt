@@ -1,6 +1,6 @@
 use Rattle.std.proofs.Common.{arith, refl}
 use Rattle.spa_rewrite.proofs.ShorterLemmas.{shorter_short}
-use Rattle.spa_rewrite.proofs.steady.short_front.Goals as goal
+use Rattle.spa_rewrite.proofs.surplus.short_front.Goals as goal
 
 pub returns-clause-taken : goal.returns-clause-taken
 returns-clause-taken c =

@@ -1,31 +1,11 @@
--- Pods whose rewritings are as long as they are: docs/FORMAT.md, "The encoding of a value".
+-- Pods that become encodings of the same length in place: docs/FORMAT.md, "The encoding of a value".
 use Rattle.std.specs.Prelude.{◌≡◌, ◌≢◌, ◌+◌, ◌-◌, ◌<◌, ◌≤◌, ◌*◌, ◌++◌, ℕ, List, length, drop, take, Bool, true, false}
 use Rattle.spa_format.specs.Words.{extent, header_size, size_limit, word_at}
-use Rattle.spa_format.specs.Tree.{Shape, none_choice, range_choice, step_choice, enum_choice, flags_choice, Tree, Trees, Properties, choice_type, object_type, shape_number, struct_type}
+use Rattle.spa_format.specs.Tree.{Shape, none_choice, range_choice, step_choice, enum_choice, flags_choice, Tree, Trees, Properties, choice_type, shape_number}
 use Rattle.spa_format.specs.Kind.{Fixed, Kind, body_size, bool_kind, type_number}
 use Rattle.spa_format.specs.Pod.{AreElements, AreMembers, AreProperties, IsPod}
 use Rattle.spa_format.specs.Encoding.{encoding_of, fixed_bodies, member_encodings, property_encodings}
 use Rattle.spa_format.specs.Typed.{IsBytes}
-
--- what is left of properties without the first key and flags; pods have none
-abbrev pub IsBehindKey : Bool → List ℕ → List ℕ → Type 0
-IsBehindKey true left here = (header_size ≤ length left) × (here ≡ drop header_size left)
-IsBehindKey false left here = here ≡ left
-
--- the pods in the body of a struct, or the properties in that of an object
-abbrev pub IsInside : ℕ → List ℕ → Bool → List ℕ → Type 0
-IsInside type body true inside = (type ≡ object_type) × (header_size ≤ length body) × (inside ≡ drop header_size body)
-IsInside type body false inside = (type ≡ struct_type) × (inside ≡ body)
-
--- a struct, or an object that has its type and its id
-abbrev pub HoldsPods : ℕ → ℕ → Bool → Type 0
-HoldsPods type size true = (type ≡ object_type) × (header_size ≤ size)
-HoldsPods type size false = type ≡ struct_type
-
--- how many bytes stand before a pod: a key and flags, or none
-abbrev pub key_size : Bool → ℕ
-key_size true = header_size
-key_size false = 0
 
 -- a pod became its rewriting, if that is as long
 abbrev pub IsPatched : List ℕ → List ℕ → Type 0
@@ -33,8 +13,10 @@ IsPatched old new = (v : Tree) → IsPod old v → length (encoding_of v) ≡ le
 
 -- pods one after another became their rewritings, if those are together as long; properties, or members
 abbrev pub ArePatched : Bool → List ℕ → List ℕ → Type 0
-ArePatched true old new = (ps : Properties) → AreProperties ps old → length (property_encodings ps) ≡ length old → new ≡ property_encodings ps
-ArePatched false old new = (vs : Trees) → AreMembers vs old → length (member_encodings vs) ≡ length old → new ≡ member_encodings vs
+ArePatched true old new =
+    (ps : Properties) → AreProperties ps old → length (property_encodings ps) ≡ length old → new ≡ property_encodings ps
+ArePatched false old new =
+    (vs : Trees) → AreMembers vs old → length (member_encodings vs) ≡ length old → new ≡ member_encodings vs
 
 -- The bytes before this place are done: once those from there on become their rewritings, all have.
 -- Of two Ints with padding 9, the words 4, 4, 1, 9, 4, 4, 2, 9, the first is done in 4, 4, 1, 0, 4, 4, 2, 9 at place 16: with 4, 4, 2, 0 behind
@@ -64,7 +46,8 @@ pub record IsPodOf (pod : List ℕ) (type size : ℕ) : Type 0 where
 
 -- whole bodies of the kind that has this type number became these as they are written
 abbrev pub TurnsWritten : ℕ → List ℕ → List ℕ → Type 0
-TurnsWritten number old new = (k : Kind) (xs : List Fixed) → number ≡ type_number k → AreElements k xs old → new ≡ fixed_bodies xs
+TurnsWritten number old new =
+    (k : Kind) (xs : List Fixed) → number ≡ type_number k → AreElements k xs old → new ≡ fixed_bodies xs
 
 -- how many bytes of values a choice takes, of which one has this size, of all that it holds
 abbrev pub bytes_taken : Shape → ℕ → ℕ → ℕ
@@ -78,5 +61,7 @@ bytes_taken flags_choice size all = all
 -- A Range of Ints with one value too many, the words 32, 19, 1, 0, 4, 4, 5, 1, 9, 7, takes 12 bytes of values, and became 28, 19, 1, 0, 4, 4, 5,
 -- 1, 9, 0.
 abbrev pub TakesValues : ℕ → ℕ → List ℕ → List ℕ → Type 0
-TakesValues shape n old new = (pod : List ℕ) (size : ℕ) → IsPodOf pod choice_type size → drop 8 pod ≡ drop 8 old → 16 ≤ size → n ≤ size - 16 →
-    shape ≡ word_at pod 8 → ((s : Shape) → shape ≡ shape_number s → n ≡ bytes_taken s (word_at pod 16) (size - 16)) → IsPatched pod new
+TakesValues shape n old new =
+    (pod : List ℕ) (size : ℕ) → IsPodOf pod choice_type size → drop 8 pod ≡ drop 8 old → 16 ≤ size → n ≤ size - 16 →
+    shape ≡ word_at pod 8 → ((s : Shape) → shape ≡ shape_number s → n ≡ bytes_taken s (word_at pod 16) (size - 16)) →
+    IsPatched pod new

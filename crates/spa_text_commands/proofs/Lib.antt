@@ -7,3 +7,4 @@ pub mod Splitting
 pub mod ReadTexts
 pub mod Differing
 pub mod Compared
+mod Lanes

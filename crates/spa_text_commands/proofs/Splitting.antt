@@ -1,8 +1,10 @@
 -- Texts that end with their first line.
-use Rattle.std.proofs.Common.{◌≡◌, ◌≢◌, ◌≤◌, ℕ, ◌+◌, ◌-◌, List, [], ◌∷◌, ◌++◌, refl, sym, inl, inr, arith, length, take, ◌∙◌, ap, length-append, append_assoc}
+use Rattle.std.proofs.Common.{◌≡◌, ◌≢◌, ◌≤◌, ℕ, suc, subst, ◌+◌, ◌-◌, List, [], ◌∷◌, ◌++◌, refl, sym, inl, inr, arith, length, take, ◌∙◌, ap, length-append, append_assoc}
 use Rattle.std.proofs.lemmas.Bool.Decides.{nat_tests}
-use Rattle.std.specs.Prelude.{◌⊎◌, true, false, ◌==◌, ◌&&◌, ◌||◌, if◌then◌else◌}
+use Rattle.std.specs.Prelude.{◌⊎◌, Bool, cond, drop, true, false, ◌==◌, ◌&&◌, ◌||◌, if◌then◌else◌}
+use Rattle.std.specs.List.{prefix_len}
 use Rattle.json.specs.Ascii.{backslash}
+use Rattle.json.specs.Run.{is_plain}
 use Rattle.spa_text_commands.specs.Extent.{BeginsText, outside, within, escaped, behind_text, first_text, place_behind}
 use Rattle.spa_text_commands.specs.Splitting.{ClosesString}
 use Rattle.spa_text_commands.proofs.Extents.{Passed, one_passed, text_passed}
@@ -10,9 +12,9 @@ use Rattle.spa_text_commands.proofs.Extents.{Passed, one_passed, text_passed}
 is_none : (x y : ℕ) → x ≢ y → (x == y) ≡ false
 is_none x y h = grind (arith, nat_tests)
 
--- ---- The loop over a string
+-- ---- Bytes of a string
 
--- how far it is: these bytes of the string are passed
+-- these bytes of the string are passed
 pub record InString (bytes left : List ℕ) : Type 0 where
   pub front : List ℕ
   pub cut : bytes ≡ front ++ left
@@ -59,6 +61,29 @@ string_ends bytes left behind x so e q =
       text = λ n. so.text n ∙ ap (λ l. so.front ++ first_text within n l) l ∙ sym (append_assoc so.front (34 ∷ []) (first_text outside n behind));
       others = λ n. so.others n ∙ ap (λ l. behind_text within n l) l;
     }
+
+-- ---- A run of bytes that stand in a string as they are
+
+is_other : (x y : ℕ) → is_plain y ≡ false → is_plain x ≡ true → x ≢ y
+is_other x y f h e = let t : true ≡ false = sym h ∙ ap is_plain e ∙ f in cc
+
+one_run : (bytes : List ℕ) (x : ℕ) (xs : List ℕ) (b : Bool) → is_plain x ≡ b → InString bytes (x ∷ xs) →
+    (InString bytes xs → InString bytes (drop (prefix_len is_plain xs) xs)) → InString bytes (drop (cond b (1 + prefix_len is_plain xs) 0) (x ∷ xs))
+one_run bytes x xs true p so more =
+    let one : suc (prefix_len is_plain xs) ≡ 1 + prefix_len is_plain xs = omega arith in
+    subst (λ n. InString bytes (drop n (x ∷ xs))) one
+    (more (string_goes_on bytes (x ∷ xs) xs x so refl (is_other x 34 refl p) (is_other x 92 refl p) (is_other x 10 refl p)))
+one_run bytes x xs false p so more = so
+
+whole_run : (bytes left : List ℕ) → InString bytes left → InString bytes (drop (prefix_len is_plain left) left)
+whole_run bytes [] so = so
+whole_run bytes (x ∷ xs) so = one_run bytes x xs (is_plain x) refl so (whole_run bytes xs)
+
+-- a quote behind the run closes the string
+pub string_closed : (bytes left behind : List ℕ) (n : ℕ) → n ≡ prefix_len is_plain bytes → left ≡ drop n bytes → left ≡ 34 ∷ behind →
+    ClosesString bytes behind
+string_closed bytes left behind n e l q =
+    string_ends bytes _ behind 34 (whole_run bytes bytes (string_begins bytes)) (sym (l ∙ ap (λ k. drop k bytes) e) ∙ q) refl
 
 -- ---- The loop over a line
 

@@ -15,3 +15,4 @@ pub mod printing;
 pub mod reading;
 pub mod selection;
 pub mod showing;
+mod strings;

@@ -1,7 +1,6 @@
 //! Texts read as pods.
 ghost use Rattle.std.specs.Prelude.{◌≡◌, ◌≢◌, ◌+◌, ◌<◌, ◌^◌, ◌++◌, [], IfErr, IfOk, IfSome, OnOk, length};
 ghost use Rattle.spa_text_commands.specs.Extent.{BeginsText};
-ghost use Rattle.spa_text_commands.specs.Splitting.{ClosesString};
 ghost use Rattle.spa_text_commands.specs.Texts.{IsTextFor, ReadsTexts, RefusesTexts};
 ghost use Rattle.spa_text_commands.specs.Unread.{IsFor, IsNoPod, IsNoText};
 ghost use Rattle.spa_format.specs.Encoding.{encoding_of};
@@ -11,6 +10,7 @@ ghost use Rattle.spa_text_read.specs.declared.fitting.Strictness.{Strictness as 
 
 use crate::answer::Failure;
 use crate::extent::{position_behind, split_text};
+use crate::strings::behind_string;
 use spa_sink::GenError;
 use spa_text::{Cause, Misfit, Strictness, TextReader};
 use spa_value::Held;
@@ -95,28 +95,6 @@ fn split_line(bytes: &[u8]) -> Option<(&[u8], &[u8])>
             }
             left = behind;
         }
-    }
-    None
-}
-
-/// What follows the string that the bytes stand in, if no backslash and no line feed is in it.
-#[tactic(auto, using(crate::proofs::Splitting::string_begins, crate::proofs::Splitting::string_goes_on, crate::proofs::Splitting::string_ends))]
-fn behind_string(bytes: &[u8]) -> Option<&[u8]>
-    ensures { IfSome result (λ behind. ClosesString bytes.now behind.now) }
-{
-    let mut left = bytes;
-    while let Some((byte, behind)) = left.split_first() {
-        let byte = *byte;
-        // Small letters stand behind the three in ASCII.
-        if byte <= b'\\' {
-            if byte == b'"' {
-                return Some(behind);
-            }
-            if byte == b'\\' || byte == b'\n' {
-                return None;
-            }
-        }
-        left = behind;
     }
     None
 }

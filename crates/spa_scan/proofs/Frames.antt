@@ -13,7 +13,7 @@ use Rattle.spa_format.proofs.Short.{padded_above}
 use Rattle.spa_bytes.specs.Opening.{Opens}
 use Rattle.spa_bodies.specs.Reading.{BeginsWith}
 use Rattle.spa_bodies.proofs.Steps.{pod_read}
-use Rattle.spa_scan.specs.Canonical.{AreCanonical, AreCanonicalProperties, BeginsCanonical, HasZeros, IsCanonicalBody, IsStretch, OpensPadded}
+use Rattle.spa_scan.specs.Canonical.{AreCanonical, AreCanonicalProperties, BeginsCanonical, HasZeros, IsCanonicalBody, IsStretch}
 use Rattle.spa_format.proofs.WordLemmas.{IsBytes-drop, IsBytes-take, wide_at-drop, word_at-drop, word_at-take}
 use Rattle.spa_format.specs.Kind.{none, Kind, bool_kind, IsFixedBody, type_number, body_size, content}
 use Rattle.spa_format.proofs.FixedKinds.{kind_of_content}
@@ -37,14 +37,18 @@ framed_front b h f z =
     ∙ append_assoc (word_bytes n) (word_bytes t) (body ++ padding n)
     ∙ ap (λ m. word_bytes m ++ (word_bytes t ++ (body ++ padding m))) (sym size)
 
--- a canonical body in a padded front
-pub canonical_front : (input body rest : List ℕ) (type : ℕ) → OpensPadded input type body rest → IsCanonicalBody type body → BeginsCanonical input rest
-canonical_front input body rest type o c =
+-- a canonical body, and zeros behind it
+pub canonical_front : (input behind body rest : List ℕ) (type : ℕ) → IsBytes input → Opens input type body rest → behind ≡ drop 8 input →
+    HasZeros behind (length body) → IsCanonicalBody type body → BeginsCanonical input rest
+canonical_front input behind body rest type h o d z c =
     let v = c.value in
+    let size : length body ≡ word_at input 0 = ap length o.its_body ∙ length-body_of input o.there in
+    let zeros : HasZeros (drop 8 input) (word_at input 0) = subst (HasZeros (drop 8 input)) size (subst (λ b. HasZeros b (length body)) d z) in
     record {
       value = v;
-      begins = pod_read input body rest type v o.opens c.its_type c.its_body;
-      same = o.padded ∙ ap (λ t. framed t body) (sym c.its_type) ∙ ap (framed (type_of v)) c.same;
+      begins = pod_read input body rest type v o c.its_type c.its_body;
+      same = framed_front input h o.there zeros ∙ ap (λ t. framed t (body_of input)) (sym o.its_type ∙ sym c.its_type)
+          ∙ ap (framed (type_of v)) (sym o.its_body ∙ c.same);
     }
 
 pub no_members : AreCanonical []
@@ -81,14 +85,6 @@ one_more_property input behind rest h l d c r =
           ∙ append_assoc (word_bytes (word_at input 0)) (word_bytes (word_at input 4)) (encoding ++ property_encodings r.values);
     }
 
-pub padded_of : (input body rest : List ℕ) (type : ℕ) → IsBytes input → Opens input type body rest → HasZeros (drop 8 input) (length body) → OpensPadded input type body rest
-padded_of input body rest type h o z =
-    let size : length body ≡ word_at input 0 = ap length o.its_body ∙ length-body_of input o.there in
-    record {
-      opens = o;
-      padded = framed_front input h o.there (subst (HasZeros (drop 8 input)) size z) ∙ ap (λ t. framed t (body_of input)) (sym o.its_type) ∙ ap (framed type) (sym o.its_body);
-    }
-
 pub rest_shorter : (input body rest : List ℕ) (type : ℕ) → Opens input type body rest → length rest + 8 ≤ length input
 rest_shorter input body rest type o =
     let e = ap length o.its_rest in
@@ -117,8 +113,7 @@ fixed_begins input rest k s h l e4 e0 e m p z t d =
       fits = omega arith;
     } in
     let its_body : IsFixedBody k body x = record { whole = size ∙ e; says = refl } in
-    canonical_front input body rest (word_at input 4)
-    (padded_of input body rest (word_at input 4) h o (subst (HasZeros (drop 8 input)) (sym size) z))
+    canonical_front input (drop 8 input) body rest (word_at input 4) h o refl (subst (HasZeros (drop 8 input)) (sym size) z)
     (record {
       value = fixed x;
       its_type = ap type_number (kind_of_content k body) ∙ sym e4;

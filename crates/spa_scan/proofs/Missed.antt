@@ -1,8 +1,8 @@
 -- What a look can't miss: what the bodies and fronts of canonical pods are like.
 use Rattle.std.proofs.Common.{◌≡◌, ℕ, ◌+◌, ◌*◌, ◌<◌, ◌≤◌, ◌-◌, ◌/◌, ◌%◌, ◌^◌, ◌⊎◌, inl, inr, List, [], ◌∷◌, ◌++◌, length, take, drop, zero, suc, refl, sym, ap, ◌∙◌, subst, arith, length-append, length-drop, length-take, append_assoc}
 use Rattle.std.specs.Prelude.{Bool, true, false, if◌then◌else◌, replicate}
-use Rattle.std.proofs.lemmas.List.{drop-drop, drop-take, drop_at, length-take-le}
-use Rattle.spa_format.specs.Words.{word_at, word_bytes, wide_at, wide_bytes, padded_size, body_of}
+use Rattle.std.proofs.lemmas.List.{drop-drop, drop_at, length-take-le}
+use Rattle.spa_format.specs.Words.{word_at, word_bytes, wide_at, wide_bytes, body_of}
 use Rattle.spa_format.specs.Kind.{Kind, none_kind, bool_kind, id_kind, int_kind, long_kind, float_kind, double_kind, rectangle_kind, fraction_kind, fd_kind, body_size, type_number, Fixed, none, bool, id, int, long, float, double, rectangle, fraction, fd, kind_of, IsFixedBody, fixed_body}
 use Rattle.spa_format.specs.Tree.{choice, choice_type, Shape, none_choice, range_choice, step_choice, shape_number, type_of}
 use Rattle.spa_format.specs.Pod.{AreElements, IsArray, IsBody, IsChoice}
@@ -14,13 +14,17 @@ use Rattle.spa_format.proofs.Elements.{array_back, kept_of_sized, length_of_elem
 use Rattle.spa_format.proofs.FixedKinds.{kind_of_body, length-fixed_body}
 use Rattle.spa_format.proofs.Fronts.{length-body_of}
 use Rattle.spa_format.proofs.Shapes.{choice_only}
-use Rattle.spa_format.proofs.WordLemmas.{IsBytes-drop, IsBytes-take, length-word_bytes, wide_at-drop, wide_fits, word_at-append, word_at-drop, word_at-take, word_inside}
+use Rattle.spa_format.proofs.WordLemmas.{IsBytes-drop, IsBytes-take, length-word_bytes, wide_fits, word_at-append, word_at-drop, word_at-take, word_inside}
 use Rattle.spa_bytes.specs.Opening.{Opens}
-use Rattle.spa_scan.specs.Canonical.{AreCanonicalElements, BeginsCanonical, HasZeros, IsCanonicalArray, IsCanonicalBody, IsSized}
+use Rattle.spa_scan.specs.Canonical.{AreCanonicalElements, BeginsCanonical, EndsInZeros, HasZeros, IsCanonicalArray, IsCanonicalBody, IsSized}
 use Rattle.spa_scan.proofs.Made.{made_front}
-use Rattle.spa_scan.proofs.Words.{wide_back, wide_of_take}
+use Rattle.spa_scan.proofs.Words.{last_bytes, last_word, wide_back}
 
 -- zeros at the end of eight bytes
+small_0 : (v : ℕ) → v < 2 ^ 64 → wide_bytes v ≡ replicate 8 0 → v / 2 ^ 0 ≡ 0
+unfolding wide_bytes
+small_0 v l z = grind arith
+
 small_1 : (v : ℕ) → v < 2 ^ 64 → drop 1 (wide_bytes v) ≡ replicate 7 0 → v / 2 ^ 8 ≡ 0
 unfolding wide_bytes
 small_1 v l z = grind arith
@@ -49,39 +53,31 @@ small_7 : (v : ℕ) → v < 2 ^ 64 → drop 7 (wide_bytes v) ≡ replicate 1 0 �
 unfolding wide_bytes
 small_7 v l z = grind arith
 
-small_behind : (v r : ℕ) → 0 < r → r < 8 → v < 2 ^ 64 → drop r (wide_bytes v) ≡ replicate (8 - r) 0 → v / 2 ^ (8 * r) ≡ 0
-small_behind v zero p h l z = absurd (omega arith)
-small_behind v (suc zero) p h l z = small_1 v l z
-small_behind v (suc (suc zero)) p h l z = small_2 v l z
-small_behind v (suc (suc (suc zero))) p h l z = small_3 v l z
-small_behind v (suc (suc (suc (suc zero)))) p h l z = small_4 v l z
-small_behind v (suc (suc (suc (suc (suc zero))))) p h l z = small_5 v l z
-small_behind v (suc (suc (suc (suc (suc (suc zero)))))) p h l z = small_6 v l z
-small_behind v (suc (suc (suc (suc (suc (suc (suc zero))))))) p h l z = small_7 v l z
-small_behind v (suc (suc (suc (suc (suc (suc (suc (suc r)))))))) p h l z = absurd (omega arith)
+small_behind : (v r : ℕ) → r < 8 → v < 2 ^ 64 → drop r (wide_bytes v) ≡ replicate (8 - r) 0 → v / 2 ^ (8 * r) ≡ 0
+small_behind v zero h l z = small_0 v l z
+small_behind v (suc zero) h l z = small_1 v l z
+small_behind v (suc (suc zero)) h l z = small_2 v l z
+small_behind v (suc (suc (suc zero))) h l z = small_3 v l z
+small_behind v (suc (suc (suc (suc zero)))) h l z = small_4 v l z
+small_behind v (suc (suc (suc (suc (suc zero))))) h l z = small_5 v l z
+small_behind v (suc (suc (suc (suc (suc (suc zero)))))) h l z = small_6 v l z
+small_behind v (suc (suc (suc (suc (suc (suc (suc zero))))))) h l z = small_7 v l z
+small_behind v (suc (suc (suc (suc (suc (suc (suc (suc r)))))))) h l z = absurd (omega arith)
 
-pub last_of_zeros : (behind : List ℕ) (size at : ℕ) → IsBytes behind → padded_size size ≤ length behind → 0 < size % 8 → at ≡ padded_size size - 8 → HasZeros behind size → wide_at behind at / 2 ^ (8 * (size % 8)) ≡ 0
-last_of_zeros behind size at h l p e z =
-    let r = size % 8 in
-    let c = drop at behind in
-    let long : 8 ≤ length c = let d = length-drop at behind in omega arith in
-    let bytes = IsBytes-take 8 c (IsBytes-drop at behind h) in
-    let last : wide_at (take 8 c) 0 ≡ wide_at behind at = wide_of_take c ∙ wide_at-drop at 0 behind ∙ ap (wide_at behind) (let y : at + 0 ≡ at = omega arith in y) in
+pub last_of_zeros : (b : List ℕ) (n at : ℕ) → IsBytes b → at + 8 ≤ length b → at ≡ n / 8 * 8 → EndsInZeros b n → wide_at b at / 2 ^ (8 * (n % 8)) ≡ 0
+last_of_zeros b n at h l e z =
+    let r = n % 8 in
+    let c = drop at b in
+    let long : 8 ≤ length c = let d = length-drop at b in omega arith in
+    let bytes = IsBytes-take 8 c (IsBytes-drop at b h) in
     let back = wide_back (take 8 c) bytes (length-take-le 8 c long) in
-    let eight : r + (8 - r) ≡ 8 = omega arith in
-    let inside : drop r (take 8 c) ≡ take (8 - r) (drop r c) = ap (λ m. drop r (take m c)) (sym eight) ∙ drop-take r (8 - r) c in
-    let place : drop r c ≡ drop size behind = drop-drop r at behind ∙ ap (λ m. drop m behind) (let y : at + r ≡ size = omega arith in y) in
-    let count : padded_size size - size ≡ 8 - r = omega arith in
-    let zeros : drop r (take 8 c) ≡ replicate (8 - r) 0 =
-    inside ∙ ap (take (8 - r)) place ∙ ap (λ m. take m (drop size behind)) (sym count) ∙ z ∙ ap (λ m. replicate m 0) count in
-    ap (λ x. x / 2 ^ (8 * r)) (sym last)
-    ∙ small_behind (wide_at (take 8 c) 0) r p (omega arith) (wide_fits (take 8 c) 0 bytes) (ap (drop r) back ∙ zeros)
+    ap (λ x. x / 2 ^ (8 * r)) (sym (last_word b at))
+    ∙ small_behind (wide_at (take 8 c) 0) r (omega arith) (wide_fits (take 8 c) 0 bytes) (ap (drop r) back ∙ last_bytes b n at e ∙ z)
 
--- a front with other padding
-pub not_padded : (input body rest behind : List ℕ) (type : ℕ) → IsBytes input → Opens input type body rest → behind ≡ drop 8 input → ¬ (HasZeros behind (length body)) → (left : List ℕ) → ¬ (BeginsCanonical input left)
-not_padded input body rest behind type h o d n left c =
-    let z = (made_front input left h c).zeros in
-    n (subst (λ b. HasZeros b (length body)) (sym d) (subst (λ b. HasZeros (drop 8 input) (length b)) (sym o.its_body) z))
+-- the zeros behind the body of a canonical front
+pub made_zeros : (input behind body rest left : List ℕ) (type : ℕ) → IsBytes input → Opens input type body rest → behind ≡ drop 8 input → BeginsCanonical input left → HasZeros behind (length body)
+made_zeros input behind body rest left type h o d c =
+    subst (λ b. HasZeros b (length body)) (sym d) (subst (λ b. HasZeros (drop 8 input) (length b)) (sym o.its_body) (made_front input left h c).zeros)
 
 four_or_eight : (k : Kind) → 0 < body_size k → (body_size k ≡ 4) ⊎ (body_size k ≡ 8)
 four_or_eight none_kind p = absurd (omega arith)

@@ -1,14 +1,12 @@
 -- Bodies: texts, elements, arrays, choices.
 use Rattle.std.proofs.Common.{◌≡◌, ◌≢◌, ℕ, ◌+◌, ◌*◌, ◌<◌, ◌≤◌, ◌-◌, ◌/◌, inl, inr, List, [], ◌∷◌, ◌++◌, length, take, drop, get_or, zero, suc, refl, sym, ap, ◌∙◌, subst, arith, length-drop, append_assoc}
-use Rattle.std.specs.Prelude.{Contains, slice_index}
-use Rattle.std.proofs.lemmas.List.{drop-drop, get_or-drop, get_or_past, length-take-le, nil_from_length, take-append-drop, take_all}
+use Rattle.std.specs.Prelude.{slice_index}
+use Rattle.std.proofs.lemmas.List.{drop-drop, get_or-drop, length-take-le, nil_from_length, take-append-drop, take_all}
 use Rattle.std.proofs.lemmas.Bool.{cases_lt}
 use Rattle.std.proofs.Math.Nat.{mul-div_cancel}
-use Rattle.std.proofs.lemmas.Str.{IsUtf8-from_ascii}
-use Rattle.std.specs.Str.{IsAscii}
 use Rattle.spa_format.specs.Words.{word_at, word_bytes}
 use Rattle.spa_format.specs.Kind.{Kind, bool_kind, Fixed, body_size, type_number, content, fixed_body}
-use Rattle.spa_format.specs.Tree.{array, choice, choice_type, array_type, Shape, none_choice, range_choice, step_choice, enum_choice, flags_choice, shape_number}
+use Rattle.spa_format.specs.Tree.{string, string_type, array, choice, choice_type, array_type, Shape, none_choice, range_choice, step_choice, enum_choice, flags_choice, shape_number}
 use Rattle.spa_format.specs.Pod.{IsArray, least_count, values_taken}
 use Rattle.spa_format.specs.Normal.{kept_flags}
 use Rattle.spa_format.specs.Encoding.{array_body}
@@ -31,15 +29,6 @@ ascii_more n b le first rest i h =
           let same : get_or (drop n b) (i - n) 0 ≡ get_or b i 0 = get_or-drop n b (i - n) 0 ∙ ap (λ m. get_or b m 0) at in
           subst IsAsciiByte same (rest (i - n) here)
     ]
-
-pub ascii_text : (b text : List ℕ) → b ≡ text ++ 0 ∷ [] → IsAsciiFor (length text) text → IsCanonicalText b
-ascii_text b text e h =
-    let ascii : IsAscii text = λ i. elim (cases_lt i (length text)) [
-      | inl lt ↦ (h i lt).1
-      | inr ge ↦ rw (get_or_past text i 0 ge) (omega arith)
-    ] in
-    let none : ¬ (Contains text 0) = λ c. let p = (h c.0 c.1).0 in let q = c.2 in omega arith in
-    (text, record { utf8 = IsUtf8-from_ascii text ascii; no_nul = none }, e)
 
 -- one more element
 pub one_element : (k : Kind) (b : List ℕ) → IsBytes b → 0 < body_size k → body_size k ≤ length b → (k ≡ bool_kind → word_at b 0 < 2) → AreCanonicalElements k (drop (body_size k) b) → AreCanonicalElements k b
@@ -86,6 +75,9 @@ array_of k b h l e0 e4 c =
 
 pub array_body_of : (b : List ℕ) → IsCanonicalArray b → IsCanonicalBody array_type b
 array_body_of b a = record { value = array a.kind a.values; its_type = refl; its_body = a.its_array; same = a.same }
+
+pub text_body_of : (type : ℕ) (b : List ℕ) → type ≡ string_type → IsCanonicalText b → IsCanonicalBody type b
+text_body_of type b t s = record { value = string s.0; its_type = sym t; its_body = (s.1, s.2); same = s.2 }
 
 -- an array whose sizes are right
 pub array_found : (body elements : List ℕ) (number size : ℕ) → IsBytes body → 8 ≤ length body → number ≡ word_at body 4 → size ≡ word_at body 0 → IsFixedLen number size → elements ≡ drop 8 body → ((k : Kind) → number ≡ type_number k → size ≡ body_size k → AreCanonicalElements k elements) → IsCanonicalArray body

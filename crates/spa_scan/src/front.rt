@@ -1,10 +1,10 @@
 //! Pods at the front of an input: those of fixed size, and any with zeros as padding.
-ghost use Rattle.std.specs.Prelude.{◌≡◌, ◌≢◌, ◌+◌, ◌<◌, ◌≤◌, ◌⊎◌, IfNone, IfSome, List, drop, length, true, ℕ};
+ghost use Rattle.std.specs.Prelude.{◌≡◌, ◌≢◌, ◌+◌, ◌*◌, ◌/◌, ◌<◌, ◌≤◌, ◌⊎◌, IfNone, IfSome, List, drop, length, true, ℕ};
 ghost use Rattle.spa_format.specs.Kind.{Kind, body_size, bool_kind, type_number};
 ghost use Rattle.spa_format.specs.Words.{padded_size};
-ghost use Rattle.spa_scan.specs.Canonical.{BeginsCanonical, HasZeros, IsFixedLen, IsSized, OpensPadded};
+ghost use Rattle.spa_scan.specs.Canonical.{BeginsCanonical, EndsInZeros, HasZeros, IsFixedLen, IsSized};
 
-use spa_bytes::{Front, HEADER_LEN, SECOND_WORD, open, u32_at, u64_at};
+use spa_bytes::{HEADER_LEN, SECOND_WORD, u32_at, u64_at};
 use spa_utils::SpaTypes;
 
 /// The length in bytes of a body of one word.
@@ -25,36 +25,25 @@ const FIRST_OF_BODY: usize = 8;
 /// Where the second word of a body stands in its pod, or the padding behind a body of one word.
 const SECOND_OF_BODY: usize = 12;
 
-/// Opens the pod at the front, where all of it is there and its padding is zeros.
+/// Whether the bytes behind a body of this size are zeros, up to a multiple of 8.
 #[inline(always)]
-pub(crate) fn padded_front(input: &[u8]) -> Option<Front<'_>>
-    ensures padded { IfSome result (λ front. OpensPadded input.now front.type_ front.body.now front.rest.now) }
-    ensures shorter { IfSome result (λ front. length front.rest.now + 8 ≤ length input.now) }
-    ensures missed { IfNone result ((rest : List ℕ) → ¬ (BeginsCanonical input.now rest)) }
-{
-    let Some(front) = open(input) else {
-        return None;
-    };
-    let (_, behind) = input.split_at(HEADER_LEN);
-    if has_zeros(behind, front.body.len()) {
-        Some(front)
-    } else {
-        None
-    }
-}
-
-/// The bytes behind a body of this size are zeros, up to a multiple of 8.
-#[inline(always)]
-fn has_zeros(behind: &[u8], size: usize) -> bool
+pub(crate) fn has_zeros(behind: &[u8], size: usize) -> bool
     requires room { padded_size size ≤ length behind.now }
     ensures zeros { result ≡ true → HasZeros behind.now size }
     ensures found { HasZeros behind.now size → result ≡ true }
 {
-    let over = size % HEADER_LEN;
-    if over == 0 {
-        return true;
-    }
-    let last = u64_at(behind, size - over);
+    size % HEADER_LEN == 0 || ends_in_zeros(behind, size)
+}
+
+/// Whether the bytes from this offset on are zeros, up to the end of its eight bytes.
+#[inline(always)]
+pub(crate) fn ends_in_zeros(bytes: &[u8], at: usize) -> bool
+    requires room { at / 8 * 8 + 8 ≤ length bytes.now }
+    ensures zeros { result ≡ true → EndsInZeros bytes.now at }
+    ensures found { EndsInZeros bytes.now at → result ≡ true }
+{
+    let over = at % HEADER_LEN;
+    let last = u64_at(bytes, at - over);
     last >> (8 * over as u32) == 0
 }
 

@@ -1,13 +1,14 @@
 //! Pods that hold no others and are canonical, one after another.
-ghost use Rattle.std.specs.Prelude.{◌≡◌, ◌+◌, ◌<◌, ◌≤◌, ◌⊎◌, ◌++◌, IfNone, IfSome, List, false, length, true, ℕ};
+ghost use Rattle.std.specs.Prelude.{◌≡◌, ◌+◌, ◌<◌, ◌≤◌, ◌⊎◌, ◌++◌, IfNone, IfSome, List, false, length, take, true, ℕ};
 ghost use Rattle.spa_format.specs.Tree.{object_type, struct_type};
-ghost use Rattle.spa_scan.specs.Canonical.{AreCanonical, AreCanonicalProperties, BeginsCanonical, BeginsCanonicalProperty, IsCanonicalBody, IsSized};
+ghost use Rattle.spa_format.specs.Words.{padded_size};
+ghost use Rattle.spa_scan.specs.Canonical.{AreCanonical, AreCanonicalProperties, BeginsCanonical, BeginsCanonicalProperty, HasZeros, IsCanonicalBody, IsSized};
 ghost use Rattle.spa_scan.specs.Depth.{depth_of};
 
 use crate::array::{is_array, is_choice};
-use crate::front::{fixed_front, padded_front};
-use crate::text::is_text;
-use spa_bytes::{HEADER_LEN, POINTER_LEN, SECOND_WORD, u32_at};
+use crate::front::{fixed_front, has_zeros};
+use crate::text::{is_padded_text, is_text};
+use spa_bytes::{HEADER_LEN, POINTER_LEN, SECOND_WORD, open, u32_at};
 use spa_utils::SpaTypes;
 
 /// How many structs and objects may stand in one another in a pod that is looked into without memory.
@@ -48,14 +49,30 @@ fn leaf_body_front(input: &[u8]) -> Option<&[u8]>
     ensures shorter { IfSome result (λ rest. length rest.now + 8 ≤ length input.now) }
     ensures missed { IfNone result ((rest : List ℕ) (c : BeginsCanonical input.now rest) → ¬ (IsSized c.value) → 0 < depth_of c.value) }
 {
-    let Some(front) = padded_front(input) else {
+    let Some(front) = open(input) else {
         return None;
     };
-    if is_any_body(front.type_, front.body) {
+    let (_, behind) = input.split_at(HEADER_LEN);
+    if is_padded_body(front.type_, front.body, behind) {
         Some(front.rest)
     } else {
         None
     }
+}
+
+/// Whether a body of this type, which holds no pods, is as its value is written, and zeros follow it up to a multiple of 8.
+#[inline(always)]
+fn is_padded_body(type_: u32, body: &[u8], behind: &[u8]) -> bool
+    requires front { body.now ≡ take (length body.now) behind.now }
+    requires room { padded_size (length body.now) ≤ length behind.now }
+    ensures canonical { result ≡ true → IsCanonicalBody type_ body.now }
+    ensures zeros { result ≡ true → HasZeros behind.now (length body.now) }
+    ensures found { HasZeros behind.now (length body.now) → (c : IsCanonicalBody type_ body.now) → depth_of c.value ≡ 0 → ¬ (IsSized c.value) → result ≡ true }
+{
+    if type_ == SpaTypes::String.0 {
+        return is_padded_text(body, behind);
+    }
+    has_zeros(behind, body.len()) && is_any_body(type_, body)
 }
 
 /// What follows the property at the front, where its pod is one that `leaf_front` passes.
@@ -98,8 +115,7 @@ pub fn leaf_properties(input: &[u8]) -> (&[u8], &[u8])
     input.split_at(input.len() - left.len())
 }
 
-/// Whether a body of this type, which holds no pods, is as its value is written. Choices, strings and arrays are looked at in place: these need no
-/// call.
+/// Whether a body of this type, which holds no pods, is as its value is written. Choices and arrays are looked at in place: these need no call.
 #[inline(always)]
 fn is_any_body(type_: u32, body: &[u8]) -> bool
     ensures canonical { result ≡ true → IsCanonicalBody type_ body.now }
@@ -107,7 +123,6 @@ fn is_any_body(type_: u32, body: &[u8]) -> bool
 {
     match SpaTypes(type_) {
         SpaTypes::Choice => is_choice(body),
-        SpaTypes::String => is_text(body),
         SpaTypes::Array => is_array(body),
         _ => is_body(type_, body),
     }

@@ -1,13 +1,7 @@
 use Rattle.std.proofs.Common.{◌≡◌, rules, subst, sym}
-use Rattle.spa_format.specs.Tree.{string}
 use Rattle.spa_scan.specs.Canonical.{IsCanonicalBody}
 use Rattle.spa_scan.proofs.Parts.{array_body_of}
 use Rattle.spa_scan.proofs.scan.is_any_body.Goals as goal
-
-pub returns-in-String-clause-canonical : goal.returns-in-String-clause-canonical
-returns-in-String-clause-canonical c = λ e.
-    let s = c.is_text.ensures.canonical e in
-    record { value = string s.0; its_type = sym (let is : c.args.type_ ≡ 8 = search rules in is); its_body = (s.1, s.2); same = s.2 }
 
 pub returns-in-Array-clause-canonical : goal.returns-in-Array-clause-canonical
 returns-in-Array-clause-canonical c = λ e.

@@ -1,17 +1,16 @@
 use Rattle.std.proofs.Common.{◌≡◌, ◌∙◌, arith, refl, rules, subst, sym}
 use Rattle.std.proofs.lemmas.Bool.{eq-eqb, eqb-true}
 use Rattle.spa_format.specs.Typed.{IsBytes}
-use Rattle.spa_format.specs.Tree.{bitmap, bytes, string}
+use Rattle.spa_format.specs.Tree.{bitmap, bytes}
 use Rattle.spa_scan.specs.Canonical.{IsCanonicalBody}
 use Rattle.spa_scan.proofs.Frames.{none_of, pointer_of}
 use Rattle.spa_scan.proofs.Opened.{pointer_of_body}
-use Rattle.spa_scan.proofs.Parts.{array_body_of}
+use Rattle.spa_scan.proofs.Parts.{array_body_of, text_body_of}
 use Rattle.spa_scan.proofs.scan.is_body.Goals as goal
 
 pub returns-in-String-clause-canonical : goal.returns-in-String-clause-canonical
 returns-in-String-clause-canonical c = λ e.
-    let s = c.is_text.ensures.canonical e in
-    record { value = string s.0; its_type = sym (let is : c.args.type_ ≡ 8 = search rules in is); its_body = (s.1, s.2); same = s.2 }
+    text_body_of _ _ (let is : c.args.type_ ≡ 8 = search rules in is) (c.is_text.ensures.canonical e)
 
 pub returns-in-Bytes-clause-canonical : goal.returns-in-Bytes-clause-canonical
 returns-in-Bytes-clause-canonical c = λ _.

@@ -7,7 +7,7 @@ pub returns : goal.returns
 returns c =
     let text = c.args.text.now in
     let long : 4 ≤ length text = omega (arith, c.if-text-lt-HALF_PIECE.false) in
-    let short : length text ≤ 8 = omega (arith, c.if-text-gt-PIECE.false) in
+    let short : length text ≤ 8 = let l = c.requires in omega arith in
     λ e.
     let both = and_parts _ _ e in
     ascii_ends 4 text _ long short c.split_at.ensures.back (c.are_four_ascii.ensures both.0) (c.are_four_ascii-2.ensures both.1)

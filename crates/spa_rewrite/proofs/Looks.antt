@@ -15,7 +15,7 @@ use Rattle.spa_bytes.specs.Opening.{Opens}
 use Rattle.spa_bodies.specs.Reading.{BeginsWith}
 use Rattle.spa_bodies.specs.Refusing.{StandsInMembers}
 use Rattle.spa_scan.specs.Canonical.{AreCanonical, AreCanonicalProperties, BeginsCanonical, HasZeros, IsCanonicalBody}
-use Rattle.spa_scan.proofs.Frames.{body_bytes, canonical_front, none_left, none_left_either, object_of, one_more, one_more_property, padded_of}
+use Rattle.spa_scan.proofs.Frames.{body_bytes, canonical_front, none_left, none_left_either, object_of, one_more, one_more_property}
 use Rattle.spa_scan.proofs.Made.{made_body, made_members, made_properties}
 use Rattle.spa_scan.proofs.Opened.{object_inside, struct_inside}
 use Rattle.spa_rewrite.specs.Look.{AreLooked, DifferInside, NestMore, OpensInside, Passes, StandsInside, StopsAt, nest_behind, nest_inside, nest_last}
@@ -277,7 +277,7 @@ pub own_opened : (type : ℕ) (here body rest inside : List ℕ) (inner : Bool) 
 own_opened type here body rest inside inner h o i c =
     let b = own_body type body inside inner (body_bytes here body rest type h o) i c in
     let z = no_padding (drop 8 here) (length body) (body_whole type body inside inner i c) in
-    canonical_front here body rest type (padded_of here body rest type h o z) b
+    canonical_front here (drop 8 here) body rest type h o refl z b
 
 pub inside_own : (type : ℕ) (here body rest behind inside : List ℕ) (inner : Bool) → IsBytes here → Opens here type body rest → IsInside type body inner inside →
     BeginsCanonical here behind → AreCanonicalInside inner inside

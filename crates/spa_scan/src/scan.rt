@@ -1,13 +1,13 @@
 //! Pods that hold no others and are canonical, one after another.
-ghost use Rattle.std.specs.Prelude.{◌≡◌, ◌+◌, ◌<◌, ◌≤◌, ◌⊎◌, ◌++◌, IfNone, IfSome, List, false, length, take, true, ℕ};
-ghost use Rattle.spa_format.specs.Tree.{object_type, struct_type};
+ghost use Rattle.std.specs.Prelude.{◌≡◌, ◌≢◌, ◌+◌, ◌<◌, ◌≤◌, ◌++◌, IfNone, IfSome, List, length, take, true, ℕ};
+ghost use Rattle.spa_format.specs.Tree.{array_type, choice_type, string_type};
 ghost use Rattle.spa_format.specs.Words.{padded_size};
 ghost use Rattle.spa_scan.specs.Canonical.{AreCanonical, AreCanonicalProperties, BeginsCanonical, BeginsCanonicalProperty, HasZeros, IsCanonicalBody, IsSized};
 ghost use Rattle.spa_scan.specs.Depth.{depth_of};
 
 use crate::array::{is_array, is_choice};
-use crate::front::{fixed_front, has_zeros};
-use crate::text::{is_padded_text, is_text};
+use crate::front::{has_zeros, sized_front};
+use crate::text::is_padded_text;
 use spa_bytes::{HEADER_LEN, POINTER_LEN, SECOND_WORD, open, u32_at};
 use spa_utils::SpaTypes;
 
@@ -22,29 +22,15 @@ pub fn leaf_front(input: &[u8]) -> Option<&[u8]>
     // No other canonical pod than a struct or an object is missed.
     ensures missed { IfNone result ((rest : List ℕ) (c : BeginsCanonical input.now rest) → 0 < depth_of c.value) }
 {
-    if let Some(rest) = fixed_front(input) {
+    if let Some(rest) = sized_front(input) {
         return Some(rest);
     }
-    if input.len() < HEADER_LEN {
-        return None;
-    }
-    if !is_looked_into(u32_at(input, SECOND_WORD)) {
-        return None;
-    }
-    leaf_body_front(input)
-}
-
-/// Whether pods of this type hold no others.
-#[inline(always)]
-fn is_looked_into(type_: u32) -> bool
-    ensures { result ≡ false → (type_ ≡ struct_type) ⊎ (type_ ≡ object_type) }
-{
-    type_ != SpaTypes::Struct.0 && type_ != SpaTypes::Object.0
+    unsized_front(input)
 }
 
 /// What follows the pod at the front, where that is canonical, not of fixed size, and neither a struct nor an object.
 #[inline(always)]
-fn leaf_body_front(input: &[u8]) -> Option<&[u8]>
+pub fn unsized_front(input: &[u8]) -> Option<&[u8]>
     ensures taken { IfSome result (λ rest. BeginsCanonical input.now rest.now) }
     ensures shorter { IfSome result (λ rest. length rest.now + 8 ≤ length input.now) }
     ensures missed { IfNone result ((rest : List ℕ) (c : BeginsCanonical input.now rest) → ¬ (IsSized c.value) → 0 < depth_of c.value) }
@@ -72,7 +58,7 @@ fn is_padded_body(type_: u32, body: &[u8], behind: &[u8]) -> bool
     if type_ == SpaTypes::String.0 {
         return is_padded_text(body, behind);
     }
-    has_zeros(behind, body.len()) && is_any_body(type_, body)
+    has_zeros(behind, body.len()) && is_other_body(type_, body)
 }
 
 /// What follows the property at the front, where its pod is one that `leaf_front` passes.
@@ -115,30 +101,34 @@ pub fn leaf_properties(input: &[u8]) -> (&[u8], &[u8])
     input.split_at(input.len() - left.len())
 }
 
-/// Whether a body of this type, which holds no pods, is as its value is written. Choices and arrays are looked at in place: these need no call.
+/// Whether a body of this type is as its value is written, and holds no pods. Choices and arrays need no call.
 #[inline(always)]
-fn is_any_body(type_: u32, body: &[u8]) -> bool
+fn is_other_body(type_: u32, body: &[u8]) -> bool
+    requires { type_ ≢ string_type }
     ensures canonical { result ≡ true → IsCanonicalBody type_ body.now }
     ensures found { (c : IsCanonicalBody type_ body.now) → depth_of c.value ≡ 0 → ¬ (IsSized c.value) → result ≡ true }
 {
     match SpaTypes(type_) {
         SpaTypes::Choice => is_choice(body),
         SpaTypes::Array => is_array(body),
-        _ => is_body(type_, body),
+        SpaTypes::Struct => false,
+        SpaTypes::Object => false,
+        _ => is_rare_body(type_, body),
     }
 }
 
-/// Whether a body of this type, which holds no pods, is as its value is written.
-fn is_body(type_: u32, body: &[u8]) -> bool
+/// Does what `is_other_body` does, for types that are met seldom.
+#[inline(never)]
+fn is_rare_body(type_: u32, body: &[u8]) -> bool
+    requires text { type_ ≢ string_type }
+    requires array { type_ ≢ array_type }
+    requires choice { type_ ≢ choice_type }
     ensures canonical { result ≡ true → IsCanonicalBody type_ body.now }
     ensures found { (c : IsCanonicalBody type_ body.now) → depth_of c.value ≡ 0 → ¬ (IsSized c.value) → result ≡ true }
 {
     match SpaTypes(type_) {
-        SpaTypes::String => is_text(body),
         SpaTypes::Bytes => true,
         SpaTypes::Bitmap => true,
-        SpaTypes::Choice => is_choice(body),
-        SpaTypes::Array => is_array(body),
         SpaTypes::Pointer => body.len() == POINTER_LEN && u32_at(body, SECOND_WORD) == 0,
         SpaTypes::None => body.is_empty(),
         _ => false,

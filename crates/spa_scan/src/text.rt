@@ -67,7 +67,7 @@ fn holds_characters(text: &[u8]) -> bool
     true
 }
 
-/// What follows the first pieces that are ASCII.
+/// What follows the first pieces that are ASCII, and half a piece at the end.
 #[inline(always)]
 fn behind_ascii(text: &[u8]) -> &[u8]
     ensures alike { AreTextAlike result.now text.now }
@@ -81,7 +81,11 @@ fn behind_ascii(text: &[u8]) -> &[u8]
         let (_, rest) = left.split_at(PIECE);
         left = rest;
     }
-    left
+    if left.len() < HALF_PIECE || !are_four_ascii(left) {
+        return left;
+    }
+    let (_, rest) = left.split_at(HALF_PIECE);
+    rest
 }
 
 /// Whether bytes are UTF-8 without NUL, by two walks over them.

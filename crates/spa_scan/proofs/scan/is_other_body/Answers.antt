@@ -1,7 +1,7 @@
 use Rattle.std.proofs.Common.{◌≡◌, rules, subst, sym}
 use Rattle.spa_scan.specs.Canonical.{IsCanonicalBody}
 use Rattle.spa_scan.proofs.Parts.{array_body_of}
-use Rattle.spa_scan.proofs.scan.is_any_body.Goals as goal
+use Rattle.spa_scan.proofs.scan.is_other_body.Goals as goal
 
 pub returns-in-Array-clause-canonical : goal.returns-in-Array-clause-canonical
 returns-in-Array-clause-canonical c = λ e.

@@ -1,16 +1,10 @@
-use Rattle.std.proofs.Common.{◌≡◌, ◌∙◌, arith, refl, rules, subst, sym}
+use Rattle.std.proofs.Common.{◌≡◌, ◌∙◌, arith, refl, rules, sym}
 use Rattle.std.proofs.lemmas.Bool.{eq-eqb, eqb-true}
 use Rattle.spa_format.specs.Typed.{IsBytes}
 use Rattle.spa_format.specs.Tree.{bitmap, bytes}
-use Rattle.spa_scan.specs.Canonical.{IsCanonicalBody}
 use Rattle.spa_scan.proofs.Frames.{none_of, pointer_of}
 use Rattle.spa_scan.proofs.Opened.{pointer_of_body}
-use Rattle.spa_scan.proofs.Parts.{array_body_of, text_body_of}
-use Rattle.spa_scan.proofs.scan.is_body.Goals as goal
-
-pub returns-in-String-clause-canonical : goal.returns-in-String-clause-canonical
-returns-in-String-clause-canonical c = λ e.
-    text_body_of _ _ (let is : c.args.type_ ≡ 8 = search rules in is) (c.is_text.ensures.canonical e)
+use Rattle.spa_scan.proofs.scan.is_rare_body.Goals as goal
 
 pub returns-in-Bytes-clause-canonical : goal.returns-in-Bytes-clause-canonical
 returns-in-Bytes-clause-canonical c = λ _.
@@ -19,10 +13,6 @@ returns-in-Bytes-clause-canonical c = λ _.
 pub returns-in-Bitmap-clause-canonical : goal.returns-in-Bitmap-clause-canonical
 returns-in-Bitmap-clause-canonical c = λ _.
     record { value = bitmap c.args.body.now; its_type = sym (let is : c.args.type_ ≡ 12 = search rules in is); its_body = refl; same = refl }
-
-pub returns-in-Array-clause-canonical : goal.returns-in-Array-clause-canonical
-returns-in-Array-clause-canonical c = λ e.
-    subst (λ k. IsCanonicalBody k c.args.body.now) (sym (let is : c.args.type_ ≡ 13 = search rules in is)) (array_body_of _ (c.is_array.ensures.canonical e))
 
 pub returns-then-body-eq-POINTER_LEN-clause-canonical : goal.returns-then-body-eq-POINTER_LEN-clause-canonical
 returns-then-body-eq-POINTER_LEN-clause-canonical c =

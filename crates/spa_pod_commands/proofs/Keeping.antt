@@ -13,7 +13,7 @@ use Rattle.spa_fixed_sized.specs.declared.fault.DeserializeError.{DeserializeErr
 use Rattle.spa_fixed_sized.specs.declared.fault.DeserializeError.TheVariants as error
 use Rattle.spa_rewrite.specs.Rewriting.{IsLeft, RefusesFront}
 use Rattle.spa_device.specs.Whole.{IsAllOf}
-use Rattle.spa_pod_commands.specs.Answers.{Answers, BeginsToWrite, IsCutOff, IsNotListed, IsRefusalAt, IsTold, IsUndone, IsUnmade, OnAnswer, Writes}
+use Rattle.spa_pod_commands.specs.Answers.{Answers, BeginsToWrite, FailsFor, IsCutOff, IsNotListed, IsRefusalAt, IsUndone, IsUnmade, OnAnswer, Writes}
 use Rattle.spa_pod_commands.specs.declared.answer.Answer.{Answer}
 use Rattle.spa_pod_commands.specs.declared.answer.Failure.{Failure}
 use Rattle.spa_pod_commands.specs.declared.answer.Failure.TheVariants.{Pod, OutOfMemory, ReadFailed, WriteFailed}
@@ -51,41 +51,41 @@ some_left input place h =
 pub left_fits : (input left : List ℕ) → IsLeft input left → length left ≤ length input
 left_fits input left h = let e = ap length h.2 in let l = length-append h.1 left in omega (arith, e, l)
 
--- where the input isn't pods one after another, its refusal is told
-at_place : (input left : List ℕ) (place : ℕ) (name : List ℕ) (told : DeserializeError (Bor (List ℕ))) (why : Failure) → IsLeft input left →
-    place + length left ≡ length input → ((vs : Trees) → ¬ (AreMembers vs input)) → RefusesFront left told → name ≡ kind_text told →
+-- where the input isn't pods one after another, its refusal is this
+at_place : (input left : List ℕ) (place : ℕ) (name : List ℕ) (cause : DeserializeError (Bor (List ℕ))) (why : Failure) → IsLeft input left →
+    place + length left ≡ length input → ((vs : Trees) → ¬ (AreMembers vs input)) → RefusesFront left cause → name ≡ kind_text cause →
     IsRefusalAt place name why → IsUnmade input why
-at_place input left place name told (Pod p kind) behind eq refuses front named t = record {
+at_place input left place name cause (Pod p kind) behind eq refuses front named t = record {
   input = input;
   read = refl;
   left = left;
   behind = behind;
   its_place = subst (λ n. n + length left ≡ length input) (sym t.0) eq;
   refused = refuses;
-  told = told;
+  cause = cause;
   front = front;
   its_kind = t.1 ∙ named;
 }
-at_place input left place name told OutOfMemory behind eq refuses front named t = absurd t
-at_place input left place name told ReadFailed behind eq refuses front named t = absurd t
-at_place input left place name told WriteFailed behind eq refuses front named t = absurd t
+at_place input left place name cause OutOfMemory behind eq refuses front named t = absurd t
+at_place input left place name cause ReadFailed behind eq refuses front named t = absurd t
+at_place input left place name cause WriteFailed behind eq refuses front named t = absurd t
 
--- the same of any error that may be told, memory's among them
-pub unmade : {I : Type 0} (input left : List ℕ) (place : ℕ) (e : DeserializeError I) (told : DeserializeError (Bor (List ℕ))) (why : Failure) →
-    IsLeft input left → place + length left ≡ length input → OnFault ((vs : Trees) → ¬ (AreMembers vs input)) e → RefusesFront left told →
-    kind_text e ≡ kind_text told → IsTold place e why → IsUnmade input why
-unmade input left place error.OutOfMemory told why behind eq refuses front named t = subst (IsUnmade input) (sym t.told) tt
-unmade input left place (error.Nom f) told why behind eq refuses front named t = at_place input left place _ told why behind eq refuses front named t.told
-unmade input left place (error.PropertyWrongKey k) told why behind eq refuses front named t = at_place input left place _ told why behind eq refuses front named t.told
-unmade input left place error.UnsupportedType told why behind eq refuses front named t = at_place input left place _ told why behind eq refuses front named t.told
-unmade input left place error.InvalidType told why behind eq refuses front named t = at_place input left place _ told why behind eq refuses front named t.told
-unmade input left place error.PropertyMissing told why behind eq refuses front named t = at_place input left place _ told why behind eq refuses front named t.told
-unmade input left place error.InvalidChoiceType told why behind eq refuses front named t = at_place input left place _ told why behind eq refuses front named t.told
-unmade input left place error.MissingChoiceValues told why behind eq refuses front named t = at_place input left place _ told why behind eq refuses front named t.told
-unmade input left place error.WrongSize told why behind eq refuses front named t = at_place input left place _ told why behind eq refuses front named t.told
-unmade input left place error.UnreadMembers told why behind eq refuses front named t = at_place input left place _ told why behind eq refuses front named t.told
-unmade input left place error.NoElementLeft told why behind eq refuses front named t = at_place input left place _ told why behind eq refuses front named t.told
-unmade input left place error.FailedReader told why behind eq refuses front named t = at_place input left place _ told why behind eq refuses front named t.told
+-- and so for any error, memory's among them
+pub unmade : {I : Type 0} (input left : List ℕ) (place : ℕ) (e : DeserializeError I) (cause : DeserializeError (Bor (List ℕ))) (why : Failure) →
+    IsLeft input left → place + length left ≡ length input → OnFault ((vs : Trees) → ¬ (AreMembers vs input)) e → RefusesFront left cause →
+    kind_text e ≡ kind_text cause → FailsFor place e why → IsUnmade input why
+unmade input left place error.OutOfMemory cause why behind eq refuses front named t = subst (IsUnmade input) (sym t.its) tt
+unmade input left place (error.Nom f) cause why behind eq refuses front named t = at_place input left place _ cause why behind eq refuses front named t.its
+unmade input left place (error.PropertyWrongKey k) cause why behind eq refuses front named t = at_place input left place _ cause why behind eq refuses front named t.its
+unmade input left place error.UnsupportedType cause why behind eq refuses front named t = at_place input left place _ cause why behind eq refuses front named t.its
+unmade input left place error.InvalidType cause why behind eq refuses front named t = at_place input left place _ cause why behind eq refuses front named t.its
+unmade input left place error.PropertyMissing cause why behind eq refuses front named t = at_place input left place _ cause why behind eq refuses front named t.its
+unmade input left place error.InvalidChoiceType cause why behind eq refuses front named t = at_place input left place _ cause why behind eq refuses front named t.its
+unmade input left place error.MissingChoiceValues cause why behind eq refuses front named t = at_place input left place _ cause why behind eq refuses front named t.its
+unmade input left place error.WrongSize cause why behind eq refuses front named t = at_place input left place _ cause why behind eq refuses front named t.its
+unmade input left place error.UnreadMembers cause why behind eq refuses front named t = at_place input left place _ cause why behind eq refuses front named t.its
+unmade input left place error.NoElementLeft cause why behind eq refuses front named t = at_place input left place _ cause why behind eq refuses front named t.its
+unmade input left place error.FailedReader cause why behind eq refuses front named t = at_place input left place _ cause why behind eq refuses front named t.its
 
 -- so the work on an input that was read whole isn't done, and nothing is written
 pub unmade_undone : (Makes : List ℕ → List ℕ → Type 0) (remaining old : Option (List ℕ)) (input : List ℕ) (why : Failure) → IsAllOf remaining input →
@@ -98,7 +98,7 @@ unmade_undone Makes remaining old input (Pod place kind) all u = (
     behind = u.behind;
     its_place = u.its_place;
     refused = u.refused;
-    told = u.told;
+    cause = u.cause;
     front = u.front;
     its_kind = u.its_kind;
   },

@@ -55,20 +55,20 @@ pub begun_stopped : (a b c : Option (List ℕ)) (bytes left : List ℕ) → HasB
     (n : ℕ) × Appends a c (take n bytes)
 begun_stopped a b c bytes left h w = begun_part a c bytes (drop 0 left) (begun_more a b c bytes left 0 h w)
 
--- a run whose line was told, or begun
-pub ends : {T : Type 0} (IsSo : Answer → Type 0) (old new : Option (List ℕ)) (answer : Answer) (told : Result T Failure) → IsSo answer →
-    OnOk told (Appends old new (line_of answer)) → OnErr told ((n : ℕ) × Appends old new (take n (line_of answer))) →
+-- a run whose line was written, or begun
+pub ends : {T : Type 0} (IsSo : Answer → Type 0) (old new : Option (List ℕ)) (answer : Answer) (written : Result T Failure) → IsSo answer →
+    OnOk written (Appends old new (line_of answer)) → OnErr written ((n : ℕ) × Appends old new (take n (line_of answer))) →
     EndsBy IsSo (status_of answer) old new
-ends IsSo old new answer (Ok x) so line begun =
+ends IsSo old new answer (Ok x) so all begun =
     let its = line_of answer in
     record {
       answer = answer;
       its = so;
       its_status = refl;
       count = length its;
-      line = subst (Appends old new) (sym (take_all (length its) its (omega arith))) line;
+      line = subst (Appends old new) (sym (take_all (length its) its (omega arith))) all;
     }
-ends IsSo old new answer (Err e) so line begun = record {
+ends IsSo old new answer (Err e) so all begun = record {
   answer = answer;
   its = so;
   its_status = refl;

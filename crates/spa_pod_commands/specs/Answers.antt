@@ -101,9 +101,9 @@ pub record RefusesInput (remaining : Option (List ℕ)) (place : ℕ) (kind : Li
   pub behind : IsLeft input left
   pub its_place : place + length left ≡ length input
   pub refused : (vs : Trees) → ¬ (AreMembers vs input)
-  pub told : DeserializeError (Bor (List ℕ))
-  pub front : RefusesFront left told
-  pub its_kind : kind ≡ kind_text told
+  pub cause : DeserializeError (Bor (List ℕ))
+  pub front : RefusesFront left cause
+  pub its_kind : kind ≡ kind_text cause
 
 -- Why nothing is made of bytes that have to consist of pods: they don't, or memory runs out.
 abbrev pub IsUnmade : List ℕ → Failure → Type 0
@@ -143,11 +143,11 @@ abbrev pub IsRefusalAt : ℕ → List ℕ → Failure → Type 0
 IsRefusalAt place name (Pod p kind) = (p ≡ place) × (kind.now ≡ name)
 IsRefusalAt place name _ = ⊥
 
--- the failure for this error
-abbrev pub Tells : {I : Type 0} → ℕ → DeserializeError I → Failure → Type 0
-Tells place error.OutOfMemory failure = failure ≡ OutOfMemory
-Tells place e failure = IsRefusalAt place (kind_text e) failure
+-- the failure for this error of the pod at this place
+abbrev pub IsFailureFor : {I : Type 0} → ℕ → DeserializeError I → Failure → Type 0
+IsFailureFor place error.OutOfMemory failure = failure ≡ OutOfMemory
+IsFailureFor place e failure = IsRefusalAt place (kind_text e) failure
 
--- this error of the pod at this place is told so
-pub record IsTold {I : Type 0} (place : ℕ) (e : DeserializeError I) (failure : Failure) : Type 0 where
-  pub told : Tells place e failure
+-- as a record, from which lemmas infer the place and the error
+pub record FailsFor {I : Type 0} (place : ℕ) (e : DeserializeError I) (failure : Failure) : Type 0 where
+  pub its : IsFailureFor place e failure

@@ -25,8 +25,9 @@ pub(crate) enum Level<'a> {
     Properties(PodObjectIter<'a>),
 }
 
-/// Makes the lines of pods one after another: for each pod a line with its depth, type number and size, and then the same of what
-/// is inside it, each field and each property's value in order. Lines are appended to those that wait, and written from time to time.
+/// Makes the lines of pods one after another: of each pod a line with its depth, type number and size, and then
+/// the lines of its fields or of the values of its properties, in order. Lines are appended to those that wait,
+/// and written from time to time.
 pub(crate) fn list<W: Write>(
     alloc: Global,
     pods: &[u8],
@@ -102,8 +103,8 @@ fn add_line<W: Write>(
     lines: &mut String,
     output: &mut W,
 ) -> Result<(), Failure>
-    ensures added { OnOk result (Says (W.contents output.old) (string_bytes lines.old) (W.contents output.new) (string_bytes lines.new)
-        (line_of_pod depth (pod_bytes pod.entry))) }
+    ensures added { OnOk result (Says (W.contents output.old) (string_bytes lines.old)
+        (W.contents output.new) (string_bytes lines.new) (line_of_pod depth (pod_bytes pod.entry))) }
     ensures cause { IfErr result IsCutOff }
 {
     if writeln!(lines, "{depth} {} {}", pod.type_().as_raw(), pod.size()).is_err() {

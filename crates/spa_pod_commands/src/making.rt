@@ -2,7 +2,7 @@
 ghost use Rattle.std.specs.Prelude.{IfErr, IfOk, OnOk};
 ghost use Rattle.spa_format.specs.Pod.{AreMembers};
 ghost use Rattle.spa_format.specs.Tree.{Trees};
-ghost use Rattle.spa_pod_commands.specs.Answers.{Fixates, IsTold, IsUnmade, Rewrites};
+ghost use Rattle.spa_pod_commands.specs.Answers.{FailsFor, Fixates, IsUnmade, Rewrites};
 
 use crate::answer::Failure;
 use crate::pods::fixate_all;
@@ -25,8 +25,7 @@ pub fn rewritten(alloc: Global, mut bytes: Vec<u8>) -> Result<Vec<u8>, Failure>
     }
 }
 
-/// The bytes with each top-level object fixated in place, and the other pods as they came. They are accepted exactly where they
-/// could be rewritten.
+/// The bytes with each top-level object fixated in place, and the other pods as they came. It accepts exactly what `rewritten` does.
 pub fn fixated(alloc: Global, mut bytes: Vec<u8>) -> Result<Vec<u8>, Failure>
     ensures made { IfOk result (λ out. Fixates bytes.items out.items) }
     ensures refused { IfErr result (IsUnmade bytes.items) }
@@ -49,7 +48,7 @@ pub fn check(alloc: Global, bytes: &[u8]) -> Result<(), Failure>
 
 /// The refusal of the top-level pod at this byte.
 fn refused<I>(place: usize, error: &DeserializeError<I>) -> Failure
-    ensures { IsTold place error.now result }
+    ensures { FailsFor place error.now result }
 {
     match error {
         DeserializeError::OutOfMemory => Failure::OutOfMemory,

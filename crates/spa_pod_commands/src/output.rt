@@ -10,7 +10,8 @@ use std::io::{ErrorKind, Write};
 #[tactic(auto, using(crate::proofs::Running::begun_first, crate::proofs::Running::begun_more, crate::proofs::Running::begun_kept, crate::proofs::Running::begun_all, crate::proofs::Running::begun_part, crate::proofs::Running::begun_failed, crate::proofs::Running::begun_stopped))]
 pub fn write<W: Write>(device: &mut W, bytes: &[u8]) -> Result<(), Failure>
     ensures taken { OnOk result (Appends (W.contents device.old) (W.contents device.new) bytes.now) }
-    ensures begun { OnErr result ((n : ℕ) × Appends (W.contents device.old) (W.contents device.new) (take n bytes.now)) }
+    ensures begun { OnErr result ((n : ℕ)
+        × Appends (W.contents device.old) (W.contents device.new) (take n bytes.now)) }
     ensures cause { IfErr result (λ failure. failure ≡ Failure.WriteFailed) }
 {
     let mut left = bytes;

@@ -76,8 +76,10 @@ pub fn answer<R: Read, W: Write>(
 /// Writes the rewritings of the pods that the input consists of.
 #[tactic(auto, using(crate::proofs::Keeping::unmade_undone))]
 fn rewrite<R: Read, W: Write>(alloc: Global, input: &mut R, output: &mut W) -> Result<(), Failure>
-    ensures done { OnOk result (Writes Rewrites (R.remaining input.old) (W.contents output.old) (W.contents output.new)) }
-    ensures undone { IfErr result (IsUndone Rewrites (R.remaining input.old) (W.contents output.old) (W.contents output.new)) }
+    ensures done { OnOk result
+        (Writes Rewrites (R.remaining input.old) (W.contents output.old) (W.contents output.new)) }
+    ensures undone { IfErr result
+        (IsUndone Rewrites (R.remaining input.old) (W.contents output.old) (W.contents output.new)) }
 {
     let bytes = read_whole(alloc, input)?;
     let made = rewritten(alloc, bytes)?;
@@ -87,8 +89,10 @@ fn rewrite<R: Read, W: Write>(alloc: Global, input: &mut R, output: &mut W) -> R
 /// Writes the input with each top-level object fixated.
 #[tactic(auto, using(crate::proofs::Keeping::unmade_undone))]
 fn fixate<R: Read, W: Write>(alloc: Global, input: &mut R, output: &mut W) -> Result<(), Failure>
-    ensures done { OnOk result (Writes Fixates (R.remaining input.old) (W.contents output.old) (W.contents output.new)) }
-    ensures undone { IfErr result (IsUndone Fixates (R.remaining input.old) (W.contents output.old) (W.contents output.new)) }
+    ensures done { OnOk result
+        (Writes Fixates (R.remaining input.old) (W.contents output.old) (W.contents output.new)) }
+    ensures undone { IfErr result
+        (IsUndone Fixates (R.remaining input.old) (W.contents output.old) (W.contents output.new)) }
 {
     let bytes = read_whole(alloc, input)?;
     let made = fixated(alloc, bytes)?;
@@ -98,8 +102,10 @@ fn fixate<R: Read, W: Write>(alloc: Global, input: &mut R, output: &mut W) -> Re
 /// Lists the pods that the input consists of, and the pods inside them.
 #[tactic(auto, using(crate::proofs::Keeping::cut_off))]
 fn show<R: Read, W: Write>(alloc: Global, input: &mut R, output: &mut W) -> Result<(), Failure>
-    ensures done { OnOk result (Writes Lists (R.remaining input.old) (W.contents output.old) (W.contents output.new)) }
-    ensures undone { IfErr result (IsNotListed (R.remaining input.old) (W.contents output.old) (W.contents output.new)) }
+    ensures done { OnOk result
+        (Writes Lists (R.remaining input.old) (W.contents output.old) (W.contents output.new)) }
+    ensures undone { IfErr result
+        (IsNotListed (R.remaining input.old) (W.contents output.old) (W.contents output.new)) }
 {
     let bytes = read_whole(alloc, input)?;
     if let Some(place) = first_short(bytes.as_slice()) {

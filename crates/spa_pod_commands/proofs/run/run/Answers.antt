@@ -17,4 +17,4 @@ returns g c =
       fixate = c.answer-answer.ensures.fixate;
       show = c.answer-answer.ensures.show;
       misuse = c.answer-answer.ensures.misuse;
-    }) c.tell.ensures.told c.tell.ensures.begun)
+    }) c.tell.ensures.written c.tell.ensures.begun)

@@ -54,7 +54,7 @@ steps name reading refused Makes place left at rest before pod kind old mid new 
       made = m.0 ++ kept_of refused pod;
       pod = its;
       written = w ∙ ap (λ z. z ++ kept_of refused pod) m.2 ∙ append_assoc old m.0 (kept_of refused pod);
-      told = t;
+      listed = t;
       shorter = let s = rest_shorter at parts.2 in let lr = ap length r in omega (arith, e, s, lr);
       goes_on = λ next others pods h g.
           subst (λ z. GoesOn name reading refused Makes place left z (its ∷ pods)) (sym (append_assoc m.0 (kept_of refused pod) others))
@@ -67,12 +67,12 @@ steps name reading refused Makes place left at rest before pod kind old mid new 
     }
 
 module _ (name : List ℕ) (reading : Reading) (refused : Refused) (Makes : List ℕ → List ℕ → Type 0) (input old : List ℕ) (olds : List RefusedPod) where
-  -- something was made and told, and with what is made and told of what is left it is made and told of all
+  -- something was made and pods were listed; with what is made and listed of what is left it is all
   pub record MadeSoFar (left new : List ℕ) (news : List RefusedPod) : Type 0 where
     pub made : List ℕ
     pub pods : List RefusedPod
     pub written : new ≡ old ++ made
-    pub told : news ≡ olds ++ pods
+    pub listed : news ≡ olds ++ pods
     pub fits : length left ≤ length input
     pub goes_on : (place : ℕ) (others : List ℕ) (more : List RefusedPod) → place + length left ≡ length input →
         GoesOn name reading refused Makes place left others more → GoesOn name reading refused Makes 0 input (made ++ others) (pods ++ more)
@@ -82,7 +82,7 @@ module _ (name : List ℕ) (reading : Reading) (refused : Refused) (Makes : List
     made = [];
     pods = [];
     written = sym (append-nil old);
-    told = sym (append-nil olds);
+    listed = sym (append-nil olds);
     fits = omega arith;
     goes_on = λ place others more h g.
         subst (λ z. GoesOn name reading refused Makes z input others more) (let z : place ≡ 0 = omega (arith, h) in z) g;
@@ -94,7 +94,7 @@ module _ (name : List ℕ) (reading : Reading) (refused : Refused) (Makes : List
     made = so.made ++ s.made;
     pods = so.pods ++ (s.pod ∷ []);
     written = s.written ∙ ap (λ z. z ++ s.made) so.written ∙ append_assoc old so.made s.made;
-    told = s.told ∙ ap (λ z. z ++ (s.pod ∷ [])) so.told ∙ append_assoc olds so.pods (s.pod ∷ []);
+    listed = s.listed ∙ ap (λ z. z ++ (s.pod ∷ [])) so.listed ∙ append_assoc olds so.pods (s.pod ∷ []);
     fits = let f = so.fits in let sh = s.shorter in omega (arith, f, sh);
     goes_on = λ next others more e g.
         subst (λ z. GoesOn name reading refused Makes 0 input z ((so.pods ++ (s.pod ∷ [])) ++ more)) (sym (append_assoc so.made s.made others))
@@ -110,5 +110,5 @@ module _ (name : List ℕ) (reading : Reading) (refused : Refused) (Makes : List
     so.pods ++ [],
     so.goes_on place s.0.0 [] h (ends place left s.0.0 s.0.1),
     s.0.2 ∙ ap (λ z. z ++ s.0.0) so.written ∙ append_assoc old so.made s.0.0,
-    s.1 ∙ so.told ∙ ap (λ z. olds ++ z) (sym (append-nil so.pods)),
+    s.1 ∙ so.listed ∙ ap (λ z. olds ++ z) (sym (append-nil so.pods)),
   )

@@ -4,7 +4,6 @@ use Rattle.std.proofs.lemmas.List.{drop-append-le, drop-take, nil_from_length, t
 use Rattle.std.proofs.lemmas.List.Edits.{take-paste}
 use Rattle.std.proofs.Math.Seq.{paste}
 use Rattle.std.specs.Io.KnownBytes.{Consumes, IsAtEnd, Keeps}
-use Rattle.std.specs.Prelude.{IfSome}
 use Rattle.spa_device.specs.Whole.{IsAllOf}
 use Rattle.spa_format.specs.Front.{HasFront, front_of, rest_of}
 use Rattle.spa_format.specs.Pod.{AreMembers, IsPod}

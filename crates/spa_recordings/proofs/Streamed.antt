@@ -1,5 +1,5 @@
 -- How far the work on an input is that is written block by block.
-use Rattle.std.proofs.Common.{◌≡◌, ◌≢◌, ◌⊎◌, ◌∙◌, ◌+◌, ◌*◌, ◌-◌, ◌<◌, ◌≤◌, ℕ, List, [], ◌∷◌, ◌++◌, Option, Some, None, append_assoc, append-nil, ap, arith, drop, inl, inr, length, length-append, length-drop, length-take, refl, subst, suc, sym, take, take-append-drop}
+use Rattle.std.proofs.Common.{◌≡◌, ◌≢◌, ◌∙◌, ◌+◌, ◌*◌, ◌-◌, ◌<◌, ◌≤◌, ℕ, List, [], ◌∷◌, ◌++◌, Option, append_assoc, append-nil, ap, arith, drop, inl, inr, length, length-append, length-take, refl, subst, suc, sym, take, take-append-drop}
 use Rattle.std.proofs.lemmas.List.{nil_from_length, take_all, take_at}
 use Rattle.std.specs.Prelude.{IfErr, IfOk, Result, Ok, Err}
 use Rattle.std.specs.Io.KnownBytes.{Appends, Consumes, IsAtEnd, Keeps}
@@ -10,7 +10,7 @@ use Rattle.spa_format.specs.Walk.{walk}
 use Rattle.spa_pod_commands.proofs.Keeping.{appends_keeps, appends_nothing}
 use Rattle.spa_recordings.specs.Blocks.{AreWhole, IsReadFailure, ReadsOn, no_pods}
 use Rattle.spa_recordings.specs.Reading.{IsUnreadAt}
-use Rattle.spa_recordings.specs.Streaming.{BeginsBlock, EndsBehind, IsEnded, IsFound, IsRefusedAhead, IsWrittenUnless, MakesFirst, Stops, StopsAtPod, StopsInBlock, Streams, WritesMade}
+use Rattle.spa_recordings.specs.Streaming.{BeginsBlock, IsEnded, IsFound, IsRefusedAhead, MakesFirst, Stops, StopsAtPod, StopsInBlock, Streams, WritesMade}
 use Rattle.spa_recordings.specs.declared.reading.Reading.TheVariants.{Exact}
 use Rattle.spa_recordings.specs.declared.streaming.Found.{Found}
 use Rattle.spa_recordings.specs.declared.streaming.Stop.{Stop}
@@ -31,6 +31,7 @@ begins_more Makes block part left old new e s = (
   },
   s.3,
   s.4,
+  s.5,
 )
 
 -- the first refused pod of a block
@@ -98,6 +99,19 @@ begins_at Makes block part n old new is s =
 some_joined : (xs ys : List ℕ) → xs ≢ [] → xs ++ ys ≢ []
 some_joined [] ys n e = n refl
 some_joined (x ∷ xs) ys n e = let l = ap length e in omega (arith, l)
+
+some_behind : (xs ys : List ℕ) → ys ≢ [] → xs ++ ys ≢ []
+some_behind [] ys n e = n e
+some_behind (x ∷ xs) ys n e = let l = ap length e in omega (arith, l)
+
+-- what is made of a block was written, and couldn't be flushed
+pub all_begun : (made : List ℕ) (old mid new : Option (List ℕ)) → made ≢ [] → Appends old mid made → Keeps mid new →
+    (made ≢ []) × (n : ℕ) × Appends old new (take n made)
+all_begun made old mid new some w k = (
+  some,
+  length made,
+  subst (Appends old new) (sym (take_all (length made) made (omega arith))) (appends_keeps old mid new made w k),
+)
 
 -- what is made of pods is made of them part by part
 abbrev pub Joins : (ℕ → ℕ → List ℕ → List ℕ → ℕ → Type 0) → Type 0
@@ -227,24 +241,24 @@ module _ (Refuses : Type 0) (Makes : ℕ → ℕ → List ℕ → List ℕ → �
           (record { input = input; its = all; out = so.out; ends = (left, first); written = so.written })
 
   -- the input ended with a whole pod
-  pub streams : (remaining now : Option (List ℕ)) (held : List ℕ) (count place refused : ℕ) (old mid new : Option (List ℕ)) → held ≡ [] → IsAtEnd now →
-      Keeps mid new → StreamedSoFar remaining now held count place refused old mid → Streams (Makes 0 0) remaining old new refused
-  streams remaining now held count place refused old mid new none end k so =
+  pub streams : (remaining now : Option (List ℕ)) (held : List ℕ) (count place refused : ℕ) (old new : Option (List ℕ)) → held ≡ [] → IsAtEnd now →
+      StreamedSoFar remaining now held count place refused old new → Streams (Makes 0 0) remaining old new refused
+  streams remaining now held count place refused old new none end so =
       let nothing : so.passed ++ (held ++ unread_of now) ≡ so.passed =
       ap (λ z. so.passed ++ (z ++ unread_of now)) none ∙ ap (λ z. so.passed ++ z) (none_unread now end) ∙ append-nil so.passed in
       record {
         input = so.passed;
-        read = subst (IsAllOf remaining) nothing (input_is remaining now held count place refused old mid so);
+        read = subst (IsAllOf remaining) nothing (input_is remaining now held count place refused old new so);
         out = so.out;
         made = so.made;
-        written = appends_keeps old mid new so.out so.written k;
+        written = so.written;
       }
 
-  -- it ended, and the output can't be flushed, or what is held is no whole pod
-  pub ended : (remaining now : Option (List ℕ)) (held bytes : List ℕ) (count place refused : ℕ) (old mid new : Option (List ℕ)) (why : Stop) →
-      bytes ≡ held → IsAtEnd now → ¬ (HasFront held) → Keeps mid new → IsEnded count place bytes why →
-      StreamedSoFar remaining now held count place refused old mid → Stops Refuses (Makes 0 0) remaining old new why
-  ended remaining now held bytes count place refused old mid new (Pod number at read) b end n k e so =
+  -- it ended, and what is held is no whole pod
+  pub ended : (remaining now : Option (List ℕ)) (held bytes : List ℕ) (count place refused : ℕ) (old new : Option (List ℕ)) (why : Stop) →
+      bytes ≡ held → IsAtEnd now → ¬ (HasFront held) → IsEnded count place bytes why →
+      StreamedSoFar remaining now held count place refused old new → Stops Refuses (Makes 0 0) remaining old new why
+  ended remaining now held bytes count place refused old new (Pod number at read) b end n e so =
       let none = none_unread now end in
       let unread = unread_of now in
       let left = held ++ unread in
@@ -257,7 +271,7 @@ module _ (Refuses : Type 0) (Makes : ℕ → ℕ → List ℕ → List ℕ → �
       let some : held ≢ [] = λ z. e.3 (b ∙ z) in
       record {
         input = so.passed ++ left;
-        its = input_is remaining now held count place refused old mid so;
+        its = input_is remaining now held count place refused old new so;
         out = so.out;
         ends = record {
           left = left;
@@ -275,37 +289,28 @@ module _ (Refuses : Type 0) (Makes : ℕ → ℕ → List ℕ → List ℕ → �
                 no_pod = refused_held;
               });
         };
-        written = appends_keeps old mid new so.out so.written k;
+        written = so.written;
       }
-  ended remaining now held bytes count place refused old mid new OutOfMemory b end n k e so =
+  ended remaining now held bytes count place refused old new OutOfMemory b end n e so =
       let left = held ++ unread_of now in
       record {
         input = so.passed ++ left;
-        its = input_is remaining now held count place refused old mid so;
+        its = input_is remaining now held count place refused old new so;
         out = so.out;
-        ends = (left, first_made remaining now held count place refused old mid so left);
-        written = appends_keeps old mid new so.out so.written k;
+        ends = (left, first_made remaining now held count place refused old new so left);
+        written = so.written;
       }
-  ended remaining now held bytes count place refused old mid new ReadFailed b end n k e so = absurd e
-  ended remaining now held bytes count place refused old mid new WriteFailed b end n k e so =
-      let left = held ++ unread_of now in
-      record {
-        input = so.passed ++ left;
-        its = input_is remaining now held count place refused old mid so;
-        out = so.out;
-        ends = (left, first_made remaining now held count place refused old mid so left);
-        written =
-            (length so.out, subst (Appends old new) (sym (take_all (length so.out) so.out (omega arith))) (appends_keeps old mid new so.out so.written k));
-      }
+  ended remaining now held bytes count place refused old new ReadFailed b end n e so = absurd e
+  ended remaining now held bytes count place refused old new WriteFailed b end n e so = absurd e
 
-  pub closes : (remaining now : Option (List ℕ)) (held bytes : List ℕ) (count place refused : ℕ) (old mid new : Option (List ℕ)) (r : Result ℕ Stop) →
-      bytes ≡ held → IsAtEnd now → ¬ (HasFront held) → Keeps mid new → IfOk r (λ n. (n ≡ refused) × (bytes ≡ [])) → IfErr r (IsEnded count place bytes) →
-      StreamedSoFar remaining now held count place refused old mid →
+  pub closes : (remaining now : Option (List ℕ)) (held bytes : List ℕ) (count place refused : ℕ) (old new : Option (List ℕ)) (r : Result ℕ Stop) →
+      bytes ≡ held → IsAtEnd now → ¬ (HasFront held) → IfOk r (λ n. (n ≡ refused) × (bytes ≡ [])) → IfErr r (IsEnded count place bytes) →
+      StreamedSoFar remaining now held count place refused old new →
       IfOk r (Streams (Makes 0 0) remaining old new) × IfErr r (Stops Refuses (Makes 0 0) remaining old new)
-  closes remaining now held bytes count place refused old mid new (Ok n) b end none k z w so =
-      (subst (Streams (Makes 0 0) remaining old new) (sym z.0) (streams remaining now held count place refused old mid new (sym b ∙ z.1) end k so), tt)
-  closes remaining now held bytes count place refused old mid new (Err why) b end none k z w so =
-      (tt, ended remaining now held bytes count place refused old mid new why b end none k w so)
+  closes remaining now held bytes count place refused old new (Ok n) b end none z w so =
+      (subst (Streams (Makes 0 0) remaining old new) (sym z.0) (streams remaining now held count place refused old new (sym b ∙ z.1) end so), tt)
+  closes remaining now held bytes count place refused old new (Err why) b end none z w so =
+      (tt, ended remaining now held bytes count place refused old new why b end none w so)
 
   -- a block isn't written whole
   pub stops : (remaining now : Option (List ℕ)) (held : List ℕ) (count place refused len : ℕ) (old mid new : Option (List ℕ)) (why : Stop) →
@@ -393,8 +398,10 @@ module _ (Refuses : Type 0) (Makes : ℕ → ℕ → List ℕ → List ℕ → �
           },
         );
         written = (
-          length so.out + s.3,
-          subst (Appends old new) (sym (take_behind so.out s.1 s.3)) (known_more old mid new so.out (take s.3 s.1) so.written s.4),
+          some_behind so.out s.1 s.3,
+          length so.out + s.4,
+          subst (Appends old new) (sym (take_behind so.out s.1 s.4))
+              (known_more old mid new so.out (take s.4 s.1) so.written s.5),
         );
       }
     where

@@ -17,7 +17,8 @@ abbrev pub MakesOf : Reading → (Makes : List ℕ → List ℕ → Type 0) → 
 MakesOf reading Makes input out = (pods : List ℕ) × ReadsAs reading input pods × Makes pods out
 
 -- What is made of an input, which begins at this place: what is made of all its pods; or of those before a refused one, then what stays
--- of that one, and then the same of what follows it. A refused pod ends where its size word says, or with the input where that is behind it.
+-- of that one, and then what is made so of what follows it. A refused pod ends where its size word says, or with the input
+-- where that is behind it.
 pub data GoesOn (name : List ℕ) (reading : Reading) (refused : Refused) (Makes : List ℕ → List ℕ → Type 0) :
     (place : ℕ) → (input out : List ℕ) → List RefusedPod → Type 0 where
   ends : (place : ℕ) (input out : List ℕ) → MakesOf reading Makes input out → GoesOn name reading refused Makes place input out []
@@ -42,7 +43,7 @@ pub record MakesNext (name : List ℕ) (reading : Reading) (refused : Refused) (
   pub made : List ℕ
   pub pod : RefusedPod
   pub written : new ≡ old ++ made
-  pub told : news ≡ olds ++ (pod ∷ [])
+  pub listed : news ≡ olds ++ (pod ∷ [])
   pub shorter : length rest < length left
   pub goes_on : (next : ℕ) (others : List ℕ) (pods : List RefusedPod) → next + length rest ≡ place + length left →
       GoesOn name reading refused Makes next rest others pods → GoesOn name reading refused Makes place left (made ++ others) (pod ∷ pods)

@@ -31,7 +31,8 @@ IsAccepted Lenient input = (vs : Trees) × ConveyMembers vs input
 
 -- a fault that stands has this name
 abbrev pub IsNamed : (Fault → List ℕ → Type 0) → List ℕ → Type 0
-IsNamed stands kind = (told : DeserializeError (Bor (List ℕ))) × OnMemory ⊥ told × Names stands told × (kind ≡ kind_text told)
+IsNamed stands kind =
+    (cause : DeserializeError (Bor (List ℕ))) × OnMemory ⊥ cause × Names stands cause × (kind ≡ kind_text cause)
 
 -- no pod is read at the front, for a reason of this name
 abbrev pub IsNoPod : Reading → (left kind : List ℕ) → Type 0

@@ -49,9 +49,9 @@ EndsBehind Refuses Makes input out OutOfMemory = (left : List ℕ) × MakesFirst
 EndsBehind Refuses Makes input out ReadFailed = (left : List ℕ) × MakesFirst Makes input out left
 EndsBehind Refuses Makes input out WriteFailed = (left : List ℕ) × MakesFirst Makes input out left
 
--- these bytes were written, or where a write failed so many first ones of them
+-- these bytes were written, or where a write failed, of which there are some, so many first ones of them
 abbrev pub IsWrittenUnless : Stop → (old new : Option (List ℕ)) → (out : List ℕ) → Type 0
-IsWrittenUnless WriteFailed old new out = (n : ℕ) × Appends old new (take n out)
+IsWrittenUnless WriteFailed old new out = (out ≢ []) × (n : ℕ) × Appends old new (take n out)
 IsWrittenUnless (Pod number place read) old new out = Appends old new out
 IsWrittenUnless OutOfMemory old new out = Appends old new out
 IsWrittenUnless ReadFailed old new out = Appends old new out
@@ -73,9 +73,12 @@ pub record WritesMade (Makes : List ℕ → List ℕ → ℕ → Type 0) (block 
   pub written : Appends old new out
   pub few : refused ≤ length block
 
--- so many first bytes of what is made of some first pods of a block were written
-abbrev pub BeginsBlock : (Makes : List ℕ → List ℕ → ℕ → Type 0) → (block : List ℕ) → (old new : Option (List ℕ)) → Type 0
-BeginsBlock Makes block old new = (left : List ℕ) × (out : List ℕ) × MakesFirst Makes block out left × (n : ℕ) × Appends old new (take n out)
+-- so many first bytes of what is made of some first pods of a block, which is something, were written
+abbrev pub BeginsBlock : (Makes : List ℕ → List ℕ → ℕ → Type 0) → (block : List ℕ) →
+    (old new : Option (List ℕ)) → Type 0
+BeginsBlock Makes block old new =
+    (left : List ℕ) × (out : List ℕ) × MakesFirst Makes block out left × (out ≢ []) × (n : ℕ)
+    × Appends old new (take n out)
 
 -- nothing was made of a block, which is as it was, if refused pods are refused, or for want of memory; or a write failed
 abbrev pub IsNotMade : (Refuses : Type 0) → (Makes : List ℕ → List ℕ → ℕ → Type 0) → (block after : List ℕ) → (old new : Option (List ℕ)) → NotMade → Type 0
@@ -127,4 +130,4 @@ abbrev pub IsEnded : (count place : ℕ) → (held : List ℕ) → Stop → Type
 IsEnded count place held (Pod number at read) = (number ≡ count + 1) × (at ≡ place) × (read.items ≡ held) × (held ≢ [])
 IsEnded count place held OutOfMemory = ⊤
 IsEnded count place held ReadFailed = ⊥
-IsEnded count place held WriteFailed = held ≡ []
+IsEnded count place held WriteFailed = ⊥

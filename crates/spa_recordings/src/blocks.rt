@@ -39,7 +39,8 @@ impl Blocks {
         ensures room { self.new.held ≤ vec_len self.new.buffer }
         ensures read { ReadsOn (R.remaining input.old) (R.remaining input.new) (ahead self.old) (ahead self.new) }
         ensures whole { IfOk result (λ found. IfSome found (AreWholeAhead self.new)) }
-        ensures end { IfOk result (λ found. IfNone found (IsAtEnd (R.remaining input.new) × ¬ (HasFront (ahead self.new)))) }
+        ensures end { IfOk result
+            (λ found. IfNone found (IsAtEnd (R.remaining input.new) × ¬ (HasFront (ahead self.new)))) }
         ensures cause { IfErr result IsReadFailure }
     {
         // Far more often than a pod comes in parts.
@@ -70,7 +71,8 @@ impl Blocks {
         requires { self.old.held ≤ vec_len self.old.buffer }
         ensures room { self.new.held ≤ vec_len self.new.buffer }
         ensures read { ReadsOn (R.remaining input.old) (R.remaining input.new) (ahead self.old) (ahead self.new) }
-        ensures end { IfOk result (λ count. count ≡ 0 → IsAtEnd (R.remaining input.new) × (ahead self.new ≡ ahead self.old)) }
+        ensures end { IfOk result
+            (λ count. count ≡ 0 → IsAtEnd (R.remaining input.new) × (ahead self.new ≡ ahead self.old)) }
         ensures cause { IfErr result IsReadFailure }
     {
         if make_room(&mut self.buffer, self.held).is_err() {
@@ -188,7 +190,8 @@ fn read_behind<R: Read>(
     requires within { end ≤ length buffer.old }
     ensures front { take held buffer.new ≡ take held buffer.old }
     ensures fits { IfOk result (λ count. held + count ≤ length buffer.new) }
-    ensures read { IfOk result (λ count. Consumes (R.remaining input.old) (R.remaining input.new) (take count (drop held buffer.new))) }
+    ensures read { IfOk result (λ count.
+        Consumes (R.remaining input.old) (R.remaining input.new) (take count (drop held buffer.new))) }
     ensures end { IfOk result (λ count. count ≡ 0 → IsAtEnd (R.remaining input.new)) }
     ensures kept { OnErr result (Keeps (R.remaining input.old) (R.remaining input.new)) }
     ensures cause { IfErr result IsReadFailure }
@@ -199,7 +202,8 @@ fn read_behind<R: Read>(
 /// One read; it is made again where it is interrupted.
 fn read_once<R: Read>(input: &mut R, room: &mut [u8]) -> Result<usize, Stop>
     ensures bound { IfOk result (λ count. count ≤ length room.new) }
-    ensures read { IfOk result (λ count. Consumes (R.remaining input.old) (R.remaining input.new) (take count room.new)) }
+    ensures read { IfOk result
+        (λ count. Consumes (R.remaining input.old) (R.remaining input.new) (take count room.new)) }
     ensures end { IfOk result (λ count. count ≡ 0 → 0 < length room.old → IsAtEnd (R.remaining input.new)) }
     ensures kept { OnErr result (Keeps (R.remaining input.old) (R.remaining input.new)) }
     ensures cause { IfErr result IsReadFailure }

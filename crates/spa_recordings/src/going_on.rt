@@ -66,8 +66,10 @@ pub fn make_each<'a, M: Maker>(
     input: &[u8],
     made: &mut Made<'a>,
 ) -> Result<(), AllocError>
-    ensures { OnOk result ((out : List ℕ) × (pods : List RefusedPod) × GoesOn name.entry.now manner.reading manner.refused (M.makes maker.now) 0 input.now out pods
-        × (made.new.out.items ≡ made.old.out.items ++ out) × (made.new.refused.items ≡ made.old.refused.items ++ pods)) }
+    ensures { OnOk result ((out : List ℕ) × (pods : List RefusedPod)
+        × GoesOn name.entry.now manner.reading manner.refused (M.makes maker.now) 0 input.now out pods
+        × (made.new.out.items ≡ made.old.out.items ++ out)
+        × (made.new.refused.items ≡ made.old.refused.items ++ pods)) }
 {
     let mut left = input;
     loop {
@@ -93,7 +95,8 @@ fn make_next<'a, 'b, M: Maker>(
     requires { place + length left.now < 2 ^ 64 }
     ensures last { IfOk result (λ it. IfNone it (MakesLast manner.reading (M.makes maker.now) left.now
         made.old.out.items made.new.out.items made.old.refused.items made.new.refused.items)) }
-    ensures next { IfOk result (λ it. IfSome it (λ rest. MakesNext name.entry.now manner.reading manner.refused (M.makes maker.now) place left.now rest.now
+    ensures next { IfOk result (λ it. IfSome it (λ rest.
+        MakesNext name.entry.now manner.reading manner.refused (M.makes maker.now) place left.now rest.now
         made.old.out.items made.new.out.items made.old.refused.items made.new.refused.items)) }
 {
     let Some(unread) = first_unread(alloc, manner.reading, left)? else {

@@ -1,8 +1,9 @@
 //! What is written of an input block by block, as it comes.
-ghost use Rattle.std.specs.Prelude.{◌≡◌, ◌+◌, ◌<◌, ◌^◌, ◌≤◌, ◌++◌, ⊤, [], ℕ, List, IfErr, IfOk, IfSome, drop, length, take};
-ghost use Rattle.std.specs.Io.KnownBytes.{Keeps};
+ghost use Rattle.std.specs.Prelude.{◌≡◌, ◌≢◌, ◌+◌, ◌<◌, ◌^◌, ◌≤◌, ◌++◌, ⊤, [], ℕ, List, IfErr, IfOk, IfSome, OnErr, OnOk, drop, length, take};
+ghost use Rattle.std.specs.Io.KnownBytes.{Appends};
 ghost use Rattle.spa_format.specs.Walk.{walk};
 ghost use Rattle.spa_pod_commands.specs.Answers.{Rewrites};
+ghost use Rattle.spa_recordings.specs.declared.streaming.NotMade.TheVariants.{Unwritten};
 ghost use Rattle.spa_recordings.specs.Streaming.{IsEnded, IsFound, IsNotMade, Stops, StopsInBlock, Streams, WritesMade};
 
 use crate::blocks::{Blocks, whole_of};
@@ -63,15 +64,19 @@ pub trait BlockWriter {
     ) -> Result<usize, NotMade>
         requires count { count + length block.old < 2 ^ 64 }
         requires place { place + length block.old < 2 ^ 64 }
-        ensures written { IfOk result (WritesMade (makes self.now count place) block.old (W.contents output.old) (W.contents output.new)) }
-        ensures refused { IfErr result (IsNotMade (refuses self.now) (makes self.now count place) block.old block.new (W.contents output.old) (W.contents output.new)) };
+        ensures written { IfOk result (WritesMade (makes self.now count place) block.old
+            (W.contents output.old) (W.contents output.new)) }
+        ensures refused { IfErr result (IsNotMade (refuses self.now) (makes self.now count place)
+            block.old block.new (W.contents output.old) (W.contents output.new)) };
 
     /// Nothing is made of no pods,
     ghost makes_nothing: { (writer : Self) (count place : ℕ) → makes writer count place [] [] 0 };
 
     /// and what is made of pods is made of them block by block.
-    ghost makes_more: { (writer : Self) (count place : ℕ) (first others out more : List ℕ) (m n : ℕ) → makes writer count place first out m →
-        makes writer (count + length (walk first)) (place + length first) others more n → makes writer count place (first ++ others) (out ++ more) (m + n) };
+    ghost makes_more: { (writer : Self) (count place : ℕ) (first others out more : List ℕ) (m n : ℕ) →
+        makes writer count place first out m →
+        makes writer (count + length (walk first)) (place + length first) others more n →
+        makes writer count place (first ++ others) (out ++ more) (m + n) };
 }
 
 /// Writes the rewritings of pods.
@@ -97,7 +102,7 @@ impl BlockWriter for Rewriter {
         let Ok(len) = rewrite_in_place(alloc, block) else {
             return Err(NotMade::Refused);
         };
-        match write(output, &block[..len]) {
+        match write_made(output, &block[..len]) {
             Ok(()) => Ok(0),
             Err(_) => Err(NotMade::Unwritten),
         }
@@ -106,6 +111,25 @@ impl BlockWriter for Rewriter {
     ghost makes_nothing = { λ _ _ _. nothing_rewritten };
 
     ghost makes_more = { λ _ _ _ first others out more m n h k. rewritten_more first others out more m n h k };
+}
+
+/// Writes what is made of a block, and flushes the output; where nothing is made, neither.
+pub fn write_made<W: Write>(output: &mut W, made: &[u8]) -> Result<(), NotMade>
+    ensures written { OnOk result (Appends (W.contents output.old) (W.contents output.new) made.now) }
+    ensures begun { OnErr result ((made.now ≢ []) × (n : ℕ)
+        × Appends (W.contents output.old) (W.contents output.new) (take n made.now)) }
+    ensures cause { IfErr result (λ why. why ≡ Unwritten) }
+{
+    if made.is_empty() {
+        return Ok(());
+    }
+    let Ok(()) = write(output, made) else {
+        return Err(NotMade::Unwritten);
+    };
+    match output.flush() {
+        Ok(()) => Ok(()),
+        Err(_) => Err(NotMade::Unwritten),
+    }
 }
 
 /// Writes what is made of the pods of an input, block by block as it comes, and answers how many of them are refused: blocks of whole pods, at
@@ -119,8 +143,10 @@ pub fn stream<B: BlockWriter, R: Read, W: Write>(
     input: &mut R,
     output: &mut W,
 ) -> Result<usize, Stop>
-    ensures done { IfOk result (Streams (B.makes writer.now 0 0) (R.remaining input.old) (W.contents output.old) (W.contents output.new)) }
-    ensures stopped { IfErr result (Stops (B.refuses writer.now) (B.makes writer.now 0 0) (R.remaining input.old) (W.contents output.old) (W.contents output.new)) }
+    ensures done { IfOk result (Streams (B.makes writer.now 0 0) (R.remaining input.old)
+        (W.contents output.old) (W.contents output.new)) }
+    ensures stopped { IfErr result (Stops (B.refuses writer.now) (B.makes writer.now 0 0) (R.remaining input.old)
+        (W.contents output.old) (W.contents output.new)) }
 {
     let Ok(mut blocks) = Blocks::new(alloc) else {
         return Err(Stop::OutOfMemory);
@@ -135,7 +161,7 @@ pub fn stream<B: BlockWriter, R: Read, W: Write>(
             Err(why) => return Err(why),
         };
         let Some(whole) = found else {
-            return end(alloc, count, place, refused, blocks.held_bytes(), output);
+            return end(alloc, count, place, refused, blocks.held_bytes());
         };
         let Some(behind) = place.checked_add(whole.len) else {
             return Err(Stop::ReadFailed);
@@ -159,26 +185,21 @@ pub fn stream<B: BlockWriter, R: Read, W: Write>(
     Err(Stop::ReadFailed)
 }
 
-/// Ends behind so many pods and bytes, of which so many pods are refused, where these bytes are held that are no whole pod: with a refusal of them,
-/// unless they are none.
-fn end<W: Write>(
+/// Ends behind so many pods and bytes, of which so many pods are refused, where these bytes are held that are no
+/// whole pod: with a refusal of them, unless they are none.
+fn end(
     alloc: Global,
     count: usize,
     place: usize,
     refused: usize,
     held: &[u8],
-    output: &mut W,
 ) -> Result<usize, Stop>
     requires { count + 1 < 2 ^ 64 }
-    ensures kept { Keeps (W.contents output.old) (W.contents output.new) }
     ensures ended { IfOk result (λ it. (it ≡ refused) × (held.now ≡ [])) }
     ensures why { IfErr result (IsEnded count place held.now) }
 {
     if held.is_empty() {
-        return match output.flush() {
-            Ok(()) => Ok(refused),
-            Err(_) => Err(Stop::WriteFailed),
-        };
+        return Ok(refused);
     }
     match held.to_vec(alloc) {
         Ok(read) => Err(Stop::Pod {
@@ -206,8 +227,10 @@ fn write_front<B: BlockWriter, W: Write>(
     requires place { place + len < 2 ^ 64 }
     ensures long { length buffer.new ≡ length buffer.old }
     ensures behind { drop len buffer.new ≡ drop len buffer.old }
-    ensures written { IfOk result (WritesMade (B.makes writer.now count place) (take len buffer.old) (W.contents output.old) (W.contents output.new)) }
-    ensures stopped { IfErr result (StopsInBlock (B.refuses writer.now) (B.makes writer.now count place) count place (take len buffer.old) (W.contents output.old) (W.contents output.new)) }
+    ensures written { IfOk result (WritesMade (B.makes writer.now count place) (take len buffer.old)
+        (W.contents output.old) (W.contents output.new)) }
+    ensures stopped { IfErr result (StopsInBlock (B.refuses writer.now) (B.makes writer.now count place) count place
+        (take len buffer.old) (W.contents output.old) (W.contents output.new)) }
 {
     write_or_stop(alloc, writer, count, place, &mut buffer[..len], output)
 }
@@ -224,8 +247,10 @@ fn write_or_stop<B: BlockWriter, W: Write>(
     requires count { count + length block.old < 2 ^ 64 }
     requires place { place + length block.old < 2 ^ 64 }
     ensures long { length block.new ≡ length block.old }
-    ensures written { IfOk result (WritesMade (B.makes writer.now count place) block.old (W.contents output.old) (W.contents output.new)) }
-    ensures stopped { IfErr result (StopsInBlock (B.refuses writer.now) (B.makes writer.now count place) count place block.old (W.contents output.old) (W.contents output.new)) }
+    ensures written { IfOk result (WritesMade (B.makes writer.now count place) block.old
+        (W.contents output.old) (W.contents output.new)) }
+    ensures stopped { IfErr result (StopsInBlock (B.refuses writer.now) (B.makes writer.now count place) count place
+        block.old (W.contents output.old) (W.contents output.new)) }
 {
     match writer.write_block(alloc, count, place, block, output) {
         Ok(refused) => Ok(refused),
@@ -249,7 +274,8 @@ fn write_before<B: BlockWriter, W: Write>(
     requires count { count + length block.old < 2 ^ 64 }
     requires place { place + length block.old < 2 ^ 64 }
     ensures long { length block.new ≡ length block.old }
-    ensures stopped { StopsInBlock (B.refuses writer.now) (B.makes writer.now count place) count place block.old (W.contents output.old) (W.contents output.new) result }
+    ensures stopped { StopsInBlock (B.refuses writer.now) (B.makes writer.now count place) count place
+        block.old (W.contents output.old) (W.contents output.new) result }
 {
     let Some(found) = first_refused(alloc, &*block) else {
         return Stop::OutOfMemory;

@@ -1,5 +1,4 @@
-use Rattle.std.proofs.Common.{◌≡◌, ◌≤◌, arith, length, rules}
-use Rattle.std.proofs.lemmas.Grind.{common_steps}
+use Rattle.std.proofs.Common.{rules}
 use Rattle.std.proofs.lemmas.List.{places}
 use Rattle.spa_recordings.proofs.Holding.{kept_held}
 use Rattle.spa_recordings.proofs.blocks.make_room.Goals as goal

@@ -1,5 +1,5 @@
 use Rattle.std.proofs.Common.{◌<◌, ◌^◌, arith, length, rules}
-use Rattle.spa_recordings.proofs.Holding.{none_whole, rest_is_shorter, walk_begins, walk_counts, walk_counts_all, walk_ends, walk_few, walk_goes_on}
+use Rattle.spa_recordings.proofs.Holding.{rest_is_shorter, walk_begins, walk_counts_all, walk_few, walk_goes_on}
 use Rattle.spa_recordings.proofs.blocks.whole_of.Goals as goal
 
 pub loop-front-init : goal.loop-front-init

@@ -1,4 +1,4 @@
-use Rattle.std.proofs.Common.{◌≡◌, ◌+◌, ◌<◌, ◌^◌, ◌≤◌, ◌∙◌, [], ap, arith, drop, inl, inr, length, length-take, length-take-le, refl, rules, subst, sym, take}
+use Rattle.std.proofs.Common.{◌≡◌, ◌+◌, ◌<◌, ◌^◌, ◌∙◌, [], ap, arith, drop, inl, inr, length-take, length-take-le, refl, rules, subst, sym, take}
 use Rattle.std.proofs.lemmas.List.{places, take-take, with_items_is}
 use Rattle.spa_recordings.specs.Blocks.{ahead}
 use Rattle.spa_recordings.specs.Streaming.{StopsInBlock, WritesMade}
@@ -44,8 +44,8 @@ returns-in_default-found-clause-done g c =
     let refuses = g.B.BlockWriter.refuses c.args.writer.now in
     let makes = g.B.BlockWriter.makes c.args.writer.now in
     let at = rw c.in_default-found.is at c.in-Ok-next.ensures.end in
-    (closes refuses makes _ _ _ c.held_bytes.result.now c.loop.count c.loop.place c.loop.refused _ _ _ c.end.result c.held_bytes.ensures at.0 at.1
-    c.end.ensures.kept c.end.ensures.ended c.end.ensures.why
+    (closes refuses makes _ _ _ c.held_bytes.result.now c.loop.count c.loop.place c.loop.refused _ _ c.end.result c.held_bytes.ensures at.0 at.1
+    c.end.ensures.ended c.end.ensures.why
     (reads refuses makes _ _ _ _ _ c.loop.count c.loop.place c.loop.refused _ _ c.next.ensures.read c.loop.invariant.2)).0
 
 pub returns-in_default-found-clause-stopped : goal.returns-in_default-found-clause-stopped
@@ -53,8 +53,8 @@ returns-in_default-found-clause-stopped g c =
     let refuses = g.B.BlockWriter.refuses c.args.writer.now in
     let makes = g.B.BlockWriter.makes c.args.writer.now in
     let at = rw c.in_default-found.is at c.in-Ok-next.ensures.end in
-    (closes refuses makes _ _ _ c.held_bytes.result.now c.loop.count c.loop.place c.loop.refused _ _ _ c.end.result c.held_bytes.ensures at.0 at.1
-    c.end.ensures.kept c.end.ensures.ended c.end.ensures.why
+    (closes refuses makes _ _ _ c.held_bytes.result.now c.loop.count c.loop.place c.loop.refused _ _ c.end.result c.held_bytes.ensures at.0 at.1
+    c.end.ensures.ended c.end.ensures.why
     (reads refuses makes _ _ _ _ _ c.loop.count c.loop.place c.loop.refused _ _ c.next.ensures.read c.loop.invariant.2)).1
 
 pub returns-in_default-checked_add-clause-stopped : goal.returns-in_default-checked_add-clause-stopped

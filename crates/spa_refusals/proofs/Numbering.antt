@@ -1,15 +1,13 @@
 -- Pods of an input counted up to places that follow one another.
-use Rattle.std.proofs.Common.{◌≡◌, ◌+◌, ◌*◌, ◌-◌, ◌<◌, ◌≤◌, ◌∙◌, ℕ, List, [], ◌∷◌, ◌++◌, add-one, append_assoc, append-nil, ap, arith, drop, drop-cons, get_or, length, length-append, length-drop, refl, subst, sym, take}
+use Rattle.std.proofs.Common.{◌≡◌, ◌+◌, ◌*◌, ◌-◌, ◌<◌, ◌≤◌, ◌∙◌, ℕ, List, [], ◌∷◌, ◌++◌, add-one, append_assoc, append-nil, ap, arith, drop, drop-cons, get_or, length, length-drop, refl, subst, sym, take}
 use Rattle.std.proofs.lemmas.List.{drop-drop, length-take, length-take-le, nil_from_length}
-use Rattle.std.proofs.Math.Seq.{take-length}
-use Rattle.spa_format.specs.Front.{HasFront, front_of, rest_of}
+use Rattle.spa_format.specs.Front.{HasFront, rest_of}
 use Rattle.spa_format.specs.Walk.{walk}
 use Rattle.spa_format.specs.Words.{extent, word_at}
 use Rattle.spa_format.proofs.WalkLemmas.{length-walk_behind, walk-end, walk-there}
 use Rattle.spa_format.proofs.WordLemmas.{word_at-drop, word_at-take}
 use Rattle.spa_recordings.specs.declared.going_on.RefusedPod.{RefusedPod}
 use Rattle.spa_recordings.specs.declared.reading.Reading.{Reading}
-use Rattle.spa_refusals.proofs.Counts.{shorter}
 use Rattle.spa_refusals.specs.Refusals.{IsNothing}
 use Rattle.spa_refusals.specs.Several.{AreRefused, AreSaid, Counts, IsSaidOf}
 use Rattle.spa_refusals.specs.declared.several.NamedRefusal.{NamedRefusal}

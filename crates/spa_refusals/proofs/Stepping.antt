@@ -1,12 +1,12 @@
 -- Steps into a pod.
-use Rattle.std.proofs.Common.{◌≡◌, ◌≢◌, ◌≤◌, ◌<◌, ◌+◌, ◌⊎◌, ◌∙◌, ℕ, List, [], ◌++◌, length, take, drop, ap, arith, inl, inr, refl, subst, sym}
+use Rattle.std.proofs.Common.{◌≡◌, ◌≢◌, ◌≤◌, ◌<◌, ◌⊎◌, ◌∙◌, ℕ, List, [], ◌++◌, length, take, drop, ap, arith, inl, inr, subst, sym}
 use Rattle.spa_bytes.specs.Opening.{Opens}
 use Rattle.spa_format.specs.Pod.{AreMembers}
 use Rattle.spa_format.specs.Tree.{Trees, object_type, struct_type}
 use Rattle.spa_format.specs.Words.{word_at}
 use Rattle.spa_format.proofs.WordLemmas.{word_at-take}
 use Rattle.spa_refusals.proofs.Passing.{Passed}
-use Rattle.spa_refusals.specs.Paths.{HaveRead, HoldsMember, HoldsProperty, HoldsValue, IsInnermost, IsPath, LeadsTo, StepsTo, further, holds_none, itself, key_step, member, members_read, properties_read, property, short_object, step_limit}
+use Rattle.spa_refusals.specs.Paths.{HaveRead, HoldsMember, HoldsProperty, HoldsValue, IsInnermost, IsPath, LeadsTo, StepsTo, holds_none, itself, key_step, member, members_read, properties_read, property, short_object, step_limit}
 
 -- the value of a property is refused
 pub value_found : (type key : ℕ) (properties left words value inner path now new : List ℕ) → Passed properties left → now ≡ path → 8 ≤ length left →

@@ -11,13 +11,18 @@ use Rattle.spa_names.specs.declared.table.Table.TheVariants.{Types}
 
 -- ---- Names
 
--- where the type of an object ends, behind the header of its pod
-abbrev pub object_type_end : ℕ
-object_type_end = 12
+-- how many bytes the type of an object takes, at the front of its body
+abbrev pub object_type_size : ℕ
+object_type_size = 4
 
--- the number of the type of the pod at the front, of an object that of the object's type
+-- the number of a type; of an object, whose body has room for one, that of the object's type
+abbrev pub number_of : (type : ℕ) → (body : List ℕ) → ℕ
+number_of type body =
+    if nat_eq type object_type && nat_le object_type_size (length body) then word_at body 0 else type
+
+-- the number of the type of the pod at the front
 abbrev pub type_number : List ℕ → ℕ
-type_number pod = if nat_eq (word_at pod 4) object_type && nat_le object_type_end (length pod) then word_at pod 8 else word_at pod 4
+type_number pod = number_of (word_at pod 4) (body_of pod)
 
 -- the name of that type, where the bytes are long enough to have one
 unfoldable pub type_name : List ℕ → Option (List ℕ)

@@ -1,6 +1,6 @@
 //! The names of types and keys.
 ghost use Rattle.std.specs.Prelude.{◌≡◌, ◌≤◌, ◌++◌, OnOk, length, option_map, string_bytes};
-ghost use Rattle.spa_format.specs.Words.{header_size};
+ghost use Rattle.spa_format.specs.Words.{body_of, header_size};
 ghost use Rattle.spa_refusals.specs.Paths as spec;
 ghost use Rattle.spa_refusals.specs.Paths.{key_step, type_number};
 
@@ -10,10 +10,10 @@ use spa_utils::SpaTypes;
 use std::alloc::AllocError;
 use std::fmt::Write;
 
-/// Where the type of an object ends.
-const OBJECT_TYPE_END: usize = 12;
+/// How many bytes the type of an object takes, at the front of its body.
+const OBJECT_TYPE_LEN: usize = 4;
 
-/// The name of the type of the pod at the front, of an object that of the object's type.
+/// The name of the type of the pod at the front; of an object, whose body has room for it, that of the object's type.
 #[tactic(auto, unfolding(crate::specs::Paths::type_name))]
 pub(crate) fn type_name(pod: &[u8]) -> Option<&'static str>
     ensures { option_map (λ name. name.now) result ≡ spec.type_name pod.now }
@@ -30,10 +30,22 @@ fn type_number(pod: &[u8]) -> u32
     ensures { result ≡ type_number pod.now }
 {
     let type_ = u32_at(pod, SECOND_WORD);
-    if type_ == SpaTypes::Object.0 && pod.len() >= OBJECT_TYPE_END {
-        return u32_at(pod, HEADER_LEN);
+    let body = body_ahead(pod);
+    if type_ == SpaTypes::Object.0 && body.len() >= OBJECT_TYPE_LEN {
+        return u32_at(body, 0);
     }
     type_
+}
+
+/// The body of the pod at the front, as far as it is there.
+#[tactic(auto, using(crate::proofs::Saying::body_there))]
+fn body_ahead(pod: &[u8]) -> &[u8]
+    requires { header_size ≤ length pod.now }
+    ensures { result.now ≡ body_of pod.now }
+{
+    let (_, behind) = pod.split_at(HEADER_LEN);
+    let size = u32_at(pod, 0) as usize;
+    &behind[..size.min(behind.len())]
 }
 
 /// The name of a key of objects of this type.

@@ -1,4 +1,4 @@
-use Rattle.std.proofs.Common.{drop, inr, subst}
+use Rattle.std.proofs.Common.{inr, subst}
 use Rattle.spa_refusals.specs.Paths.{HaveRead}
 use Rattle.spa_refusals.proofs.Stepping.{in_body}
 use Rattle.spa_refusals.proofs.Unreading.{none_more, some_more}

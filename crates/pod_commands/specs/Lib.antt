@@ -1,4 +1,5 @@
 pub mod Answers
+pub mod ColourLaws
 pub mod Colours
 pub mod Inputs
 pub mod Making

@@ -6,7 +6,8 @@ use Rattle.spa_format.proofs.Sequences.{members_joined}
 use Rattle.spa_recordings.specs.Rewritings.{nothing_rewritten, rewritten_more}
 use Rattle.spa_text_commands.specs.Parts.{nothing_printed, nothing_shown, printed_more, shown_more}
 use Rattle.pod_commands.specs.Streaming.{WritesOf}
-use Rattle.pod_commands.specs.Colours.{InColours, IsColoured, further, nothing, piece_in}
+use Rattle.pod_commands.specs.ColourLaws.{EndsLine, joined, parts_end, texts_end}
+use Rattle.pod_commands.specs.Colours.{InColours, nothing}
 use Rattle.pod_commands.specs.declared.colours.Colours.{Colours}
 use Rattle.pod_commands.specs.declared.colours.Colours.TheVariants.{Off, On}
 use Rattle.pod_commands.specs.declared.request.Streaming.{Streaming}
@@ -14,18 +15,11 @@ use Rattle.pod_commands.specs.declared.request.Streaming.TheVariants.{Json, Rewr
 
 -- ---- Texts in colours
 
-pub joined : (text out others more : List ℕ) → IsColoured text out → IsColoured others more → IsColoured (text ++ others) (out ++ more)
-joined text out others more nothing k = k
-joined text out others more (further piece behind made colour h) k =
-    subst (λ z. IsColoured z ((piece_in colour piece ++ made) ++ more)) (sym (append_assoc piece behind others))
-    (subst (IsColoured (piece ++ (behind ++ others))) (sym (append_assoc (piece_in colour piece) made more))
-    (further piece (behind ++ others) (made ++ more) colour (joined behind made others more h k)))
-
 -- one behind another
-coloured_more : (colours : Colours) (text others out more : List ℕ) → InColours colours text out → InColours colours others more →
-    InColours colours (text ++ others) (out ++ more)
-coloured_more Off text others out more h k = ap (λ z. z ++ more) h ∙ ap (λ z. text ++ z) k
-coloured_more On text others out more h k = joined text out others more h k
+coloured_more : (colours : Colours) (text others out more : List ℕ) → EndsLine text → InColours colours text out →
+    InColours colours others more → InColours colours (text ++ others) (out ++ more)
+coloured_more Off text others out more e h k = ap (λ z. z ++ more) h ∙ ap (λ z. text ++ z) k
+coloured_more On text others out more e h k = joined text out others more e h k
 
 nothing_coloured : (colours : Colours) → InColours colours [] []
 nothing_coloured Off = refl
@@ -49,7 +43,7 @@ written_more (Json style) count place first others out more m n h k =
       (
         f.0 ++ o.0,
         printed_more style.layout first others f.0 o.0 f.1 o.1,
-        coloured_more style.colours f.0 o.0 out more f.2 o.2,
+        coloured_more style.colours f.0 o.0 out more (texts_end style.layout f.1.0 f.0 f.1.2) f.2 o.2,
       ),
       omega (arith, i, j),
     )
@@ -57,7 +51,7 @@ written_more Rewrite count place first others out more m n h k = rewritten_more 
 written_more (Print printing) count place first others out more m n h k = (
   h.0 ++ k.0,
   shown_more printing.printout count place first others h.0 k.0 m n h.1 k.1,
-  coloured_more printing.colours h.0 k.0 out more h.2 k.2,
+  coloured_more printing.colours h.0 k.0 out more (parts_end printing.printout.form _ h.0 m h.1.1) h.2 k.2,
 )
 written_more Check count place first others out more m n h k =
     let i = h.2 in let j = k.2 in (

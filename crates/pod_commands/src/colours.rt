@@ -1,5 +1,8 @@
 //! Texts in colours.
-ghost use Rattle.std.specs.Prelude.{◌≡◌, ◌≤◌, ◌<◌, ◌++◌, IfOk, OnOk, length};
+ghost use Rattle.std.specs.Prelude.{◌≡◌, ◌≤◌, ◌<◌, ◌++◌, IfOk, OnOk, false, length};
+ghost use Rattle.std.specs.Char.{is_ascii_hexdigit};
+ghost use Rattle.std.specs.List.{list_all};
+ghost use Rattle.pod_commands.specs.Colours as spec;
 ghost use Rattle.pod_commands.specs.Colours.{InColours, IsColoured, piece_in, start_of};
 
 use std::alloc::{AllocError, Global};
@@ -58,7 +61,7 @@ pub(crate) fn in_colours(
 }
 
 /// A text in colours: JSON, or the lines of `show`.
-#[tactic(auto, using(crate::proofs::Coloured::goes_on, crate::proofs::Coloured::begins, crate::proofs::Coloured::ends))]
+#[tactic(auto, using(crate::proofs::Coloured::goes_behind, crate::proofs::Coloured::begins, crate::proofs::Coloured::ends))]
 fn coloured(alloc: Global, text: &[u8]) -> Result<Vec<u8>, AllocError>
     ensures { IfOk result (λ out. IsColoured text.now out.items) }
 {
@@ -88,67 +91,94 @@ fn add_piece(out: &mut Vec<u8>, piece: &[u8], colour: Option<Colour>) -> Result<
 /// proved: which bytes have one colour is only tested.
 fn piece_len(left: &[u8]) -> usize
     requires { 0 < length left.now }
+    ensures piece { result ≡ spec.piece_len left.now }
     ensures some { 0 < result }
     ensures within { result ≤ length left.now }
 {
-    let first = left[0];
+    let (first, behind) = (left[0], &left[1..]);
     if first == b'"' {
-        return quoted_len(left);
+        return 1 + quoted_len(behind);
     }
-    if !goes_on(first, first) {
-        return 1;
+    if goes_on(first, first) {
+        return 1 + word_len(first, behind);
     }
-    for at in 1..left.len() {
-        if !goes_on(first, left[at]) {
-            return at;
-        }
-    }
-    left.len()
+    1
 }
 
-/// How long the text in quotes is with which what is left of a text begins.
-fn quoted_len(left: &[u8]) -> usize
-    requires { 0 < length left.now }
-    ensures some { 0 < result }
-    ensures within { result ≤ length left.now }
+/// How many bytes of a text in quotes follow the quote at its front.
+fn quoted_len(behind: &[u8]) -> usize
+    ensures quoted { result ≡ spec.quoted_len false behind.now }
+    ensures within { result ≤ length behind.now }
 {
     let mut is_escaped = false;
-    for at in 1..left.len() {
-        let byte = left[at];
+    for at in 0..behind.len() {
+        let byte = behind[at];
+        if byte == b'\n' {
+            return at;
+        }
         if byte == b'"' && !is_escaped {
             return at + 1;
         }
         is_escaped = byte == b'\\' && !is_escaped;
     }
-    left.len()
+    behind.len()
+}
+
+/// How many bytes of a word that begins with this one follow it.
+fn word_len(first: u8, behind: &[u8]) -> usize
+    ensures word { result ≡ spec.word_len first behind.now }
+    ensures within { result ≤ length behind.now }
+{
+    for at in 0..behind.len() {
+        if !goes_on(first, behind[at]) {
+            return at;
+        }
+    }
+    behind.len()
 }
 
 /// Whether this byte goes on a word that begins with this first one.
-fn goes_on(first: u8, byte: u8) -> bool {
-    match byte {
-        b'.' | b'-' | b'+' | b'_' => true,
-        b':' => first.is_ascii_alphabetic(),
-        _ => byte.is_ascii_alphanumeric(),
-    }
+fn goes_on(first: u8, byte: u8) -> bool
+    ensures { result ≡ spec.goes_on first byte }
+{
+    byte.is_ascii_alphanumeric()
+        || b".-+_".contains(&byte)
+        || (byte == b':' && first.is_ascii_alphabetic())
 }
 
 /// The colour of a piece of a text that these bytes follow, if it has one.
-fn colour_of(piece: &[u8], behind: &[u8]) -> Option<Colour> {
-    let first = *piece.first()?;
-    match first {
-        b'"' if behind.first() == Some(&b':') => Some(Colour::Name),
-        b'"' => Some(Colour::Quoted),
-        b'-' => Some(Colour::Number),
-        _ if first.is_ascii_uppercase() => Some(Colour::Name),
-        _ if first.is_ascii_digit() || is_hex(piece) || LITERALS.contains(&piece) => {
-            Some(Colour::Number)
+fn colour_of(piece: &[u8], behind: &[u8]) -> Option<Colour>
+    ensures { result ≡ spec.colour_of piece.now behind.now }
+{
+    let [first, ..] = piece else {
+        return None;
+    };
+    if *first == b'"' {
+        if behind.first() == Some(&b':') {
+            return Some(Colour::Name);
         }
-        _ => None,
+        return Some(Colour::Quoted);
     }
+    if first.is_ascii_uppercase() {
+        return Some(Colour::Name);
+    }
+    if is_number(*first, piece) {
+        return Some(Colour::Number);
+    }
+    None
+}
+
+/// Whether a piece that begins with this byte is a number, a byte in hex, or a word of JSON.
+fn is_number(first: u8, piece: &[u8]) -> bool
+    ensures { result ≡ spec.is_number first piece.now }
+{
+    first == b'-' || first.is_ascii_digit() || is_hex(piece) || LITERALS.contains(&piece)
 }
 
 /// Whether all bytes are hex digits.
-fn is_hex(piece: &[u8]) -> bool {
+fn is_hex(piece: &[u8]) -> bool
+    ensures { result ≡ list_all is_ascii_hexdigit piece.now }
+{
     for byte in piece {
         if !byte.is_ascii_hexdigit() {
             return false;

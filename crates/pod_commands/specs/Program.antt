@@ -12,40 +12,21 @@ files = record (new_rule (codes "FILE")) { action = Some Append }
 abbrev pub output : Rule
 output = record (new_rule (codes "output")) { short = Some 111; long = Some (codes "output"); value_names = 1 }
 
--- `--pretty`
-abbrev pub pretty : Rule
-pretty = record (new_rule (codes "pretty")) { long = Some (codes "pretty"); action = Some SetTrue }
+-- a flag, such as `--lenient`, `--keep-going`, `--keep-refused`, `--pretty`, `--hex`, `--strict`
+abbrev pub flag : Text → Rule
+flag name = record (new_rule name) { long = Some name; action = Some SetTrue }
 
--- `--nth N`, a number from 1 on; `--key NAME`; `--hex`
+-- an option with one value, such as `--key NAME` and `--color WHEN`
+abbrev pub valued : Text → Rule
+valued name = record (new_rule name) { long = Some name; value_names = 1 }
+
+-- `--nth N`, a number from 1 on
 abbrev pub nth : Rule
-nth = record (new_rule (codes "nth")) { long = Some (codes "nth"); value_names = 1; parser = Some (Unsigned 1 (2 ^ 64 - 1)) }
+nth = record (valued (codes "nth")) { parser = Some (Unsigned 1 (2 ^ 64 - 1)) }
 
-abbrev pub key : Rule
-key = record (new_rule (codes "key")) { long = Some (codes "key"); value_names = 1 }
-
-abbrev pub hex : Rule
-hex = record (new_rule (codes "hex")) { long = Some (codes "hex"); action = Some SetTrue }
-
--- `--color WHEN`
-abbrev pub color : Rule
-color = record (new_rule (codes "color")) { long = Some (codes "color"); value_names = 1 }
-
--- `--lenient`, `--keep-going`, `--keep-refused` and `--stream`
-abbrev pub lenient : Rule
-lenient = record (new_rule (codes "lenient")) { long = Some (codes "lenient"); action = Some SetTrue }
-
-abbrev pub keep_going : Rule
-keep_going = record (new_rule (codes "keep-going")) { long = Some (codes "keep-going"); action = Some SetTrue }
-
-abbrev pub keep_refused : Rule
-keep_refused = record (new_rule (codes "keep-refused")) { long = Some (codes "keep-refused"); action = Some SetTrue }
-
+-- `--stream`
 abbrev pub stream : Rule
-stream = record (new_rule (codes "stream")) { long = Some (codes "stream"); action = Some SetTrue }
-
--- `--strict`
-abbrev pub strict : Rule
-strict = record (new_rule (codes "strict")) { long = Some (codes "strict"); action = Some SetTrue }
+stream = flag (codes "stream")
 
 -- a word that takes files
 abbrev pub word : Text → App
@@ -53,30 +34,31 @@ word name = with_rule (with_rule (new_app name) files) output
 
 -- a word that goes over pods takes `--lenient` and `--keep-going` too
 abbrev pub over_pods : Text → App
-over_pods name = with_rule (with_rule (word name) lenient) keep_going
+over_pods name = with_rule (with_rule (word name) (flag (codes "lenient"))) (flag (codes "keep-going"))
 
 -- one that writes pods for pods takes `--keep-refused` too
 abbrev pub to_pods : Text → App
-to_pods name = with_rule (over_pods name) keep_refused
+to_pods name = with_rule (over_pods name) (flag (codes "keep-refused"))
 
 -- `show` and `json` print parts of inputs, and in colours
 abbrev pub with_parts : App → App
-with_parts app = with_rule (with_rule (with_rule (with_rule app nth) key) hex) color
+with_parts app =
+    with_rule (with_rule (with_rule (with_rule app nth) (valued (codes "key"))) (flag (codes "hex"))) (valued (codes "color"))
 
--- the words `show`, `rewrite` and `json` take `--stream` too
 abbrev pub show : App
 show = with_rule (with_parts (word (codes "show"))) stream
 
+-- `json` takes `--pretty`, too
+abbrev pub json : App
+json = with_rule (with_parts (with_rule (over_pods (codes "json")) (flag (codes "pretty")))) stream
+
+-- `show`, `json` and `rewrite` take `--stream`
 abbrev pub rewrite : App
 rewrite = with_rule (to_pods (codes "rewrite")) stream
 
--- `json` takes `--pretty`, too
-abbrev pub json : App
-json = with_rule (with_parts (with_rule (over_pods (codes "json")) pretty)) stream
-
 -- `read` takes `--strict`
 abbrev pub read : App
-read = with_rule (word (codes "read")) strict
+read = with_rule (word (codes "read")) (flag (codes "strict"))
 
 -- the program without its words: it wants one, and has a version
 abbrev pub bare : App

@@ -44,15 +44,26 @@ fn output<'a>(alloc: Global) -> Arg<'a>
         .help("Writes this file, once all is made, and not the standard output")
 }
 
-/// `--pretty`
-fn pretty<'a>(alloc: Global) -> Arg<'a>
-    ensures rule { rule_of result ≡ spec.pretty }
+/// A flag of this name.
+fn flag<'a>(alloc: Global, name: &'a str, help: &'a str) -> Arg<'a>
+    ensures rule { rule_of result ≡ spec.flag name.entry.now }
     ensures local { result.global ≡ false }
 {
-    Arg::new(alloc, "pretty")
-        .long("pretty")
+    Arg::new(alloc, name)
+        .long(name)
         .action(ArgAction::SetTrue)
-        .help("Indents each text")
+        .help(help)
+}
+
+/// An option of this name, with one value.
+fn valued<'a>(alloc: Global, name: &'a str, value: &'a str, help: &'a str) -> Arg<'a>
+    ensures rule { rule_of result ≡ spec.valued name.entry.now }
+    ensures local { result.global ≡ false }
+{
+    Arg::new(alloc, name)
+        .long(name)
+        .value_name(value)
+        .help(help)
 }
 
 /// `--nth N`
@@ -60,102 +71,9 @@ fn nth<'a>(alloc: Global) -> Arg<'a>
     ensures rule { rule_of result ≡ spec.nth }
     ensures local { result.global ≡ false }
 {
-    Arg::new(alloc, "nth")
-        .long("nth")
-        .value_name("N")
-        .value_parser(ValueParser::Unsigned(1, u64::MAX))
-        .help(
-            "Prints the N-th pod of each input alone, the first being 1; nothing of an input with fewer",
-        )
-}
-
-/// `--key NAME`
-fn key<'a>(alloc: Global) -> Arg<'a>
-    ensures rule { rule_of result ≡ spec.key }
-    ensures local { result.global ≡ false }
-{
-    Arg::new(alloc, "key").long("key").value_name("NAME").help(
-        "Prints, in place of objects, the values under their keys of this name, or number",
-    )
-}
-
-/// `--hex`
-fn hex<'a>(alloc: Global) -> Arg<'a>
-    ensures rule { rule_of result ≡ spec.hex }
-    ensures local { result.global ≡ false }
-{
-    Arg::new(alloc, "hex")
-        .long("hex")
-        .action(ArgAction::SetTrue)
-        .help("Prints the bytes in hex: below the lines of each pod, or by json as a string")
-}
-
-/// `--color WHEN`
-fn color<'a>(alloc: Global) -> Arg<'a>
-    ensures rule { rule_of result ≡ spec.color }
-    ensures local { result.global ≡ false }
-{
-    Arg::new(alloc, "color")
-        .long("color")
-        .value_name("WHEN")
-        .help("Prints in colours: always, never, or auto, where the output is a terminal")
-}
-
-/// `--lenient`
-fn lenient<'a>(alloc: Global) -> Arg<'a>
-    ensures rule { rule_of result ≡ spec.lenient }
-    ensures local { result.global ≡ false }
-{
-    Arg::new(alloc, "lenient")
-        .long("lenient")
-        .action(ArgAction::SetTrue)
-        .help("Reads as PipeWire does: what a pod conveys where it isn't exact")
-}
-
-/// `--keep-going`
-fn keep_going<'a>(alloc: Global) -> Arg<'a>
-    ensures rule { rule_of result ≡ spec.keep_going }
-    ensures local { result.global ≡ false }
-{
-    Arg::new(alloc, "keep-going")
-        .long("keep-going")
-        .action(ArgAction::SetTrue)
-        .help("Leaves refused pods out, and tells each; the status is 1 then")
-}
-
-/// `--keep-refused`
-fn keep_refused<'a>(alloc: Global) -> Arg<'a>
-    ensures rule { rule_of result ≡ spec.keep_refused }
-    ensures local { result.global ≡ false }
-{
-    Arg::new(alloc, "keep-refused")
-        .long("keep-refused")
-        .action(ArgAction::SetTrue)
-        .help("Keeps refused pods as they are, and tells each; the status is 1 then")
-}
-
-/// `--stream`
-fn stream<'a>(alloc: Global) -> Arg<'a>
-    ensures rule { rule_of result ≡ spec.stream }
-    ensures local { result.global ≡ false }
-{
-    Arg::new(alloc, "stream")
-        .long("stream")
-        .action(ArgAction::SetTrue)
-        .help(
-            "Writes in blocks as input comes, in constant memory; what was written before a refusal stands",
-        )
-}
-
-/// `--strict`
-fn strict<'a>(alloc: Global) -> Arg<'a>
-    ensures rule { rule_of result ≡ spec.strict }
-    ensures local { result.global ≡ false }
-{
-    Arg::new(alloc, "strict")
-        .long("strict")
-        .action(ArgAction::SetTrue)
-        .help("Refuses a value of another type than the one that belongs under its key")
+    let help =
+        "Prints the N-th pod of each input alone, the first being 1; nothing of an input with fewer";
+    valued(alloc, "nth", "N", help).value_parser(ValueParser::Unsigned(1, u64::MAX))
 }
 
 /// A word of the program, with what help says of it and an example.
@@ -184,8 +102,17 @@ fn over_pods<'a>(
     ensures local { IfOk result (λ it. (out-Command it).has_globals ≡ false) }
 {
     let plain = word(alloc, name, about, example)?;
-    let with_lenient = plain.arg(lenient(alloc))?;
-    with_lenient.arg(keep_going(alloc))
+    let lenient = flag(
+        alloc,
+        "lenient",
+        "Reads as PipeWire does: what a pod conveys where it isn't exact",
+    );
+    let with_lenient = plain.arg(lenient)?;
+    with_lenient.arg(flag(
+        alloc,
+        "keep-going",
+        "Leaves refused pods out, and tells each; the status is 1 then",
+    ))
 }
 
 /// A word that writes pods for pods, with what help says of it and an example.
@@ -199,19 +126,49 @@ fn to_pods<'a>(
     ensures local { IfOk result (λ it. (out-Command it).has_globals ≡ false) }
 {
     let plain = over_pods(alloc, name, about, example)?;
-    plain.arg(keep_refused(alloc))
+    plain.arg(flag(
+        alloc,
+        "keep-refused",
+        "Keeps refused pods as they are, and tells each; the status is 1 then",
+    ))
 }
 
-/// A word that prints parts of inputs.
+/// `--stream`
+fn stream<'a>(alloc: Global) -> Arg<'a>
+    ensures rule { rule_of result ≡ spec.stream }
+    ensures local { result.global ≡ false }
+{
+    flag(
+        alloc,
+        "stream",
+        "Writes in blocks as input comes, in constant memory; what was written before a refusal stands",
+    )
+}
+
+/// A word that prints parts of inputs, and in colours.
 fn with_parts<'a>(alloc: Global, command: Command<'a>) -> Result<Command<'a>, AllocError>
     requires { (out-Command command).has_globals ≡ false }
     ensures app { IfOk result (λ it. app_of it ≡ spec.with_parts (app_of command.entry)) }
     ensures local { IfOk result (λ it. (out-Command it).has_globals ≡ false) }
 {
     let with_nth = command.arg(nth(alloc))?;
-    let with_key = with_nth.arg(key(alloc))?;
-    let with_hex = with_key.arg(hex(alloc))?;
-    with_hex.arg(color(alloc))
+    let with_key = with_nth.arg(valued(
+        alloc,
+        "key",
+        "NAME",
+        "Prints, in place of objects, the values under their keys of this name, or number",
+    ))?;
+    let with_hex = with_key.arg(flag(
+        alloc,
+        "hex",
+        "Prints the bytes in hex: below the lines of each pod, or by json as a string",
+    ))?;
+    with_hex.arg(valued(
+        alloc,
+        "color",
+        "WHEN",
+        "Prints in colours: always, never, or auto, where the output is a terminal",
+    ))
 }
 
 /// The word `show`.
@@ -254,7 +211,7 @@ fn json<'a>(alloc: Global) -> Result<Command<'a>, AllocError>
         "Prints pods as JSON with names, each on a line",
         "Example: pod json --key rate formats.pods",
     )?;
-    let with_pretty = plain.arg(pretty(alloc))?;
+    let with_pretty = plain.arg(flag(alloc, "pretty", "Indents each text"))?;
     let with_parts = with_parts(alloc, with_pretty)?;
     with_parts.arg(stream(alloc))
 }
@@ -270,7 +227,11 @@ fn read<'a>(alloc: Global) -> Result<Command<'a>, AllocError>
         "Reads JSON with names, and writes its pods",
         "Example: pod read --strict formats.json -o formats.pods",
     )?;
-    plain.arg(strict(alloc))
+    plain.arg(flag(
+        alloc,
+        "strict",
+        "Refuses a value of another type than the one that belongs under its key",
+    ))
 }
 
 /// The program without its words.

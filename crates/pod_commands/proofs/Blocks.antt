@@ -1,5 +1,5 @@
 -- What is written of a block.
-use Rattle.std.proofs.Common.{◌≡◌, [], append-nil, arith, refl, subst, sym, take, List, ℕ, Option, Some, None}
+use Rattle.std.proofs.Common.{◌≡◌, ◌≢◌, [], append-nil, arith, refl, subst, sym, take, List, ℕ, Option, Some, None}
 use Rattle.std.specs.Io.KnownBytes.{Appends}
 use Rattle.std.specs.Prelude.{IfErr, IfOk, Result}
 use Rattle.spa_recordings.specs.Streaming.{BeginsBlock, IsNotMade, WritesMade}
@@ -24,16 +24,16 @@ appends_nothing (Some a) = sym (append-nil a)
 
 -- all of a block is a first part of it
 begun : (Makes : List ℕ → List ℕ → ℕ → Type 0) (block out : List ℕ) (refused : ℕ) (old new : Option (List ℕ)) → Makes block out refused →
-    ((n : ℕ) × Appends old new (take n out)) → BeginsBlock Makes block old new
+    ((out ≢ []) × (n : ℕ) × Appends old new (take n out)) → BeginsBlock Makes block old new
 begun Makes block out refused old new m w =
-    ([], out, record { first = block; parts = sym (append-nil block); refused = refused; made = m }, w.0, w.1)
+    ([], out, record { first = block; parts = sym (append-nil block); refused = refused; made = m }, w.0, w.1, w.2)
 
 pub texts_written : (style : Style) (count place : ℕ) (block text out : List ℕ) (old new : Option (List ℕ)) → Prints style.layout block text →
     InColours style.colours text out → Appends old new out → WritesMade (WritesOf (Json style) count place) block old new 0
 texts_written style count place block text out old new p c w = record { out = out; made = ((text, p, c), refl); written = w; few = omega arith }
 
 pub texts_begun : (style : Style) (count place : ℕ) (block text out : List ℕ) (old new : Option (List ℕ)) → Prints style.layout block text →
-    InColours style.colours text out → ((n : ℕ) × Appends old new (take n out)) → BeginsBlock (WritesOf (Json style) count place) block old new
+    InColours style.colours text out → ((out ≢ []) × (n : ℕ) × Appends old new (take n out)) → BeginsBlock (WritesOf (Json style) count place) block old new
 texts_begun style count place block text out old new p c w = begun (WritesOf (Json style) count place) block out 0 old new ((text, p, c), refl) w
 
 pub printed_written : (printing : Printing) (count place : ℕ) (block out : List ℕ) (printed : Printed) (old new : Option (List ℕ)) →
@@ -44,7 +44,7 @@ printed_written printing count place block out printed old new s c w =
 
 pub printed_begun : (printing : Printing) (count place : ℕ) (block out : List ℕ) (printed : Printed) (old new : Option (List ℕ)) →
     ShowsAll printing.printout count place block printed → InColours printing.colours printed.bytes.items out →
-    ((n : ℕ) × Appends old new (take n out)) → BeginsBlock (WritesOf (Print printing) count place) block old new
+    ((out ≢ []) × (n : ℕ) × Appends old new (take n out)) → BeginsBlock (WritesOf (Print printing) count place) block old new
 printed_begun printing count place block out printed old new s c w =
     begun (WritesOf (Print printing) count place) block out printed.refused old new (printed.bytes.items, (s.whole, s.prints), c) w
 

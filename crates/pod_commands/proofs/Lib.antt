@@ -1,11 +1,13 @@
 mod Blocks
+mod Checked
 mod Coloured
 mod Known
+mod Listed
+mod Longer
 mod Made
 mod Requested
 mod Paired
 mod Running
 mod Streamed
-mod Told
 mod Twice
 mod Worked

@@ -1,4 +1,4 @@
--- Refused pods, told one after another.
+-- The lines of refused pods, written one after another.
 use Rattle.std.proofs.Common.{◌≡◌, ◌∙◌, ◌∷◌, ◌++◌, [], append_assoc, append-nil, ap, refl, subst, sym, List, ℕ, Option}
 use Rattle.std.specs.Io.KnownBytes.{Appends}
 use Rattle.spa_refusals.specs.declared.several.NamedRefusal.{NamedRefusal}
@@ -7,24 +7,24 @@ use Rattle.pod_commands.proofs.Blocks.{appends_nothing}
 use Rattle.pod_commands.proofs.Streamed.{appends_more}
 
 -- lines were written, which with those of the pods that are left are the lines of all
-pub record ToldSoFar (old new : Option (List ℕ)) (pods left : List NamedRefusal) : Type 0 where
-  pub told : List ℕ
-  pub written : Appends old new told
-  pub all : told ++ lines_of_pods left ≡ lines_of_pods pods
+pub record ListedSoFar (old new : Option (List ℕ)) (pods left : List NamedRefusal) : Type 0 where
+  pub lines : List ℕ
+  pub written : Appends old new lines
+  pub all : lines ++ lines_of_pods left ≡ lines_of_pods pods
 
-pub begins : (old : Option (List ℕ)) (pods : List NamedRefusal) → ToldSoFar old old pods pods
-begins old pods = record { told = []; written = appends_nothing old; all = refl }
+pub begins : (old : Option (List ℕ)) (pods : List NamedRefusal) → ListedSoFar old old pods pods
+begins old pods = record { lines = []; written = appends_nothing old; all = refl }
 
 pub further : (old mid new : Option (List ℕ)) (pods left behind : List NamedRefusal) (pod : NamedRefusal) → left ≡ pod ∷ behind →
-    Appends mid new (line_of_pod pod) → ToldSoFar old mid pods left → ToldSoFar old new pods behind
+    Appends mid new (line_of_pod pod) → ListedSoFar old mid pods left → ListedSoFar old new pods behind
 further old mid new pods left behind pod e w so = record {
-  told = so.told ++ line_of_pod pod;
-  written = appends_more old mid new so.told (line_of_pod pod) so.written w;
-  all = append_assoc so.told (line_of_pod pod) (lines_of_pods behind) ∙ ap (λ z. so.told ++ lines_of_pods z) (sym e) ∙ so.all;
+  lines = so.lines ++ line_of_pod pod;
+  written = appends_more old mid new so.lines (line_of_pod pod) so.written w;
+  all = append_assoc so.lines (line_of_pod pod) (lines_of_pods behind) ∙ ap (λ z. so.lines ++ lines_of_pods z) (sym e) ∙ so.all;
 }
 
 pub ends : (old mid new : Option (List ℕ)) (pods left : List NamedRefusal) (more : List ℕ) → left ≡ [] → Appends mid new more →
-    ToldSoFar old mid pods left → Appends old new (lines_of_pods pods ++ more)
+    ListedSoFar old mid pods left → Appends old new (lines_of_pods pods ++ more)
 ends old mid new pods left more e w so =
-    subst (λ z. Appends old new (z ++ more)) (sym (append-nil so.told) ∙ ap (λ z. so.told ++ lines_of_pods z) (sym e) ∙ so.all)
-    (appends_more old mid new so.told more so.written w)
+    subst (λ z. Appends old new (z ++ more)) (sym (append-nil so.lines) ∙ ap (λ z. so.lines ++ lines_of_pods z) (sym e) ∙ so.all)
+    (appends_more old mid new so.lines more so.written w)

@@ -93,9 +93,9 @@ no_names [] h = refl
 no_names (x ∷ xs) h = absurd (omega (arith, h))
 
 -- a refusal that is handed on
-pub told : {T E : Type 0} (P : E → Type 0) (r : Result T E) (why : E) → IsErrAnd r (λ w. w ≡ why) → P why → IfErr r P
-told P (Ok x) why h p = absurd h
-told P (Err w) why h p = subst P (sym h) p
+pub cause_is : {T E : Type 0} (P : E → Type 0) (r : Result T E) (why : E) → IsErrAnd r (λ w. w ≡ why) → P why → IfErr r P
+cause_is P (Ok x) why h p = absurd h
+cause_is P (Err w) why h p = subst P (sym h) p
 
 -- one name is pushed
 pub pushed : (old new : List (Bor Text)) (x : Bor Text) → old ≡ [] → new ≡ old ++ (x ∷ []) → map (λ v. v.now) new ≡ x.now ∷ []

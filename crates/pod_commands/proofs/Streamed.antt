@@ -44,10 +44,17 @@ take_behind [] ys n = ap (λ m. take m ys) (let e : 0 + n ≡ n = omega arith in
 take_behind (x ∷ xs) ys n =
     ap (λ m. take m (x ∷ (xs ++ ys))) (let e : suc (length xs) + n ≡ suc (length xs + n) = omega arith in e) ∙ ap (λ l. x ∷ l) (take_behind xs ys n)
 
+some_behind : (xs ys : List ℕ) → ys ≢ [] → xs ++ ys ≢ []
+some_behind [] ys n e = n e
+some_behind (x ∷ xs) ys n e = let l = ap length e in omega (arith, l)
+
 -- what was written behind what was
 pub written_more : (a b c : Option (List ℕ)) (xs ys : List ℕ) (why : Failure) → Appends a b xs → IsWritten why b c ys → IsWritten why a c (xs ++ ys)
-written_more a b c xs ys (Unwritten t) h k =
-    (length xs + k.0, subst (Appends a c) (sym (take_behind xs ys k.0)) (appends_more a b c xs (take k.0 ys) h k.1))
+written_more a b c xs ys (Unwritten t) h k = (
+  some_behind xs ys k.0,
+  length xs + k.1,
+  subst (Appends a c) (sym (take_behind xs ys k.1)) (appends_more a b c xs (take k.1 ys) h k.2),
+)
 written_more a b c xs ys (Pods n w) h k = appends_more a b c xs ys h k
 written_more a b c xs ys (Texts n w) h k = appends_more a b c xs ys h k
 written_more a b c xs ys (Pair n w) h k = appends_more a b c xs ys h k

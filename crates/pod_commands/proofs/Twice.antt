@@ -4,17 +4,18 @@ use Rattle.std.specs.Prelude.{⊤, false, if◌then◌else◌}
 use Rattle.std.specs.Borrow.{Bor}
 use Rattle.std.specs.Str.{bytes_eq}
 use Rattle.spa_device.specs.Whole.{IsAllOf}
+use Rattle.spa_format.specs.Encoding.{member_encodings}
 use Rattle.spa_format.specs.Pod.{AreMembers}
 use Rattle.spa_format.specs.Tree.{Trees}
 use Rattle.spa_format.proofs.Refused.{refused_behind_members}
 use Rattle.spa_recordings.specs.Streaming.{EndsAtPod}
 use Rattle.spa_recordings.specs.declared.reading.Reading.{Reading}
 use Rattle.spa_recordings.specs.declared.reading.Reading.TheVariants.{Exact}
-use Rattle.pod_commands.specs.Answers.{AreFiles, IsMadeBy, IsUnknown, IsWrittenAs, MayReadTwice, Outlet, outlet}
+use Rattle.pod_commands.specs.Answers.{AreFiles, AreUnmade, IsMadeBy, IsUnknown, IsWrittenAs, MayReadTwice, Outlet, outlet}
 use Rattle.pod_commands.specs.Inputs.{AreMade, StopsAt, content_of, left_behind}
-use Rattle.pod_commands.specs.Making.{MakesAll}
+use Rattle.pod_commands.specs.Making.{MakesAll, RefusesBy}
 use Rattle.pod_commands.specs.Requests.{dash}
-use Rattle.pod_commands.specs.Streaming.{EndsIn, IsBroken, StreamsAs}
+use Rattle.pod_commands.specs.Streaming.{EndsIn, StreamsAs}
 use Rattle.pod_commands.specs.declared.answer.Answer.{Answer}
 use Rattle.pod_commands.specs.declared.answer.Answer.TheVariants.{Done, Differs, Passed, Shown, Refused, Misused, Said}
 use Rattle.pod_commands.specs.declared.answer.Failure.{Failure}
@@ -22,9 +23,10 @@ use Rattle.pod_commands.specs.declared.answer.Failure.TheVariants.{Pods}
 use Rattle.pod_commands.specs.declared.request.Fate.{Fate}
 use Rattle.pod_commands.specs.declared.request.Fate.TheVariants.{Stops}
 use Rattle.pod_commands.specs.declared.request.Making.{Making}
-use Rattle.pod_commands.specs.declared.request.Making.TheVariants.{Rewrite}
+use Rattle.pod_commands.specs.declared.request.Making.TheVariants.{Check, Rewrite}
 use Rattle.pod_commands.specs.declared.request.Streaming.TheVariants as streaming
 use Rattle.spa_refusals.specs.declared.refusal.Refusal.{Refusal}
+use Rattle.pod_commands.proofs.Checked.{stops_more}
 use Rattle.pod_commands.proofs.Running.{untouched}
 
 -- ---- Files stay as they are, whatever is left of the standard input
@@ -77,17 +79,7 @@ stops_at_files P S r s holds (x ∷ xs) out why files (inr h) =
           (stops_at_files P S r s holds xs h.2 why files.1 (behind_file (λ o. StopsAt P S o holds xs h.2 why) x.now r files.0 h.7)),
     )
 
--- ---- Nothing is made of what is checked, and no pod is counted
-
-none_checked : (r : Option (List ℕ)) (holds : List ℕ → Option (List ℕ)) (names : List (Bor (List ℕ))) (out : List ℕ) (n : ℕ) →
-    AreMade (StreamsAs streaming.Check) r holds names out n → (out ≡ []) × (n ≡ 0)
-none_checked r holds [] out n h = h
-none_checked r holds (x ∷ xs) out n h =
-    let t = none_checked (left_behind r x.now) holds xs h.2 h.4 h.9 in
-    let i = h.6.2 in
-    let j = t.1 in
-    let k = h.8 in
-    (h.7 ∙ ap (λ z. z ++ h.2) h.6.0 ∙ t.0, omega (arith, i, j, k))
+-- ---- No pod is counted
 
 none_refused : (r : Option (List ℕ)) (holds : List ℕ → Option (List ℕ)) (names : List (Bor (List ℕ))) (out : List ℕ) (n : ℕ) →
     AreMade (StreamsAs streaming.Rewrite) r holds names out n → n ≡ 0
@@ -109,17 +101,19 @@ differs R (Some b) first second out vs number place read f s m e =
     (subst (AreMembers vs) (f ∙ sym s ∙ made.parts) m))
 
 pods_unknown : (r : Option (List ℕ)) (holds : List ℕ → Option (List ℕ)) (names : List (Bor (List ℕ))) (made out : List ℕ) (n : ℕ) (name : Bor (List ℕ))
-    (why : Refusal) → AreFiles names → AreMade (StreamsAs streaming.Check) r holds names made n →
+    (why : Refusal) → AreFiles names → AreMade (MakesAll Exact Check) r holds names made n →
     StopsAt (StreamsAs streaming.Rewrite) (EndsIn streaming.Rewrite) r holds names out (Pods name why) → holds name.now ≡ None
 pods_unknown r holds [] made out n name why files m s = absurd s
 pods_unknown r holds (x ∷ xs) made out n name why files m (inl s) =
-    let d = differs ⊤ (content_of r holds x.now) m.0 s.0 out m.6.1.0 why.number why.place s.2.1 m.5 s.1 m.6.1.1 s.2.2 in
+    let vs = m.6.0.2.1 in
+    let d = differs ⊤ (content_of r holds x.now) m.0 s.0 out vs.0 why.number why.place s.2.1 m.5 s.1
+    (subst (AreMembers vs.0) m.6.0.1 vs.1) s.2.2 in
     subst (λ z. holds z ≡ None) (sym s.2.0) (subst (λ b. (if b then r else holds x.now) ≡ None) files.0 d)
 pods_unknown r holds (x ∷ xs) made out n name why files m (inr s) =
     pods_unknown (left_behind r x.now) holds xs m.2 s.2 m.4 name why files.1 m.9 s.7
 
 unknown : (r : Option (List ℕ)) (holds : List ℕ → Option (List ℕ)) (names : List (Bor (List ℕ))) (made out : List ℕ) (n : ℕ) (why : Failure) →
-    AreFiles names → AreMade (StreamsAs streaming.Check) r holds names made n →
+    AreFiles names → AreMade (MakesAll Exact Check) r holds names made n →
     StopsAt (StreamsAs streaming.Rewrite) (EndsIn streaming.Rewrite) r holds names out why → IsUnknown holds why
 unknown r holds names made out n (Pods name why) files m s = pods_unknown r holds names made out n name why files m s
 unknown r holds names made out n _ files m s = tt
@@ -129,35 +123,47 @@ unknown r holds names made out n _ files m s = tt
 rewritten : (input out : List ℕ) (n : ℕ) → StreamsAs streaming.Rewrite input out n → MakesAll Exact Rewrite input out n
 rewritten input out n h = ((input, refl, h.0), h.1)
 
-pub read_again : (answer : Answer) (r s : Option (List ℕ)) (names : List (Bor (List ℕ))) (o : Outlet) (made : List ℕ) (n : ℕ) →
-    MayReadTwice Exact Rewrite names o.target → AreMade (StreamsAs streaming.Check) r o.before names made n →
-    IsWrittenAs streaming.Rewrite answer s names o → IsMadeBy Exact Stops Rewrite answer r names o
-read_again Done r s names o made n may m h =
+pub read_again : (answer : Answer) (r s : Option (List ℕ)) (names : List (Bor (List ℕ))) (o : Outlet) → MayReadTwice Exact Rewrite names o.target →
+    AreMade (MakesAll Exact Check) r o.before names [] 0 → IsWrittenAs streaming.Rewrite answer s names o → IsMadeBy Exact Stops Rewrite answer r names o
+read_again Done r s names o may m h =
     inl (h.0, made_of_files (StreamsAs streaming.Rewrite) (MakesAll Exact Rewrite) s r o.before names h.0 0 rewritten may.files h.1, h.2)
-read_again (Shown k) r s names o made n may m h = absurd (h.0 (none_refused s o.before names h.1.0 k h.1.1))
-read_again (Refused why) r s names o made n may m h =
-    let none = none_checked r o.before names made n m in
+read_again (Shown k) r s names o may m h = absurd (h.0 (none_refused s o.before names h.1.0 k h.1.1))
+read_again (Refused why) r s names o may m h =
     let stops = stops_at_files (StreamsAs streaming.Rewrite) (EndsIn streaming.Rewrite) s r o.before names h.0.0 why may.files h.0.1 in
     inr (
+      why,
+      refl,
       may,
-      inr record {
-        accepted =
-            subst (λ z. AreMade (StreamsAs streaming.Check) r o.before names z 0) none.0
-            (subst (AreMade (StreamsAs streaming.Check) r o.before names made) none.1 m);
+      record {
+        accepted = m;
         broken = (h.0.0, stops, h.0.2);
-        changed = unknown r o.before names made h.0.0 n why may.files m stops;
+        changed = unknown r o.before names [] h.0.0 0 why may.files m stops;
         no_file = h.1;
       },
     )
-read_again Differs r s names o made n may m h = absurd h
-read_again (Passed pods) r s names o made n may m h = absurd h
-read_again Misused r s names o made n may m h = absurd h
-read_again (Said error) r s names o made n may m h = absurd h
+read_again Differs r s names o may m h = absurd h
+read_again (Passed pods) r s names o may m h = absurd h
+read_again Misused r s names o may m h = absurd h
+read_again (Said error) r s names o may m h = absurd h
 
-pub read_once : (target : Option (Bor (List ℕ))) (r : Option (List ℕ)) (holds : List ℕ → Option (List ℕ)) (names : List (Bor (List ℕ)))
-    (old first last : Option (List ℕ)) (why : Failure) → MayReadTwice Exact Rewrite names target → IsBroken streaming.Check r holds names first last why →
+-- what is checked can be rewritten
+check_rewritten : (input made : List ℕ) (i : ℕ) → MakesAll Exact Check input made i → (other : List ℕ) × (j : ℕ) × MakesAll Exact Rewrite input other j
+check_rewritten input made i h =
+    let vs = h.0.2.1 in
+    (member_encodings vs.0, 0, ((h.0.0, h.0.1, (vs.0, vs.1, refl)), refl))
+
+unmade_rewritten : (r : Option (List ℕ)) (holds : List ℕ → Option (List ℕ)) (names : List (Bor (List ℕ))) (why : Failure) →
+    AreUnmade Exact Check r holds names why → AreUnmade Exact Rewrite r holds names why
+unmade_rewritten r holds names why (inl h) = inl h
+unmade_rewritten r holds names why (inr h) =
+    inr (stops_more (MakesAll Exact Check) (MakesAll Exact Rewrite) (λ name input made. RefusesBy Exact Check name input)
+    (λ name input made. RefusesBy Exact Rewrite name input) r holds names h.0 why check_rewritten (λ name input made e. (made, e)) h.1)
+
+-- nothing is written where the first pass ends the work
+pub refused_first : (target : Option (Bor (List ℕ))) (r : Option (List ℕ)) (holds : List ℕ → Option (List ℕ)) (names : List (Bor (List ℕ)))
+    (old : Option (List ℕ)) (why : Failure) → AreUnmade Exact Check r holds names why →
     IsMadeBy Exact Stops Rewrite (Refused why) r names (outlet target old old holds holds)
-read_once target r holds names old first last why may b = inr (may, inl ((b.0, b.1), untouched target old holds))
+refused_first target r holds names old why h = inl (inl (unmade_rewritten r holds names why h, untouched target old holds))
 
 -- which pass it is doesn't depend on how it is asked for
 pub as_asked : (reading : Reading) (fate : Fate) (making : Making) (answer : Answer) (r : Option (List ℕ)) (names : List (Bor (List ℕ))) (o : Outlet) →

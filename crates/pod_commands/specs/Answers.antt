@@ -36,7 +36,7 @@ use Rattle.pod_commands.specs.declared.answer.Failure.TheVariants.{Pods, Texts, 
 use Rattle.pod_commands.specs.declared.request.Fate.{Fate}
 use Rattle.pod_commands.specs.declared.request.Fate.TheVariants.{Stops, GoesOn}
 use Rattle.pod_commands.specs.declared.request.Making.{Making}
-use Rattle.pod_commands.specs.declared.request.Making.TheVariants.{Rewrite}
+use Rattle.pod_commands.specs.declared.request.Making.TheVariants.{Check, Rewrite}
 use Rattle.pod_commands.specs.declared.request.Printing.{Printing}
 use Rattle.pod_commands.specs.declared.request.Request.{Request}
 use Rattle.pod_commands.specs.declared.request.Streaming.{Streaming}
@@ -181,29 +181,18 @@ pub record MayReadTwice (reading : Reading) (making : Making) (names : List (Bor
   pub to_output : target ≡ None
   pub files : AreFiles names
 
--- in the first pass one of them isn't read, or isn't pods
-abbrev pub AreUnaccepted : (remaining : Option (List ℕ)) → (holds : List ℕ → Option (List ℕ)) → List (Bor (List ℕ)) → Failure → Type 0
-AreUnaccepted remaining holds names why =
-    (out : List ℕ) × StopsAt (StreamsAs streaming.Check) (EndsIn streaming.Check) remaining holds names out why
-
 -- pods are refused only of a file whose bytes aren't known
 abbrev pub IsUnknown : (holds : List ℕ → Option (List ℕ)) → Failure → Type 0
 IsUnknown holds (Pods n why) = holds n.now ≡ None
 IsUnknown holds _ = ⊤
 
--- All of them are accepted, and the second pass ends in one that can't be read or written again, or has other bytes by then; what was made till it
--- ended was written.
-pub record AreBrokenAgain (remaining : Option (List ℕ)) (names : List (Bor (List ℕ))) (o : Outlet) (why : Failure) : Type 0 where
-  pub accepted : AreMade (StreamsAs streaming.Check) remaining o.before names [] 0
+-- All of them are accepted, and the second pass ends in one that can't be read again, has other bytes by then, or can't be
+-- written; what was made till it ended was written.
+pub record EndsInSecondPass (remaining : Option (List ℕ)) (names : List (Bor (List ℕ))) (o : Outlet) (why : Failure) : Type 0 where
+  pub accepted : AreMade (MakesAll Exact Check) remaining o.before names [] 0
   pub broken : IsBroken streaming.Rewrite remaining o.before names o.old o.new why
   pub changed : IsUnknown o.before why
   pub no_file : KeepsFiles o
-
--- what is said where they aren't rewritten: in the first pass nothing is written
-abbrev pub IsRefusedInPasses : Answer → (remaining : Option (List ℕ)) → List (Bor (List ℕ)) → Outlet → Type 0
-IsRefusedInPasses (Refused why) remaining names o =
-    (AreUnaccepted remaining o.before names why × IsUntouched o) ⊎ AreBrokenAgain remaining names o why
-IsRefusedInPasses _ remaining names o = ⊥
 
 -- what it says of work that goes on behind refused pods: these are some, or there are none
 abbrev pub IsMadeInPart : Reading → OfRefused → Making → Answer → (remaining : Option (List ℕ)) → List (Bor (List ℕ)) → Outlet → Type 0
@@ -216,7 +205,8 @@ IsMadeInPart reading refused making _ remaining names o = ⊥
 
 abbrev pub IsMadeBy : Reading → Fate → Making → Answer → (remaining : Option (List ℕ)) → List (Bor (List ℕ)) → Outlet → Type 0
 IsMadeBy reading Stops making answer remaining names o =
-    IsMadeWhole reading making answer remaining names o ⊎ (MayReadTwice reading making names o.target × IsRefusedInPasses answer remaining names o)
+    IsMadeWhole reading making answer remaining names o
+    ⊎ ((why : Failure) × (answer ≡ Refused why) × MayReadTwice reading making names o.target × EndsInSecondPass remaining names o why)
 IsMadeBy reading (GoesOn refused) making answer remaining names o = IsMadeInPart reading refused making answer remaining names o
 
 -- what it says of work that is written as inputs come: all was written, of which no pod is refused, or so many of those that are shown; or what was

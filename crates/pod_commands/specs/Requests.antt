@@ -131,14 +131,16 @@ abbrev pub IsNoNumber : Option Text → Type 0
 IsNoNumber given =
     IsSomeAnd given (λ text. ¬ (IsNumeral 10 (without_leading_plus text) × (digits_value 10 (without_leading_plus text) < 2 ^ 64)))
 
--- colours are asked for by another word
-abbrev pub IsNoTime : Option Text → Type 0
-IsNoTime given = IsSomeAnd given (λ when. (when ≢ codes "auto") × (when ≢ codes "always") × (when ≢ codes "never"))
+-- the WHEN of `--color` is another word
+abbrev pub IsUnknownWhen : Option Text → Type 0
+IsUnknownWhen given =
+    IsSomeAnd given (λ when. (when ≢ codes "auto") × (when ≢ codes "always") × (when ≢ codes "never"))
 
--- An option has a value that is none of its own. Of `--nth` clap refuses such a value before; that is tested, and no clause of clap's says it of the
--- options of a word.
-abbrev pub AreNone : List Row → Type 0
-AreNone rows = IsNoNumber (first_of (codes "nth") rows) ⊎ IsNoTime (first_of (codes "color") rows)
+-- An option has a value that is none of its own. Only that of `--color` comes so far: clap refuses that of `--nth` itself,
+-- by its parser. The `ValuesPass` that `try_get_matches_from` ensures is of the options of the program, and no clause is of
+-- those of a word; it is tested.
+abbrev pub HasUnknownValue : List Row → Type 0
+HasUnknownValue rows = IsNoNumber (first_of (codes "nth") rows) ⊎ IsUnknownWhen (first_of (codes "color") rows)
 
 -- how inputs are read: leniently where `--lenient` is given
 abbrev pub reading_by : Bool → Reading
@@ -154,6 +156,7 @@ fate_by goes_on keeps = if keeps then GoesOn Kept else (if goes_on then GoesOn L
 abbrev pub fate_in : List Row → Fate
 fate_in rows = fate_by (is_given (codes "keep-going") rows) (is_given (codes "keep-refused") rows)
 
+-- pods are read so where their values are printed as texts or bytes; those that are shown are read exactly, refused ones too
 abbrev pub HasMannerOf : Reading → Fate → Form → Manner → Type 0
 HasMannerOf reading fate Lines manner = (manner.reading ≡ Exact) × (manner.fate ≡ Stops)
 HasMannerOf reading fate LinesAndBytes manner = (manner.reading ≡ Exact) × (manner.fate ≡ Stops)
@@ -212,11 +215,12 @@ pub record Asks (words : List (Bor (List ℕ))) (is_terminal : Bool) (request : 
   pub names : texts request.names.items ≡ names_in rows
   pub target : option_map (λ s. s.now) request.target ≡ first_of (codes "output") rows
 
--- clap accepts the words, and they name no word of the program's, which clap never does, or an option has a value that is none of its own
+-- clap accepts the words, and they name no word of the program's, which clap never does, or an option has a value that is
+-- none of its own
 pub record AsksNothing (words : List (Bor (List ℕ))) : Type 0 where
   pub accepted : fault_of program (texts words) ≡ []
   pub nothing : ((word : Word) (rows : List Row) → subcommand_of program (texts words) ≡ Some (name_of word, rows) → ⊥)
-      ⊎ ((name : Text) × (rows : List Row) × (subcommand_of program (texts words) ≡ Some (name, rows)) × AreNone rows)
+      ⊎ ((name : Text) × (rows : List Row) × (subcommand_of program (texts words) ≡ Some (name, rows)) × HasUnknownValue rows)
 
 -- All of each input is printed as JSON. Only private clauses cite it.
 abbrev pub IsAllAsJson : Style → Manner → (streams : Bool) → Word → Type 0

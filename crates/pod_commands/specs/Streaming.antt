@@ -1,5 +1,5 @@
 -- What is written of inputs as they come.
-use Rattle.std.specs.Prelude.{◌≡◌, ⊤, ℕ, List, [], Option, None, take}
+use Rattle.std.specs.Prelude.{◌≡◌, ◌≢◌, ⊤, ℕ, List, [], Option, None, take}
 use Rattle.std.specs.Io.KnownBytes.{Appends}
 use Rattle.std.specs.Borrow.{Bor}
 use Rattle.spa_device.specs.Whole.{IsAllOf}
@@ -46,9 +46,9 @@ EndsIn s name input out OutOfMemory = (left : List ℕ) × MakesFirst (StreamsAs
 EndsIn s name input out (Unwritten target) = (target ≡ None) × (left : List ℕ) × MakesFirst (StreamsAs s) input out left
 EndsIn s name input out _ = ⊥
 
--- these bytes were written, or where a write failed so many first ones of them
+-- these bytes were written, or where a write failed, of which there are some, so many first ones of them
 abbrev pub IsWritten : Failure → (old new : Option (List ℕ)) → (out : List ℕ) → Type 0
-IsWritten (Unwritten target) old new out = (n : ℕ) × Appends old new (take n out)
+IsWritten (Unwritten target) old new out = (out ≢ []) × (n : ℕ) × Appends old new (take n out)
 IsWritten (Pods n why) old new out = Appends old new out
 IsWritten (Texts n why) old new out = Appends old new out
 IsWritten (Pair n why) old new out = Appends old new out

@@ -148,7 +148,8 @@ pub fn tell<W: Write, E: Write>(
 
 /// Writes a line of each of these refused pods, and how many they are.
 pub fn tell_pods<E: Write>(faults: &mut E, pods: &[NamedRefusal<'_>]) -> io::Result<()>
-    ensures told { OnOk result (Appends (E.contents faults.old) (E.contents faults.new) (lines_of_pods pods.now ++ count_line (length pods.now))) }
+    ensures written { OnOk result (Appends (E.contents faults.old) (E.contents faults.new)
+        (lines_of_pods pods.now ++ count_line (length pods.now))) }
 {
     for pod in pods {
         tell_pod(faults, pod)?;
@@ -158,21 +159,21 @@ pub fn tell_pods<E: Write>(faults: &mut E, pods: &[NamedRefusal<'_>]) -> io::Res
 
 /// Writes the line that says how many pods are refused.
 fn tell_count<E: Write>(faults: &mut E, count: usize) -> io::Result<()>
-    ensures told { OnOk result (Appends (E.contents faults.old) (E.contents faults.new) (count_line count)) }
+    ensures written { OnOk result (Appends (E.contents faults.old) (E.contents faults.new) (count_line count)) }
 {
     writeln!(faults, "pod: refused pods: {count}")
 }
 
 /// Writes the line of a refused pod.
 fn tell_pod<E: Write>(faults: &mut E, pod: &NamedRefusal<'_>) -> io::Result<()>
-    ensures told { OnOk result (Appends (E.contents faults.old) (E.contents faults.new) (line_of_pod pod.now)) }
+    ensures written { OnOk result (Appends (E.contents faults.old) (E.contents faults.new) (line_of_pod pod.now)) }
 {
     writeln!(faults, "pod: {}: {}", shown_name(pod.name), pod.refusal)
 }
 
 /// Writes the line of a refusal.
 pub fn tell_failure<E: Write>(faults: &mut E, why: &Failure<'_>) -> io::Result<()>
-    ensures told { OnOk result (Appends (E.contents faults.old) (E.contents faults.new) (line_of why.now)) }
+    ensures written { OnOk result (Appends (E.contents faults.old) (E.contents faults.new) (line_of why.now)) }
 {
     writeln!(faults, "pod: {why}")
 }

@@ -104,7 +104,8 @@ pub(crate) fn read_named<'a, R: Read, S: Files>(
     input: &mut R,
     files: &S,
 ) -> Result<Vec<u8>, Failure<'a>>
-    ensures all { IfOk result (λ bytes. IsAllOf (content_of (R.remaining input.old) (S.holds files.now) name.entry.now) bytes.items) }
+    ensures all { IfOk result
+        (λ bytes. IsAllOf (content_of (R.remaining input.old) (S.holds files.now) name.entry.now) bytes.items) }
     ensures left { IsKnown (left_behind (R.remaining input.old) name.entry.now) (R.remaining input.new) }
     ensures cause { IfErr result IsUnread }
 {

@@ -14,6 +14,7 @@ use crate::colours::in_colours;
 use crate::files::{Files, read_named};
 use crate::refusing::refused;
 use crate::request::{Making, Style};
+use crate::streaming::check_all;
 use spa_in_place::rewrite_in_place;
 use spa_lenient::rewrite_all_leniently;
 use spa_pod_commands::making::{check, fixated};
@@ -25,7 +26,9 @@ use spa_text_commands::reading::read_all;
 use std::alloc::{AllocError, Global};
 use std::io::Read;
 
-/// What is made of each of the inputs of these names, read so, one behind another.
+/// What is made of each of the inputs of these names, read so, one behind another. Inputs that are read exactly and
+/// checked are held block by block, and else whole.
+#[tactic(auto, using(crate::proofs::Checked::made_by_check, crate::proofs::Checked::unmade_by_check))]
 pub(crate) fn make_all<'a, R: Read, S: Files>(
     alloc: Global,
     making: Making,
@@ -34,9 +37,16 @@ pub(crate) fn make_all<'a, R: Read, S: Files>(
     input: &mut R,
     files: &S,
 ) -> Result<Vec<u8>, Failure<'a>>
-    ensures made { IfOk result (λ out. AreMade (MakesAll reading making) (R.remaining input.old) (S.holds files.now) names.now out.items 0) }
+    ensures made { IfOk result
+        (λ out. AreMade (MakesAll reading making) (R.remaining input.old) (S.holds files.now) names.now out.items 0) }
     ensures refused { IfErr result (AreUnmade reading making (R.remaining input.old) (S.holds files.now) names.now) }
 {
+    if let (Reading::Exact, Making::Check) = (reading, making) {
+        return match check_all(alloc, names, input, files) {
+            Ok(()) => Ok(Vec::new(alloc)),
+            Err(why) => Err(why),
+        };
+    }
     let mut out = Vec::new(alloc);
     for name in names {
         let bytes = read_named(alloc, *name, input, files)?;
@@ -196,8 +206,8 @@ pub(crate) fn make_what_is_read<'a, R: Read, S: Files>(
     input: &mut R,
     files: &S,
 ) -> Result<Worked<'a>, Failure<'a>>
-    ensures made { IfOk result (λ worked. AreWorked manner.reading manner.refused making (R.remaining input.old) (S.holds files.now) names.now
-        worked.out.items worked.refused.items) }
+    ensures made { IfOk result (λ worked. AreWorked manner.reading manner.refused making
+        (R.remaining input.old) (S.holds files.now) names.now worked.out.items worked.refused.items) }
     ensures refused { IfErr result IsUnread }
 {
     let mut worked = Worked {
@@ -221,8 +231,8 @@ fn work_on<'a>(
     bytes: &[u8],
     worked: Worked<'a>,
 ) -> Result<Worked<'a>, AllocError>
-    ensures { IfOk result (λ more. WorksOn manner.reading manner.refused making name.entry.now bytes.now worked.entry.out.items more.out.items
-        worked.entry.refused.items more.refused.items) }
+    ensures { IfOk result (λ more. WorksOn manner.reading manner.refused making name.entry.now bytes.now
+        worked.entry.out.items more.out.items worked.entry.refused.items more.refused.items) }
 {
     let mut said = worked.refused;
     let mut made = Made {

@@ -25,7 +25,8 @@ pub(crate) fn compare<'a, R: Read, S: Files>(
         OfTwo (R.remaining input.old) (S.holds files.now) ours.entry.now theirs.entry.now SayTheSame) }
     ensures other { IfOk result (λ lines. lines.items ≢ [] →
         OfTwo (R.remaining input.old) (S.holds files.now) ours.entry.now theirs.entry.now (Differ lines.items)) }
-    ensures refused { IfErr result (AreNotCompared (R.remaining input.old) (S.holds files.now) ours.entry.now theirs.entry.now) }
+    ensures refused { IfErr result
+        (AreNotCompared (R.remaining input.old) (S.holds files.now) ours.entry.now theirs.entry.now) }
 {
     let (first, second) = match read_both(alloc, ours, theirs, input, files) {
         Ok(both) => both,
@@ -45,7 +46,8 @@ pub(crate) fn agree<'a, R: Read, S: Files>(
     input: &mut R,
     files: &S,
 ) -> Result<Vec<u8>, Failure<'a>>
-    ensures made { IfOk result (λ met. AgreesOne work (R.remaining input.old) (S.holds files.now) name.entry.now met.items) }
+    ensures made { IfOk result
+        (λ met. AgreesOne work (R.remaining input.old) (S.holds files.now) name.entry.now met.items) }
     ensures refused { IfErr result (IsOneApart work (R.remaining input.old) (S.holds files.now) name.entry.now) }
 {
     let bytes = match read_named(alloc, name, input, files) {
@@ -67,8 +69,10 @@ pub(crate) fn agree_of_lists<'a, R: Read, S: Files>(
     input: &mut R,
     files: &S,
 ) -> Result<Vec<u8>, Failure<'a>>
-    ensures made { IfOk result (λ met. AgreeTwo work (R.remaining input.old) (S.holds files.now) ours.entry.now theirs.entry.now met.items) }
-    ensures refused { IfErr result (AreTwoApart work (R.remaining input.old) (S.holds files.now) ours.entry.now theirs.entry.now) }
+    ensures made { IfOk result
+        (λ met. AgreeTwo work (R.remaining input.old) (S.holds files.now) ours.entry.now theirs.entry.now met.items) }
+    ensures refused { IfErr result
+        (AreTwoApart work (R.remaining input.old) (S.holds files.now) ours.entry.now theirs.entry.now) }
 {
     let (first, second) = match read_both(alloc, ours, theirs, input, files) {
         Ok(both) => both,

@@ -6,7 +6,7 @@ ghost use Rattle.clap.specs.Kinds.{HasKind};
 ghost use Rattle.clap.specs.Walk.{rows_of, texts};
 ghost use Rattle.clap.specs.Matches.{found_of};
 ghost use Rattle.pod_commands.specs.Program.{program};
-ghost use Rattle.pod_commands.specs.Requests.{AreColours, AreGiven, AreNone, Asks, AsksNothing, HasManner, HasPrintout, HasStream, HasStrictness, IsAllAsJson, IsNoNumber, IsNoTime, IsNumber, fate_in, is_given, is_true_text, layout_in, name_of, names_in, reading_in, strictness_in};
+ghost use Rattle.pod_commands.specs.Requests.{AreColours, AreGiven, HasUnknownValue, Asks, AsksNothing, HasManner, HasPrintout, HasStream, HasStrictness, IsAllAsJson, IsNoNumber, IsUnknownWhen, IsNumber, fate_in, is_given, is_true_text, layout_in, name_of, names_in, reading_in, strictness_in};
 ghost use Rattle.pod_commands.specs.declared.request.Word.{Word};
 ghost use Rattle.pod_commands.specs.declared.request.Fate.{Fate as FateOf};
 ghost use Rattle.pod_commands.specs.declared.request.Options.{Options as OptionsOf};
@@ -85,12 +85,13 @@ pub enum Streaming<'a> {
 /// What is done.
 #[derive(Clone, Copy)]
 pub enum Word<'a> {
-    /// This is printed of pods, refused ones too: as they come, or where a file is written, all of it at the end. No manner but the plain one goes
-    /// with it.
+    /// This is printed of pods, refused ones too: as they come, or where a file is written, all of it at the end.
+    /// `--lenient` and `--keep-going` don't go with it.
     Print(Printing<'a>, Manner),
     /// This is made of each input, which is read so.
     Make(Making, Manner),
-    /// This is written of each input as it comes, which is read so: no manner but the plain one, and no file, goes with it.
+    /// This is written of each input as it comes, which is read so. `--lenient`, `--keep-going`, `--keep-refused` and
+    /// `-o` don't go with it.
     Stream(Streaming<'a>, Manner),
     /// Two inputs are compared.
     Diff,
@@ -220,7 +221,7 @@ impl<'a> Options<'a> {
 /// `--color` has no word of its own.
 fn options_of<'a>(given: &ArgMatches<'a>, is_terminal: bool) -> Option<Options<'a>>
     ensures given { IfSome result (AreGiven (rows_of (found_of given.now)) is_terminal) }
-    ensures none { IfNone result (AreNone (rows_of (found_of given.now))) }
+    ensures none { IfNone result (HasUnknownValue (rows_of (found_of given.now))) }
 {
     let Some(nth) = number_of(given.get_str("nth")) else {
         return None;
@@ -243,7 +244,7 @@ fn options_of<'a>(given: &ArgMatches<'a>, is_terminal: bool) -> Option<Options<'
 /// Whether texts are coloured where `--color` has this word: nothing where it is none of its own.
 fn colours_of(when: Option<&str>, to_terminal: bool) -> Option<Colours>
     ensures colours { IfSome result (AreColours (option_map (λ s. s.now) when.entry) to_terminal) }
-    ensures none { IfNone result (IsNoTime (option_map (λ s. s.now) when.entry)) }
+    ensures none { IfNone result (IsUnknownWhen (option_map (λ s. s.now) when.entry)) }
 {
     let Some(when) = when else {
         return Some(colours_by(to_terminal));
@@ -379,14 +380,14 @@ fn manner_of(given: &ArgMatches<'_>) -> Manner
     }
 }
 
-/// Tells whether the flag of this name is given.
+/// Whether the flag of this name is given.
 fn is_set(given: &ArgMatches<'_>, name: &str) -> bool
     ensures { result ≡ is_given name.now (rows_of (found_of given.now)) }
 {
     is_true(given.get_str(name))
 }
 
-/// Tells whether a flag of this value is given.
+/// Whether a flag of this value is given.
 fn is_true(flag: Option<&str>) -> bool
     ensures { result ≡ is_true_text (option_map (λ s. s.now) flag.entry) }
 {

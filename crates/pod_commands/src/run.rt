@@ -12,13 +12,13 @@ use crate::making::{Worked, make_all, make_what_is_read};
 use crate::pairs::{agree, agree_of_lists, compare};
 use crate::request::{Fate, Making, Manner, Printing, Request, Streaming, Word, request_of};
 use crate::sending::answered;
-use crate::streaming::stream_all;
+use crate::streaming::{check_all, stream_all};
 use clap::error::ErrorKind;
 use spa_meet_commands::pair::Work;
 use spa_recordings::going_on as recordings;
 use spa_recordings::reading::Reading;
 use std::alloc::Global;
-use std::io::{self, Read, Write};
+use std::io::{Read, Write};
 
 /// Does what the words ask for, the program's own name not among them.
 ///
@@ -33,7 +33,8 @@ pub fn run<'a, R: Read, S: Files, W: Write + Drop>(
     device: W,
     is_terminal: bool,
 ) -> (Answer<'a>, W)
-    ensures { IsAnswer words.entry.now is_terminal (R.remaining input.old) (W.contents device) (W.contents result.1) (S.holds files.old) (S.holds files.new) result.0 }
+    ensures { IsAnswer words.entry.now is_terminal (R.remaining input.old)
+        (W.contents device) (W.contents result.1) (S.holds files.old) (S.holds files.new) result.0 }
 {
     match request_of(alloc, words, is_terminal) {
         Ok(Some(request)) => do_work(alloc, request, input, files, device),
@@ -54,7 +55,8 @@ fn do_work<'a, R: Read, S: Files, W: Write + Drop>(
     device: W,
 ) -> (Answer<'a>, W)
     ensures { IsDone request.entry.word result.0 (R.remaining input.old) request.entry.names.items
-        (outlet request.entry.target (W.contents device) (W.contents result.1) (S.holds files.old) (S.holds files.new)) }
+        (outlet request.entry.target (W.contents device) (W.contents result.1)
+        (S.holds files.old) (S.holds files.new)) }
 {
     let word = request.word;
     let target = request.target;
@@ -136,7 +138,8 @@ fn are_regular<S: Files>(names: &[&str], files: &S) -> bool
     true
 }
 
-/// Rewrites the files of these names, which are read twice: nothing is written before all are accepted, and neither pass holds more than a block.
+/// Rewrites the files of these names, which are read twice: nothing is written before all are accepted, and neither
+/// pass holds more than a block.
 fn rewrite_twice<'a, R: Read, S: Files, W: Write + Drop>(
     alloc: Global,
     names: &[&'a str],
@@ -149,9 +152,8 @@ fn rewrite_twice<'a, R: Read, S: Files, W: Write + Drop>(
     ensures { IsMadeBy Exact Stops Rewrite result.0 (R.remaining input.old) names.now
         (outlet target.entry (W.contents device) (W.contents result.1) (S.holds files.old) (S.holds files.new)) }
 {
-    let mut nowhere = io::sink();
-    match stream_all(alloc, Streaming::Check, names, input, files, &mut nowhere) {
-        Ok(_) => write_as(
+    match check_all(alloc, names, input, files) {
+        Ok(()) => write_as(
             alloc,
             Streaming::Rewrite,
             names,

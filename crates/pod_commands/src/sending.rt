@@ -16,9 +16,11 @@ pub(crate) fn send<'a, S: Files, W: Write + Drop>(
     device: W,
     made: &[u8],
 ) -> (Result<(), Failure<'a>>, W)
-    ensures sent { OnOk result.0 (Gets target.entry (outlet target.entry (W.contents device) (W.contents result.1) (S.holds files.old) (S.holds files.new))
+    ensures sent { OnOk result.0 (Gets target.entry
+        (outlet target.entry (W.contents device) (W.contents result.1) (S.holds files.old) (S.holds files.new))
         made.now) }
-    ensures begun { OnErr result.0 (Begins target.entry (outlet target.entry (W.contents device) (W.contents result.1) (S.holds files.old) (S.holds files.new))
+    ensures begun { OnErr result.0 (Begins target.entry
+        (outlet target.entry (W.contents device) (W.contents result.1) (S.holds files.old) (S.holds files.new))
         made.now) }
     ensures cause { IfErr result.0 IsUnwritten }
 {

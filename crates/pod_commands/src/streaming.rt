@@ -1,10 +1,14 @@
 //! Inputs that are written of as they come.
-ghost use Rattle.std.specs.Prelude.{◌+◌, ◌<◌, ◌^◌, ℕ, IfErr, IfOk, List, length};
+ghost use Rattle.std.specs.Prelude.{◌+◌, ◌<◌, ◌^◌, [], ℕ, IfErr, IfOk, List, OnOk, length};
 ghost use Rattle.std.specs.Io.KnownBytes.{Appends};
+ghost use Rattle.pod_commands.specs.Answers.{AreUnmade};
 ghost use Rattle.pod_commands.specs.Inputs.{AreMade, IsKnown, content_of, left_behind};
+ghost use Rattle.pod_commands.specs.Making.{MakesAll};
 ghost use Rattle.pod_commands.specs.Streaming.{HasNoPod, IsBroken, IsBrokenAt, IsFailureOf, IsRefusedAs, MayRefuse, StreamsAs, WritesOf};
+ghost use Rattle.pod_commands.specs.declared.request.Making.TheVariants.{Check};
 ghost use Rattle.pod_commands.specs.declared.request.Streaming.TheVariants as streaming;
 ghost use Rattle.spa_format.specs.Front.{IsRefused};
+ghost use Rattle.spa_recordings.specs.declared.reading.Reading.TheVariants.{Exact};
 ghost use Rattle.spa_recordings.specs.Streaming.{IsNotMade, Streams, WritesMade};
 
 use crate::answer::Failure;
@@ -12,15 +16,14 @@ use crate::colours::in_colours;
 use crate::files::{Files, open_named};
 use crate::request::{Printing, Streaming, Style};
 use spa_pod_commands::making::check;
-use spa_pod_commands::output::write;
 use spa_recordings::reading::Reading;
-use spa_recordings::streaming::{BlockWriter, NotMade, Rewriter, Stop, stream};
+use spa_recordings::streaming::{BlockWriter, NotMade, Rewriter, Stop, stream, write_made};
 use spa_refusals::refusal_of;
 use spa_text_commands::answer;
 use spa_text_commands::printing::print_all;
 use spa_text_commands::showing::{Printed, show_pods};
 use std::alloc::Global;
-use std::io::{Read, Write};
+use std::io::{self, Read, Write};
 
 /// Writes this of the inputs of these names, and answers how many of their pods are refused.
 pub(crate) fn stream_all<'a, R: Read, S: Files, W: Write>(
@@ -31,9 +34,11 @@ pub(crate) fn stream_all<'a, R: Read, S: Files, W: Write>(
     files: &S,
     output: &mut W,
 ) -> Result<usize, Failure<'a>>
-    ensures streamed { IfOk result (λ refused. (out : List ℕ) × AreMade (StreamsAs streaming.entry) (R.remaining input.old) (S.holds files.now) names.now out refused
+    ensures streamed { IfOk result (λ refused. (out : List ℕ)
+        × AreMade (StreamsAs streaming.entry) (R.remaining input.old) (S.holds files.now) names.now out refused
         × Appends (W.contents output.old) (W.contents output.new) out) }
-    ensures broken { IfErr result (IsBroken streaming.entry (R.remaining input.old) (S.holds files.now) names.now (W.contents output.old) (W.contents output.new)) }
+    ensures broken { IfErr result (IsBroken streaming.entry (R.remaining input.old) (S.holds files.now) names.now
+        (W.contents output.old) (W.contents output.new)) }
 {
     let mut refused: usize = 0;
     for name in names {
@@ -49,6 +54,26 @@ pub(crate) fn stream_all<'a, R: Read, S: Files, W: Write>(
     Ok(refused)
 }
 
+/// Passes where the inputs of these names consist of pods, which it looks at block by block; nothing is written.
+#[tactic(auto, using(crate::proofs::Checked::all_checked))]
+pub(crate) fn check_all<'a, R: Read, S: Files>(
+    alloc: Global,
+    names: &[&'a str],
+    input: &mut R,
+    files: &S,
+) -> Result<(), Failure<'a>>
+    ensures accepted { OnOk result
+        (AreMade (MakesAll Exact Check) (R.remaining input.old) (S.holds files.now) names.now [] 0) }
+    ensures refused { IfErr result
+        (AreUnmade Exact Check (R.remaining input.old) (S.holds files.now) names.now) }
+{
+    let mut nowhere = io::sink();
+    match stream_all(alloc, Streaming::Check, names, input, files, &mut nowhere) {
+        Ok(_) => Ok(()),
+        Err(why) => Err(why),
+    }
+}
+
 /// Writes this of the input of this name, and answers how many of its pods are refused.
 fn stream_named<'a, R: Read, S: Files, W: Write>(
     alloc: Global,
@@ -58,9 +83,11 @@ fn stream_named<'a, R: Read, S: Files, W: Write>(
     files: &S,
     output: &mut W,
 ) -> Result<usize, Failure<'a>>
-    ensures streamed { IfOk result (Streams (StreamsAs streaming.entry) (content_of (R.remaining input.old) (S.holds files.now) name.entry.now)
+    ensures streamed { IfOk result (Streams (StreamsAs streaming.entry)
+        (content_of (R.remaining input.old) (S.holds files.now) name.entry.now)
         (W.contents output.old) (W.contents output.new)) }
-    ensures broken { IfErr result (IsBrokenAt streaming.entry name.entry.now (content_of (R.remaining input.old) (S.holds files.now) name.entry.now)
+    ensures broken { IfErr result (IsBrokenAt streaming.entry name.entry.now
+        (content_of (R.remaining input.old) (S.holds files.now) name.entry.now)
         (W.contents output.old) (W.contents output.new)) }
     ensures left { IsKnown (left_behind (R.remaining input.old) name.entry.now) (R.remaining input.new) }
 {
@@ -78,8 +105,11 @@ fn stream_file<'a, S: Files, W: Write>(
     files: &S,
     output: &mut W,
 ) -> Result<usize, Failure<'a>>
-    ensures streamed { IfOk result (Streams (StreamsAs streaming.entry) (S.holds files.now name.entry.now) (W.contents output.old) (W.contents output.new)) }
-    ensures broken { IfErr result (IsBrokenAt streaming.entry name.entry.now (S.holds files.now name.entry.now) (W.contents output.old) (W.contents output.new)) }
+    ensures streamed { IfOk result (Streams (StreamsAs streaming.entry) (S.holds files.now name.entry.now)
+        (W.contents output.old) (W.contents output.new)) }
+    ensures broken { IfErr result
+        (IsBrokenAt streaming.entry name.entry.now (S.holds files.now name.entry.now)
+        (W.contents output.old) (W.contents output.new)) }
 {
     let mut file = match open_named(alloc, name, files) {
         Ok(file) => file,
@@ -96,8 +126,10 @@ fn stream_reader<'a, R: Read, W: Write>(
     input: &mut R,
     output: &mut W,
 ) -> Result<usize, Failure<'a>>
-    ensures streamed { IfOk result (Streams (StreamsAs streaming.entry) (R.remaining input.old) (W.contents output.old) (W.contents output.new)) }
-    ensures broken { IfErr result (IsBrokenAt streaming.entry name.entry.now (R.remaining input.old) (W.contents output.old) (W.contents output.new)) }
+    ensures streamed { IfOk result (Streams (StreamsAs streaming.entry) (R.remaining input.old)
+        (W.contents output.old) (W.contents output.new)) }
+    ensures broken { IfErr result (IsBrokenAt streaming.entry name.entry.now (R.remaining input.old)
+        (W.contents output.old) (W.contents output.new)) }
 {
     match stream(alloc, &streaming, input, output) {
         Ok(refused) => Ok(refused),
@@ -169,7 +201,8 @@ impl BlockWriter for Streaming<'_> {
 
     ghost makes_nothing = { λ streaming count place. nothing_written streaming count place };
 
-    ghost makes_more = { λ streaming count place first others out more m n h k. written_more streaming count place first others out more m n h k };
+    ghost makes_more = { λ streaming count place first others out more m n h k.
+        written_more streaming count place first others out more m n h k };
 }
 
 /// Writes the texts of the pods of a block, which so many pods and bytes of the input stand before. None of them is refused.
@@ -182,8 +215,10 @@ fn write_texts<W: Write>(
     block: &[u8],
     output: &mut W,
 ) -> Result<usize, NotMade>
-    ensures written { IfOk result (WritesMade (WritesOf (streaming.Json style) count place) block.now (W.contents output.old) (W.contents output.new)) }
-    ensures refused { IfErr result (IsNotMade (MayRefuse (streaming.Json style)) (WritesOf (streaming.Json style) count place) block.now block.now
+    ensures written { IfOk result (WritesMade (WritesOf (streaming.Json style) count place) block.now
+        (W.contents output.old) (W.contents output.new)) }
+    ensures refused { IfErr result (IsNotMade (MayRefuse (streaming.Json style))
+        (WritesOf (streaming.Json style) count place) block.now block.now
         (W.contents output.old) (W.contents output.new)) }
 {
     let texts = match print_all(alloc, style.layout, block) {
@@ -194,7 +229,7 @@ fn write_texts<W: Write>(
     let Ok(made) = in_colours(alloc, style.colours, texts) else {
         return Err(NotMade::OutOfMemory);
     };
-    match write(output, made.as_slice()) {
+    match write_made(output, made.as_slice()) {
         Ok(()) => Ok(0),
         Err(_) => Err(NotMade::Unwritten),
     }
@@ -213,8 +248,10 @@ fn write_printed<W: Write>(
 ) -> Result<usize, NotMade>
     requires count { count + length block.now < 2 ^ 64 }
     requires place { place + length block.now < 2 ^ 64 }
-    ensures written { IfOk result (WritesMade (WritesOf (streaming.Print printing.entry) count place) block.now (W.contents output.old) (W.contents output.new)) }
-    ensures refused { IfErr result (IsNotMade (MayRefuse (streaming.Print printing.entry)) (WritesOf (streaming.Print printing.entry) count place) block.now block.now
+    ensures written { IfOk result (WritesMade (WritesOf (streaming.Print printing.entry) count place) block.now
+        (W.contents output.old) (W.contents output.new)) }
+    ensures refused { IfErr result (IsNotMade (MayRefuse (streaming.Print printing.entry))
+        (WritesOf (streaming.Print printing.entry) count place) block.now block.now
         (W.contents output.old) (W.contents output.new)) }
 {
     let Ok(printed) = show_pods(alloc, printing.printout, count, place, block) else {
@@ -225,7 +262,7 @@ fn write_printed<W: Write>(
     let Ok(made) = in_colours(alloc, printing.colours, bytes) else {
         return Err(NotMade::OutOfMemory);
     };
-    match write(output, made.as_slice()) {
+    match write_made(output, made.as_slice()) {
         Ok(()) => Ok(refused),
         Err(_) => Err(NotMade::Unwritten),
     }

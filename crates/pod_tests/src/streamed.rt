@@ -24,17 +24,16 @@ const COUNT: usize = 6000;
 /// What is wanted of a run: what it writes, what it says, and its status.
 type Wanted<'a> = (&'a [u8], &'a [u8], u8);
 
-/// Whether this word with `--stream` answers so over this input, unless it says that memory is wanting and has written a beginning of that.
+/// Whether a run by these words answers so over this input, unless it says that memory is wanting and has written a beginning of that.
 fn streams(
     rt: &HostRuntime,
-    word: &str,
+    words: &[&str],
     mut source: Source<'_>,
     room: &mut [u8],
     wanted: Wanted<'_>,
 ) -> Result<bool, AllocError> {
     let device = Device::new(room, ALL);
-    let words = [word, "--stream"];
-    let (answer, mut device) = run(rt.alloc(), &words, &mut source, &mut Broken, device, false);
+    let (answer, mut device) = run(rt.alloc(), words, &mut source, &mut Broken, device, false);
     let mut line = [0; 200];
     let mut faults = Device::new(&mut line, PIECE);
     let is_told = tell(&mut device, &mut faults, &answer).is_ok();
@@ -55,6 +54,9 @@ fn times(alloc: Global, bytes: &[u8], count: usize) -> Result<Vec<u8>, AllocErro
     Ok(all)
 }
 
+/// What is said of `WRONG` behind so many of `PADDED`.
+const REFUSED: &[u8] = b"pod: standard input: pod 6001 (Int), byte 144000: a body or the size of elements isn't as long as its type's (WrongSize)\n";
+
 /// Whether all pods of several blocks are rewritten that come in pieces of so many bytes, and the first refused one is named.
 fn are_blocks_rewritten(rt: &HostRuntime, piece: usize) -> Result<bool, AllocError> {
     let mut given = times(rt.alloc(), &PADDED, COUNT)?;
@@ -62,16 +64,30 @@ fn are_blocks_rewritten(rt: &HostRuntime, piece: usize) -> Result<bool, AllocErr
     let written = times(rt.alloc(), &CLEAN, COUNT)?;
     let source = Source::whole(given.as_slice(), piece);
     let all: Wanted<'_> = (written.as_slice(), b"", 0);
-    let holds = streams(rt, "rewrite", source, room.as_mut_slice(), all)?;
+    let holds = streams(rt, &["rewrite", "--stream"], source, room.as_mut_slice(), all)?;
     given.extend_from_slice(&WRONG)?;
     given.extend_from_slice(&PADDED)?;
     let source = Source::whole(given.as_slice(), piece);
-    let some: Wanted<'_> = (
-        written.as_slice(),
-        b"pod: standard input: pod 6001 (Int), byte 144000: a body or the size of elements isn't as long as its type's (WrongSize)\n",
-        1,
-    );
-    Ok(streams(rt, "rewrite", source, room.as_mut_slice(), some)? && holds)
+    let some: Wanted<'_> = (written.as_slice(), REFUSED, 1);
+    Ok(streams(rt, &["rewrite", "--stream"], source, room.as_mut_slice(), some)? && holds)
+}
+
+/// Whether all pods of several blocks are checked, and the first refused one is named.
+fn are_blocks_checked(rt: &HostRuntime) -> Result<bool, AllocError> {
+    let mut given = times(rt.alloc(), &PADDED, COUNT)?;
+    let source = Source::whole(given.as_slice(), ALL);
+    let holds = streams(rt, &["check"], source, &mut [], (b"", b"", 0))?;
+    given.extend_from_slice(&WRONG)?;
+    given.extend_from_slice(&PADDED)?;
+    let source = Source::whole(given.as_slice(), ALL);
+    Ok(streams(rt, &["check"], source, &mut [], (b"", REFUSED, 1))? && holds)
+}
+
+#[test]
+fn blocks_are_checked(rt: HostRuntime) -> Result<(), AllocError> {
+    let holds = are_blocks_checked(&rt)?;
+    assert!(rt; holds);
+    Ok(())
 }
 
 /// The text of `PADDED`.
@@ -84,7 +100,7 @@ fn are_blocks_printed(rt: &HostRuntime) -> Result<bool, AllocError> {
     let written = times(rt.alloc(), TEXT, COUNT)?;
     let source = Source::whole(given.as_slice(), ALL);
     let all: Wanted<'_> = (written.as_slice(), b"", 0);
-    streams(rt, "json", source, room.as_mut_slice(), all)
+    streams(rt, &["json", "--stream"], source, room.as_mut_slice(), all)
 }
 
 #[test]
@@ -123,7 +139,7 @@ fn is_long_rewritten(rt: &HostRuntime) -> Result<bool, AllocError> {
     let mut room = times(rt.alloc(), &[0], given.len())?;
     let source = Source::whole(given.as_slice(), ALL);
     let wanted: Wanted<'_> = (written.as_slice(), b"", 0);
-    streams(rt, "rewrite", source, room.as_mut_slice(), wanted)
+    streams(rt, &["rewrite", "--stream"], source, room.as_mut_slice(), wanted)
 }
 
 #[test]

@@ -3,7 +3,7 @@ use Rattle.std.specs.Borrow.{Bor}
 use Rattle.pod_commands.specs.Answers.{IsUnread}
 use Rattle.pod_commands.specs.Working.{WorksOn}
 use Rattle.pod_commands.proofs.Made.{next_left, none_left}
-use Rattle.pod_commands.proofs.Requested.{told}
+use Rattle.pod_commands.proofs.Requested.{cause_is}
 use Rattle.pod_commands.proofs.Worked.{begins, finished, goes_on}
 use Rattle.pod_commands.proofs.making.make_what_is_read.Goals as goal
 
@@ -27,8 +27,8 @@ returns-clause-made g c =
     finished _ _ _ _ _ _ _ _ _ _ (none_left c.args.names.now c.loop-name.name-index c.loop-name-test.false) c.loop-name.invariant
 
 pub returns-in_err-bytes-clause-refused : goal.returns-in_err-bytes-clause-refused
-returns-in_err-bytes-clause-refused g c = told IsUnread c.from_residual.result _ c.from_residual.ensures.1 c.in_err-bytes.ensures.cause
+returns-in_err-bytes-clause-refused g c = cause_is IsUnread c.from_residual.result _ c.from_residual.ensures.1 c.in_err-bytes.ensures.cause
 
 pub returns-in_err-more-clause-refused : goal.returns-in_err-more-clause-refused
 returns-in_err-more-clause-refused g c =
-    told IsUnread c.from_residual-in_err-more.result _ c.from_residual-in_err-more.ensures.1 (inl refl)
+    cause_is IsUnread c.from_residual-in_err-more.result _ c.from_residual-in_err-more.ensures.1 (inl refl)

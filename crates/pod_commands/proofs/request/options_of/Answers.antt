@@ -2,7 +2,7 @@ use Rattle.std.proofs.Common.{◌≡◌, ◌∙◌, ap, codes, inl, inr, subst}
 use Rattle.clap.specs.Walk.{rows_of}
 use Rattle.clap.specs.Words.{first_of, found_of}
 use Rattle.clap.proofs.WalkLemmas.{first_value-rows}
-use Rattle.pod_commands.specs.Requests.{AreColours, IsNoNumber, IsNoTime, IsNumber, goes_to_terminal}
+use Rattle.pod_commands.specs.Requests.{AreColours, IsNoNumber, IsUnknownWhen, IsNumber, goes_to_terminal}
 use Rattle.pod_commands.proofs.request.options_of.Goals as goal
 
 pub returns-in_default-clause-none : goal.returns-in_default-clause-none
@@ -11,7 +11,7 @@ returns-in_default-clause-none c =
 
 pub returns-in_default-colours_of-clause-none : goal.returns-in_default-colours_of-clause-none
 returns-in_default-colours_of-clause-none c =
-    inr (subst IsNoTime (c.get_str-3.ensures ∙ first_value-rows (found_of c.args.given.now) (codes "color")) c.in_default-colours_of.ensures.none)
+    inr (subst IsUnknownWhen (c.get_str-3.ensures ∙ first_value-rows (found_of c.args.given.now) (codes "color")) c.in_default-colours_of.ensures.none)
 
 pub returns-clause-given : goal.returns-clause-given
 returns-clause-given c =

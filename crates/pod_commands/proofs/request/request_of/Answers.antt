@@ -6,12 +6,12 @@ use Rattle.clap.specs.Words.{app_of, found_of, subcommand_of}
 use Rattle.clap.proofs.WalkLemmas.{first_value-rows}
 use Rattle.pod_commands.specs.Program.{program}
 use Rattle.pod_commands.specs.Requests.{HasManner, HasStream, HasStrictness, reading_in}
-use Rattle.pod_commands.proofs.Requested.{fault_is, found_is, no_fault, one_name, told}
+use Rattle.pod_commands.proofs.Requested.{fault_is, found_is, no_fault, one_name, cause_is}
 use Rattle.pod_commands.proofs.request.request_of.Goals as goal
 
 pub returns-in_err-matches-clause-refused : goal.returns-in_err-matches-clause-refused
 returns-in_err-matches-clause-refused c =
-    told (HasKind (fault_of program (texts c.args.words.now))) c.from_residual-in_err-matches.result c.in_err-matches.field-0.0 c.from_residual-in_err-matches.ensures.1
+    cause_is (HasKind (fault_of program (texts c.args.words.now))) c.from_residual-in_err-matches.result c.in_err-matches.field-0.0 c.from_residual-in_err-matches.ensures.1
     (fault_is _ (texts c.args.words.now) c.in_err-matches.field-0.0 c.in_ok-command.ensures c.in_err-matches.ensures.kinds)
 
 pub returns-in_default-word_of-clause-nothing : goal.returns-in_default-word_of-clause-nothing

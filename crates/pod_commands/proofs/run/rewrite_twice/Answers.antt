@@ -1,15 +1,14 @@
 use Rattle.pod_commands.specs.Answers.{outlet}
-use Rattle.pod_commands.proofs.Twice.{read_again, read_once}
+use Rattle.pod_commands.proofs.Twice.{read_again, refused_first}
 use Rattle.pod_commands.proofs.run.rewrite_twice.Goals as goal
 
 pub returns-in-Ok : goal.returns-in-Ok
 returns-in-Ok g c =
     let o = outlet c.args.target (g.W.Write.contents c.args.device) (g.W.Write.contents c.write_as.result.1) (g.S.Files.holds c.args.files.now)
     (g.S.Files.holds c.write_as.new.files) in
-    let made = c.in-Ok.ensures.streamed in
-    read_again c.write_as.result.0 (g.R.Read.remaining c.args.input.now) _ c.args.names.now o made.0 c.in-Ok.field-0 c.requires made.1 c.write_as.ensures
+    read_again c.write_as.result.0 (g.R.Read.remaining c.args.input.now) _ c.args.names.now o c.requires c.in-Ok.ensures.accepted c.write_as.ensures
 
 pub returns-in-Err : goal.returns-in-Err
 returns-in-Err g c =
-    read_once c.args.target (g.R.Read.remaining c.args.input.now) (g.S.Files.holds c.args.files.now) c.args.names.now (g.W.Write.contents c.args.device) _ _
-    c.in-Err.why c.requires c.in-Err.ensures.broken
+    refused_first c.args.target (g.R.Read.remaining c.args.input.now) (g.S.Files.holds c.args.files.now) c.args.names.now (g.W.Write.contents c.args.device)
+    c.in-Err.why c.in-Err.ensures.refused

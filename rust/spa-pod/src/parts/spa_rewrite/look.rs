@@ -2,12 +2,12 @@
 //! memory and calls itself nowhere: what is left of the structs and objects around a pod waits in an array of fixed size.
 
 use crate::shims::prelude::*;
-use crate::parts::spa_rewrite::steady::{CHOICE_HEADER, Inside, behind_key, inside_of, short_front};
-use crate::parts::spa_rewrite::surplus::leaf_surplus;
+use crate::parts::spa_rewrite::inside::{Inside, behind_key, inside_of};
+use crate::parts::spa_rewrite::surplus::{CHOICE_HEADER, leaf_surplus, short_front};
 use crate::parts::spa_bodies::VALUE_TYPE_AT;
 use crate::parts::spa_bytes::{HEADER_LEN, SECOND_WORD, open, u32_at};
 use crate::parts::spa_fixed_sized::{FLAGS_SHAPE, Refusal};
-use crate::parts::spa_scan::{LEVELS, fixed_len, leaf_front, nests_within};
+use crate::parts::spa_scan::{LEVELS, fixed_len, leaf_front, nests_within, sized_front, unsized_front};
 use crate::parts::spa_utils::SpaTypes;
 
 /// A pod that is accepted.
@@ -432,8 +432,18 @@ fn behind_canonical(keyed: bool, pods: &[u8]) -> &[u8] {
 /// What follows the first canonical pods that hold no others, with key and flags before each where `keyed` is set.
 #[cfg_attr(not(debug_assertions), inline(always))]
 fn behind_alike(keyed: bool, pods: &[u8]) -> &[u8] {
+    let mut left = behind_sized(keyed, pods);
+    while let Some(rest) = unsized_leaf(keyed, left) {
+        left = behind_sized(keyed, rest);
+    }
+    left
+}
+
+/// What follows the first canonical pods of fixed size, by a loop of its own: these are met most.
+#[cfg_attr(not(debug_assertions), inline(always))]
+fn behind_sized(keyed: bool, pods: &[u8]) -> &[u8] {
     let mut left = pods;
-    while let Some(rest) = canonical_leaf(keyed, left) {
+    while let Some(rest) = sized_leaf(keyed, left) {
         left = rest;
     }
     left
@@ -442,17 +452,30 @@ fn behind_alike(keyed: bool, pods: &[u8]) -> &[u8] {
 /// The length in bytes of a key, flags and a pod whose body is one or two words.
 const KEYED_LEN: usize = 24;
 
-/// What follows the first member or property, where its pod is canonical and holds no others.
+/// What follows the first member or property, where its pod is canonical and of fixed size.
 #[cfg_attr(not(debug_assertions), inline(always))]
-fn canonical_leaf(keyed: bool, left: &[u8]) -> Option<&[u8]> {
-    // One test of the length for both; what is shorter is looked at where the loop ends.
+fn sized_leaf(keyed: bool, left: &[u8]) -> Option<&[u8]> {
+    // One test of the length for both.
     if keyed && left.len() < KEYED_LEN {
         return None;
     }
     let Some(here) = behind_key(keyed, left) else {
         return None;
     };
-    leaf_front(here)
+    sized_front(here)
+}
+
+/// What follows the first member or property, where its pod is canonical, not of fixed size, and holds no others.
+#[cfg_attr(not(debug_assertions), inline(always))]
+fn unsized_leaf(keyed: bool, left: &[u8]) -> Option<&[u8]> {
+    // What is shorter is looked at where the loop ends.
+    if keyed && left.len() < KEYED_LEN {
+        return None;
+    }
+    let Some(here) = behind_key(keyed, left) else {
+        return None;
+    };
+    unsized_front(here)
 }
 
 /// What follows the first pods whose bodies are one or two words and of a kind of fixed size.

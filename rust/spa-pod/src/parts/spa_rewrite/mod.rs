@@ -2,16 +2,17 @@
 use crate::shims::prelude::*;
 mod canonical;
 mod elements;
+mod inside;
 mod leading;
 mod look;
 mod patch;
 mod rewriting;
 mod source;
-mod steady;
 mod surplus;
 mod write;
 
 pub use canonical::is_canonical;
+pub use inside::behind_key;
 pub use leading::{canonical_front, canonical_stretch};
 pub use look::{
     AcceptedPod, AcceptedPods, ChangedPods, Rejected, changed_pods, look_at_pod, look_at_pods,
@@ -19,5 +20,4 @@ pub use look::{
 pub use patch::patch_all;
 pub use rewriting::{accept_all, append_value, rewrite, rewrite_all, rewrite_in_parts};
 pub use source::{Apart, Source, Within};
-pub use steady::behind_key;
 pub use write::{write_all, write_pods};

@@ -4,6 +4,7 @@
 //! written over it. What nests too deep for that is read as a value, which is written.
 
 use crate::shims::prelude::*;
+use crate::parts::spa_rewrite::inside::{Inside, inside_of};
 use crate::parts::spa_rewrite::leading::{canonical_pods, canonical_stretch};
 use crate::parts::spa_rewrite::look::{
     AcceptedPod, DEEP_BODY, FEW, Found, Rejected, look_at_front, look_at_pods, look_into,
@@ -11,8 +12,7 @@ use crate::parts::spa_rewrite::look::{
 };
 use crate::parts::spa_rewrite::patch::patch_all;
 use crate::parts::spa_rewrite::source::Apart;
-use crate::parts::spa_rewrite::steady::{Inside, inside_of, short_front};
-use crate::parts::spa_rewrite::surplus::leaf_surplus;
+use crate::parts::spa_rewrite::surplus::{leaf_surplus, short_front};
 use crate::parts::spa_rewrite::write::write_pods;
 use crate::parts::spa_bodies::error_at;
 use crate::parts::spa_bytes::open;

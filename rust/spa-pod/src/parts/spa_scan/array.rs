@@ -12,15 +12,9 @@ const CHOICE_HEADER: usize = 16;
 /// The length in bytes of a word.
 const WORD_LEN: usize = 4;
 
-/// Whether the body of an array is as its elements are written. Most arrays need no call.
+/// Whether the body of an array is as its elements are written.
 #[cfg_attr(not(debug_assertions), inline(always))]
 pub(crate) fn is_array(body: &[u8]) -> bool {
-    is_sized_array(body) || is_any_array(body)
-}
-
-/// Whether the elements of an array are of a kind of fixed size, Bool and None aside: these are written as they lie.
-#[cfg_attr(not(debug_assertions), inline(always))]
-fn is_sized_array(body: &[u8]) -> bool {
     if body.len() < HEADER_LEN {
         return false;
     }
@@ -28,36 +22,18 @@ fn is_sized_array(body: &[u8]) -> bool {
     let size = u32_at(body, 0);
     let (_, elements) = body.split_at(HEADER_LEN);
     if size == ONE_WORD {
-        return is_word_type(type_) && elements.len() % WORD_LEN == 0;
-    }
-    if fixed_len(type_) != TWO_WORDS || size != TWO_WORDS {
-        return false;
-    }
-    elements.len() % HEADER_LEN == 0
-}
-
-/// Does what `is_array` does, for elements of any kind.
-fn is_any_array(body: &[u8]) -> bool {
-    if body.len() < HEADER_LEN {
-        return false;
-    }
-    let type_ = u32_at(body, SECOND_WORD);
-    let size = u32_at(body, 0);
-    if size != fixed_len(type_) {
-        return false;
-    }
-    let (_, elements) = body.split_at(HEADER_LEN);
-    match size {
-        0 => elements.is_empty(),
-        ONE_WORD => {
-            if type_ == SpaTypes::Bool.0 {
-                return are_bools(elements);
-            }
-            elements.len() % WORD_LEN == 0
+        if is_word_type(type_) {
+            return elements.len() % WORD_LEN == 0;
         }
-        TWO_WORDS => elements.len() % HEADER_LEN == 0,
-        _ => false,
+        return type_ == SpaTypes::Bool.0 && are_bools(elements);
     }
+    if size == TWO_WORDS {
+        return fixed_len(type_) == TWO_WORDS && elements.len() % HEADER_LEN == 0;
+    }
+    if type_ != SpaTypes::None.0 {
+        return false;
+    }
+    size == 0 && elements.is_empty()
 }
 
 /// Whether the body of a choice is as its values are written: their count is that of its shape, and a choice without

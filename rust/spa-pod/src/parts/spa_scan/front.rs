@@ -1,7 +1,7 @@
 //! Pods at the front of an input: those of fixed size, and any with zeros as padding.
 
 use crate::shims::prelude::*;
-use crate::parts::spa_bytes::{Front, HEADER_LEN, SECOND_WORD, open, u32_at, u64_at};
+use crate::parts::spa_bytes::{HEADER_LEN, SECOND_WORD, u32_at, u64_at};
 use crate::parts::spa_utils::SpaTypes;
 
 /// The length in bytes of a body of one word.
@@ -22,34 +22,23 @@ const FIRST_OF_BODY: usize = 8;
 /// Where the second word of a body stands in its pod, or the padding behind a body of one word.
 const SECOND_OF_BODY: usize = 12;
 
-/// Opens the pod at the front, where all of it is there and its padding is zeros.
+/// Whether the bytes behind a body of this size are zeros, up to a multiple of 8.
 #[cfg_attr(not(debug_assertions), inline(always))]
-pub(crate) fn padded_front(input: &[u8]) -> Option<Front<'_>> {
-    let Some(front) = open(input) else {
-        return None;
-    };
-    let (_, behind) = input.split_at(HEADER_LEN);
-    if has_zeros(behind, front.body.len()) {
-        Some(front)
-    } else {
-        None
-    }
+pub(crate) fn has_zeros(behind: &[u8], size: usize) -> bool {
+    size % HEADER_LEN == 0 || ends_in_zeros(behind, size)
 }
 
-/// The bytes behind a body of this size are zeros, up to a multiple of 8.
+/// Whether the bytes from this offset on are zeros, up to the end of its eight bytes.
 #[cfg_attr(not(debug_assertions), inline(always))]
-fn has_zeros(behind: &[u8], size: usize) -> bool {
-    let over = size % HEADER_LEN;
-    if over == 0 {
-        return true;
-    }
-    let last = u64_at(behind, size - over);
+pub(crate) fn ends_in_zeros(bytes: &[u8], at: usize) -> bool {
+    let over = at % HEADER_LEN;
+    let last = u64_at(bytes, at - over);
     last >> (8 * over as u32) == 0
 }
 
 /// What follows the pod at the front, where that is canonical and of a kind of fixed size, None aside.
 #[cfg_attr(not(debug_assertions), inline(always))]
-pub(crate) fn fixed_front(input: &[u8]) -> Option<&[u8]> {
+pub fn sized_front(input: &[u8]) -> Option<&[u8]> {
     if input.len() < SHORT_POD {
         return None;
     }

@@ -2,9 +2,9 @@
 
 use crate::shims::prelude::*;
 use crate::parts::spa_scan::array::{is_array, is_choice};
-use crate::parts::spa_scan::front::{fixed_front, padded_front};
-use crate::parts::spa_scan::text::is_text;
-use crate::parts::spa_bytes::{HEADER_LEN, POINTER_LEN, SECOND_WORD, u32_at};
+use crate::parts::spa_scan::front::{has_zeros, sized_front};
+use crate::parts::spa_scan::text::is_padded_text;
+use crate::parts::spa_bytes::{HEADER_LEN, POINTER_LEN, SECOND_WORD, open, u32_at};
 use crate::parts::spa_utils::SpaTypes;
 
 /// How many structs and objects may stand in one another in a pod that is looked into without memory.
@@ -13,35 +13,33 @@ pub const LEVELS: u32 = 1000;
 /// What follows the pod at the front, where that is canonical and neither a struct nor an object.
 #[cfg_attr(not(debug_assertions), inline(always))]
 pub fn leaf_front(input: &[u8]) -> Option<&[u8]> {
-    if let Some(rest) = fixed_front(input) {
+    if let Some(rest) = sized_front(input) {
         return Some(rest);
     }
-    if input.len() < HEADER_LEN {
-        return None;
-    }
-    if !is_looked_into(u32_at(input, SECOND_WORD)) {
-        return None;
-    }
-    leaf_body_front(input)
-}
-
-/// Whether pods of this type hold no others.
-#[cfg_attr(not(debug_assertions), inline(always))]
-fn is_looked_into(type_: u32) -> bool {
-    type_ != SpaTypes::Struct.0 && type_ != SpaTypes::Object.0
+    unsized_front(input)
 }
 
 /// What follows the pod at the front, where that is canonical, not of fixed size, and neither a struct nor an object.
 #[cfg_attr(not(debug_assertions), inline(always))]
-fn leaf_body_front(input: &[u8]) -> Option<&[u8]> {
-    let Some(front) = padded_front(input) else {
+pub fn unsized_front(input: &[u8]) -> Option<&[u8]> {
+    let Some(front) = open(input) else {
         return None;
     };
-    if is_any_body(front.type_, front.body) {
+    let (_, behind) = input.split_at(HEADER_LEN);
+    if is_padded_body(front.type_, front.body, behind) {
         Some(front.rest)
     } else {
         None
     }
+}
+
+/// Whether a body of this type, which holds no pods, is as its value is written, and zeros follow it up to a multiple of 8.
+#[cfg_attr(not(debug_assertions), inline(always))]
+fn is_padded_body(type_: u32, body: &[u8], behind: &[u8]) -> bool {
+    if type_ == SpaTypes::String.0 {
+        return is_padded_text(body, behind);
+    }
+    has_zeros(behind, body.len()) && is_other_body(type_, body)
 }
 
 /// What follows the property at the front, where its pod is one that `leaf_front` passes.
@@ -75,26 +73,24 @@ pub fn leaf_properties(input: &[u8]) -> (&[u8], &[u8]) {
     input.split_at(input.len() - left.len())
 }
 
-/// Whether a body of this type, which holds no pods, is as its value is written. Choices, strings and arrays are looked at in place: these need no
-/// call.
+/// Whether a body of this type is as its value is written, and holds no pods. Choices and arrays need no call.
 #[cfg_attr(not(debug_assertions), inline(always))]
-fn is_any_body(type_: u32, body: &[u8]) -> bool {
+fn is_other_body(type_: u32, body: &[u8]) -> bool {
     match SpaTypes(type_) {
         SpaTypes::Choice => is_choice(body),
-        SpaTypes::String => is_text(body),
         SpaTypes::Array => is_array(body),
-        _ => is_body(type_, body),
+        SpaTypes::Struct => false,
+        SpaTypes::Object => false,
+        _ => is_rare_body(type_, body),
     }
 }
 
-/// Whether a body of this type, which holds no pods, is as its value is written.
-fn is_body(type_: u32, body: &[u8]) -> bool {
+/// Does what `is_other_body` does, for types that are met seldom.
+#[inline(never)]
+fn is_rare_body(type_: u32, body: &[u8]) -> bool {
     match SpaTypes(type_) {
-        SpaTypes::String => is_text(body),
         SpaTypes::Bytes => true,
         SpaTypes::Bitmap => true,
-        SpaTypes::Choice => is_choice(body),
-        SpaTypes::Array => is_array(body),
         SpaTypes::Pointer => body.len() == POINTER_LEN && u32_at(body, SECOND_WORD) == 0,
         SpaTypes::None => body.is_empty(),
         _ => false,

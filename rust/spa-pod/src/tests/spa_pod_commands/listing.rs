@@ -17,8 +17,9 @@ pub(crate) enum Level<'a> {
     Properties(PodObjectIter<'a>),
 }
 
-/// Makes the lines of pods one after another: for each pod a line with its depth, type number and size, and then the same of what
-/// is inside it, each field and each property's value in order. Lines are appended to those that wait, and written from time to time.
+/// Makes the lines of pods one after another: of each pod a line with its depth, type number and size, and then
+/// the lines of its fields or of the values of its properties, in order. Lines are appended to those that wait,
+/// and written from time to time.
 pub(crate) fn list<W: Write>(
     pods: &[u8],
     lines: &mut String,

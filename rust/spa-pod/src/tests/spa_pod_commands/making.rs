@@ -18,8 +18,7 @@ pub fn rewritten(mut bytes: Vec<u8>) -> Result<Vec<u8>, Failure> {
     }
 }
 
-/// The bytes with each top-level object fixated in place, and the other pods as they came. They are accepted exactly where they
-/// could be rewritten.
+/// The bytes with each top-level object fixated in place, and the other pods as they came. It accepts exactly what `rewritten` does.
 pub fn fixated(mut bytes: Vec<u8>) -> Result<Vec<u8>, Failure> {
     check(bytes.as_slice())?;
     fixate_all(bytes.as_mut_slice());

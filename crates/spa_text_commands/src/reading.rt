@@ -73,28 +73,30 @@ fn split_line(bytes: &[u8]) -> Option<(&[u8], &[u8])>
     let mut left = bytes;
     while let Some((byte, behind)) = left.split_first() {
         let byte = *byte;
-        if byte == b'\n' {
-            if count > 0 {
-                return None;
-            }
-            return Some((&bytes[..bytes.len() - left.len()], behind));
+        // Digits, marks and capital letters stand between the quote and the brackets in ASCII.
+        if byte > b'"' && byte < b'[' {
+            left = behind;
+            continue;
         }
         if byte == b'"' {
             let Some(rest) = behind_string(behind) else {
                 return None;
             };
             left = rest;
-        } else {
-            // The brackets stand behind digits and other marks in ASCII.
-            if byte >= b'[' {
-                if byte == b'{' || byte == b'[' {
-                    count += 1;
-                } else if byte == b'}' || byte == b']' {
-                    count = count.saturating_sub(1);
-                }
-            }
-            left = behind;
+            continue;
         }
+        if byte == b'\n' {
+            if count > 0 {
+                return None;
+            }
+            return Some((&bytes[..bytes.len() - left.len()], behind));
+        }
+        if byte == b'{' || byte == b'[' {
+            count += 1;
+        } else if byte == b'}' || byte == b']' {
+            count = count.saturating_sub(1);
+        }
+        left = behind;
     }
     None
 }

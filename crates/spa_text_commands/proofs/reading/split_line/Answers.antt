@@ -16,14 +16,16 @@ loop-byte-preserved-then-byte-eq125 c =
     closes_passed c.args.bytes.now c.loop-byte.left.now c.in-Some.behind.now c.loop-byte.count c.saturating_sub-count.result c.in-Some.byte.now
     c.loop-byte.invariant (search rules) c.then-byte-eq125.either c.saturating_sub-count.ensures
 
+pub loop-byte-preserved-then-byte-lt91 : goal.loop-byte-preserved-then-byte-lt91
+loop-byte-preserved-then-byte-lt91 c =
+    let high = c.if-byte-gt34.true in
+    let low = c.if-byte-lt91.true in
+    plain_passed c.args.bytes.now c.loop-byte.left.now c.in-Some.behind.now c.loop-byte.count c.in-Some.byte.now c.loop-byte.invariant (search rules)
+    (λ z. omega (arith, high, z)) (λ z. omega (arith, high, z)) (λ z. omega (arith, low, z)) (λ z. omega (arith, low, z)) (λ z. omega (arith, low, z))
+    (λ z. omega (arith, low, z))
+
 pub loop-byte-preserved : goal.loop-byte-preserved
 loop-byte-preserved c =
-    let low = c.if-byte-ge91.false in
-    plain_passed c.args.bytes.now c.loop-byte.left.now c.in-Some.behind.now c.loop-byte.count c.in-Some.byte.now c.loop-byte.invariant (search rules)
-    c.if-byte-eq10.false c.if-byte-eq34.false (λ z. omega (arith, low, z)) (λ z. omega (arith, low, z)) (λ z. omega (arith, low, z)) (λ z. omega (arith, low, z))
-
-pub loop-byte-preserved-else-byte-eq93 : goal.loop-byte-preserved-else-byte-eq93
-loop-byte-preserved-else-byte-eq93 c =
     let no_open = c.if-byte-eq91.false in
     plain_passed c.args.bytes.now c.loop-byte.left.now c.in-Some.behind.now c.loop-byte.count c.in-Some.byte.now c.loop-byte.invariant (search rules)
     c.if-byte-eq10.false c.if-byte-eq34.false no_open.0 no_open.1 c.if-byte-eq125.false c.if-byte-eq93.false

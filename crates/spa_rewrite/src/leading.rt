@@ -7,7 +7,7 @@ ghost use Rattle.spa_scan.specs.Depth.{AreShallow, depth_of, levels_looked_into}
 use crate::inside::{Inside, inside_of};
 use crate::look::{FEW, Found, look_into};
 use spa_bytes::open;
-use spa_scan::{sized_front, unsized_front};
+use spa_scan::leaf_front;
 
 /// What follows the pod at the front, where a look finds that it is canonical: its padding is zeros, its truth values are 0 or 1, its choices hold
 /// no surplus values, its pointers take 16 bytes, and the same holds of its members. It takes no memory.
@@ -63,14 +63,14 @@ fn next_canonical<'a>(input: &'a [u8], frames: &mut [Inside<'a>]) -> Option<&'a 
     ensures shorter { IfSome result (λ rest. length rest.now + 8 ≤ length input.now) }
     ensures missed { IfNone result ((rest : List ℕ) (c : BeginsCanonical input.now rest) → levels_looked_into < depth_of c.value) }
 {
-    if let Some(rest) = sized_front(input) {
+    if let Some(rest) = leaf_front(input) {
         return Some(rest);
     }
     let Some(front) = open(input) else {
         return None;
     };
     let Some(inside) = inside_of(front.type_, front.body) else {
-        return unsized_front(input);
+        return None;
     };
     match look_into(true, inside.keyed, true, inside.pods, frames) {
         Found::Fits(canonical, _) => {

@@ -21,7 +21,7 @@ use crate::surplus::{CHOICE_HEADER, leaf_surplus, short_front};
 use spa_bodies::VALUE_TYPE_AT;
 use spa_bytes::{HEADER_LEN, SECOND_WORD, open, u32_at};
 use spa_fixed_sized::{FLAGS_SHAPE, Refusal};
-use spa_scan::{LEVELS, fixed_len, leaf_front, nests_within, sized_front, unsized_front};
+use spa_scan::{LEVELS, fixed_len, leaf_front, nests_within};
 use spa_utils::SpaTypes;
 
 /// A pod that is accepted.
@@ -494,20 +494,8 @@ fn behind_canonical(keyed: bool, pods: &[u8]) -> &[u8]
 fn behind_alike(keyed: bool, pods: &[u8]) -> &[u8]
     ensures { Passes keyed true pods.now result.now 0 }
 {
-    let mut left = behind_sized(keyed, pods);
-    while let Some(rest) = unsized_leaf(keyed, left) {
-        left = behind_sized(keyed, rest);
-    }
-    left
-}
-
-/// What follows the first canonical pods of fixed size, by a loop of its own: these are met most.
-#[inline(always)]
-fn behind_sized(keyed: bool, pods: &[u8]) -> &[u8]
-    ensures { Passes keyed true pods.now result.now 0 }
-{
     let mut left = pods;
-    while let Some(rest) = sized_leaf(keyed, left) {
+    while let Some(rest) = canonical_leaf(keyed, left) {
         left = rest;
     }
     left
@@ -516,36 +504,20 @@ fn behind_sized(keyed: bool, pods: &[u8]) -> &[u8]
 /// The length in bytes of a key, flags and a pod whose body is one or two words.
 const KEYED_LEN: usize = 24;
 
-/// What follows the first member or property, where its pod is canonical and of fixed size.
+/// What follows the first member or property, where its pod is canonical and holds no others.
 #[inline(always)]
-fn sized_leaf(keyed: bool, left: &[u8]) -> Option<&[u8]>
+fn canonical_leaf(keyed: bool, left: &[u8]) -> Option<&[u8]>
     ensures passed { IfSome result (λ rest. Passes keyed true left.now rest.now 0) }
     ensures shorter { IfSome result (λ rest. length rest.now + 8 ≤ length left.now) }
 {
-    // One test of the length for both.
+    // One test of the length for both; what is shorter is looked at where the loop ends.
     if keyed && left.len() < KEYED_LEN {
         return None;
     }
     let Some(here) = behind_key(keyed, left) else {
         return None;
     };
-    sized_front(here)
-}
-
-/// What follows the first member or property, where its pod is canonical, not of fixed size, and holds no others.
-#[inline(always)]
-fn unsized_leaf(keyed: bool, left: &[u8]) -> Option<&[u8]>
-    ensures passed { IfSome result (λ rest. Passes keyed true left.now rest.now 0) }
-    ensures shorter { IfSome result (λ rest. length rest.now + 8 ≤ length left.now) }
-{
-    // What is shorter is looked at where the loop ends.
-    if keyed && left.len() < KEYED_LEN {
-        return None;
-    }
-    let Some(here) = behind_key(keyed, left) else {
-        return None;
-    };
-    unsized_front(here)
+    leaf_front(here)
 }
 
 /// What follows the first pods whose bodies are one or two words and of a kind of fixed size.

@@ -49,7 +49,7 @@ pub(crate) fn ends_in_zeros(bytes: &[u8], at: usize) -> bool
 
 /// What follows the pod at the front, where that is canonical and of a kind of fixed size, None aside.
 #[inline(always)]
-pub fn sized_front(input: &[u8]) -> Option<&[u8]>
+pub(crate) fn fixed_front(input: &[u8]) -> Option<&[u8]>
     ensures taken { IfSome result (λ rest. BeginsCanonical input.now rest.now) }
     ensures shorter { IfSome result (λ rest. length rest.now + 16 ≤ length input.now) }
     ensures missed { IfNone result ((rest : List ℕ) (c : BeginsCanonical input.now rest) → ¬ (IsSized c.value)) }

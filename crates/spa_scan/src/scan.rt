@@ -1,12 +1,12 @@
 //! Pods that hold no others and are canonical, one after another.
-ghost use Rattle.std.specs.Prelude.{◌≡◌, ◌≢◌, ◌+◌, ◌<◌, ◌≤◌, ◌++◌, IfNone, IfSome, List, length, take, true, ℕ};
-ghost use Rattle.spa_format.specs.Tree.{array_type, choice_type, string_type};
+ghost use Rattle.std.specs.Prelude.{◌≡◌, ◌≢◌, ◌+◌, ◌<◌, ◌≤◌, ◌⊎◌, ◌++◌, IfNone, IfSome, List, false, length, take, true, ℕ};
+ghost use Rattle.spa_format.specs.Tree.{array_type, choice_type, object_type, string_type, struct_type};
 ghost use Rattle.spa_format.specs.Words.{padded_size};
 ghost use Rattle.spa_scan.specs.Canonical.{AreCanonical, AreCanonicalProperties, BeginsCanonical, BeginsCanonicalProperty, HasZeros, IsCanonicalBody, IsSized};
 ghost use Rattle.spa_scan.specs.Depth.{depth_of};
 
 use crate::array::{is_array, is_choice};
-use crate::front::{has_zeros, sized_front};
+use crate::front::{fixed_front, has_zeros};
 use crate::text::is_padded_text;
 use spa_bytes::{HEADER_LEN, POINTER_LEN, SECOND_WORD, open, u32_at};
 use spa_utils::SpaTypes;
@@ -22,15 +22,29 @@ pub fn leaf_front(input: &[u8]) -> Option<&[u8]>
     // No other canonical pod than a struct or an object is missed.
     ensures missed { IfNone result ((rest : List ℕ) (c : BeginsCanonical input.now rest) → 0 < depth_of c.value) }
 {
-    if let Some(rest) = sized_front(input) {
+    if let Some(rest) = fixed_front(input) {
         return Some(rest);
     }
-    unsized_front(input)
+    if input.len() < HEADER_LEN {
+        return None;
+    }
+    if !is_looked_into(u32_at(input, SECOND_WORD)) {
+        return None;
+    }
+    leaf_body_front(input)
+}
+
+/// Whether pods of this type hold no others.
+#[inline(always)]
+fn is_looked_into(type_: u32) -> bool
+    ensures { result ≡ false → (type_ ≡ struct_type) ⊎ (type_ ≡ object_type) }
+{
+    type_ != SpaTypes::Struct.0 && type_ != SpaTypes::Object.0
 }
 
 /// What follows the pod at the front, where that is canonical, not of fixed size, and neither a struct nor an object.
 #[inline(always)]
-pub fn unsized_front(input: &[u8]) -> Option<&[u8]>
+fn leaf_body_front(input: &[u8]) -> Option<&[u8]>
     ensures taken { IfSome result (λ rest. BeginsCanonical input.now rest.now) }
     ensures shorter { IfSome result (λ rest. length rest.now + 8 ≤ length input.now) }
     ensures missed { IfNone result ((rest : List ℕ) (c : BeginsCanonical input.now rest) → ¬ (IsSized c.value) → 0 < depth_of c.value) }
@@ -111,8 +125,6 @@ fn is_other_body(type_: u32, body: &[u8]) -> bool
     match SpaTypes(type_) {
         SpaTypes::Choice => is_choice(body),
         SpaTypes::Array => is_array(body),
-        SpaTypes::Struct => false,
-        SpaTypes::Object => false,
         _ => is_rare_body(type_, body),
     }
 }

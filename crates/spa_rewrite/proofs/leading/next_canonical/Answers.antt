@@ -1,6 +1,5 @@
 use Rattle.std.proofs.Common.{arith, refl}
 use Rattle.spa_format.specs.Typed.{IsBytes}
-use Rattle.spa_scan.proofs.Opened.{none_then}
 use Rattle.spa_scan.specs.Depth.{levels_looked_into}
 use Rattle.spa_rewrite.proofs.Accepted.{leaf_differs}
 use Rattle.spa_rewrite.proofs.Levels.{deep_begun, too_deep}
@@ -9,10 +8,9 @@ use Rattle.spa_rewrite.proofs.LeafBodies.{never}
 use Rattle.spa_rewrite.proofs.leading.next_canonical.Goals as goal
 
 pub returns-in_default-inside_of-clause-missed : goal.returns-in_default-inside_of-clause-missed
-returns-in_default-inside_of-clause-missed c =
+returns-in_default-inside_of-clause-missed c = λ rest k.
     let other = c.in_default-inside_of.ensures in
-    none_then c.unsized_front.result c.unsized_front.ensures.missed
-    (λ m rest k. absurd (leaf_differs _ _ _ _ c.in-Some-open.ensures.there other.other other.short (λ r d. m r d (c.in_default.ensures.missed r d)) rest k))
+    absurd (leaf_differs _ _ _ _ c.in-Some-open.ensures.there other.other other.short c.in_default.ensures.missed rest k)
 
 pub returns-then-canonical-clause-taken : goal.returns-then-canonical-clause-taken
 returns-then-canonical-clause-taken c =

@@ -1,13 +1,9 @@
 use Rattle.std.proofs.Common.{arith}
-use Rattle.spa_rewrite.proofs.Looks.{passes_more}
+use Rattle.spa_rewrite.proofs.Looks.{passes_more, passes_none}
 use Rattle.spa_rewrite.proofs.look.behind_alike.Goals as goal
 
 pub loop-rest-init : goal.loop-rest-init
-loop-rest-init c = c.behind_sized-left.ensures
+loop-rest-init c = passes_none _ _ _ (λ i. omega (arith, c.type_inv.pods i))
 
 pub loop-rest-preserved : goal.loop-rest-preserved
-loop-rest-preserved c =
-    passes_more _ _ _ _ _ 0 0 (passes_more _ _ _ _ _ 0 0 c.loop-rest.invariant c.in-Some.ensures.passed) c.behind_sized-left-in-Some.ensures
-
-pub loop-rest-smaller : goal.loop-rest-smaller
-loop-rest-smaller c = omega (arith, c.in-Some.ensures.shorter, c.behind_sized-left-in-Some.ensures.room)
+loop-rest-preserved c = passes_more _ _ _ _ _ 0 0 c.loop-rest.invariant c.in-Some.ensures.passed

@@ -1,7 +1,7 @@
 use Rattle.std.proofs.Common.{sym, subst}
 use Rattle.spa_scan.specs.Canonical.{BeginsCanonical}
 use Rattle.spa_scan.proofs.Depths.{not_both}
-use Rattle.spa_scan.proofs.front.sized_front.Goals as goal
+use Rattle.spa_scan.proofs.front.fixed_front.Goals as goal
 
 pub returns-clause-taken : goal.returns-clause-taken
 returns-clause-taken c =

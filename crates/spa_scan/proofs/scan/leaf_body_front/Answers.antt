@@ -7,7 +7,7 @@ use Rattle.spa_scan.proofs.Depths.{not_both}
 use Rattle.spa_scan.proofs.Frames.{canonical_front, rest_shorter}
 use Rattle.spa_scan.proofs.Made.{made_body}
 use Rattle.spa_scan.proofs.Missed.{made_zeros}
-use Rattle.spa_scan.proofs.scan.unsized_front.Goals as goal
+use Rattle.spa_scan.proofs.scan.leaf_body_front.Goals as goal
 
 pub returns-then-is_padded_body-clause-taken : goal.returns-then-is_padded_body-clause-taken
 returns-then-is_padded_body-clause-taken c =

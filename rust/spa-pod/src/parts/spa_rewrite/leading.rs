@@ -4,7 +4,7 @@ use crate::shims::prelude::*;
 use crate::parts::spa_rewrite::inside::{Inside, inside_of};
 use crate::parts::spa_rewrite::look::{FEW, Found, look_into};
 use crate::parts::spa_bytes::open;
-use crate::parts::spa_scan::{sized_front, unsized_front};
+use crate::parts::spa_scan::leaf_front;
 
 /// What follows the pod at the front, where a look finds that it is canonical: its padding is zeros, its truth values are 0 or 1, its choices hold
 /// no surplus values, its pointers take 16 bytes, and the same holds of its members. It takes no memory.
@@ -41,14 +41,14 @@ pub(crate) fn canonical_pods<'a>(input: &'a [u8], frames: &mut [Inside<'a>]) -> 
 /// What follows the pod at the front as `canonical_front` says it, with an array in which lists can wait.
 #[cfg_attr(not(debug_assertions), inline(always))]
 fn next_canonical<'a>(input: &'a [u8], frames: &mut [Inside<'a>]) -> Option<&'a [u8]> {
-    if let Some(rest) = sized_front(input) {
+    if let Some(rest) = leaf_front(input) {
         return Some(rest);
     }
     let Some(front) = open(input) else {
         return None;
     };
     let Some(inside) = inside_of(front.type_, front.body) else {
-        return unsized_front(input);
+        return None;
     };
     match look_into(true, inside.keyed, true, inside.pods, frames) {
         Found::Fits(canonical, _) => {

@@ -7,7 +7,7 @@ use crate::parts::spa_rewrite::surplus::{CHOICE_HEADER, leaf_surplus, short_fron
 use crate::parts::spa_bodies::VALUE_TYPE_AT;
 use crate::parts::spa_bytes::{HEADER_LEN, SECOND_WORD, open, u32_at};
 use crate::parts::spa_fixed_sized::{FLAGS_SHAPE, Refusal};
-use crate::parts::spa_scan::{LEVELS, fixed_len, leaf_front, nests_within, sized_front, unsized_front};
+use crate::parts::spa_scan::{LEVELS, fixed_len, leaf_front, nests_within};
 use crate::parts::spa_utils::SpaTypes;
 
 /// A pod that is accepted.
@@ -432,18 +432,8 @@ fn behind_canonical(keyed: bool, pods: &[u8]) -> &[u8] {
 /// What follows the first canonical pods that hold no others, with key and flags before each where `keyed` is set.
 #[cfg_attr(not(debug_assertions), inline(always))]
 fn behind_alike(keyed: bool, pods: &[u8]) -> &[u8] {
-    let mut left = behind_sized(keyed, pods);
-    while let Some(rest) = unsized_leaf(keyed, left) {
-        left = behind_sized(keyed, rest);
-    }
-    left
-}
-
-/// What follows the first canonical pods of fixed size, by a loop of its own: these are met most.
-#[cfg_attr(not(debug_assertions), inline(always))]
-fn behind_sized(keyed: bool, pods: &[u8]) -> &[u8] {
     let mut left = pods;
-    while let Some(rest) = sized_leaf(keyed, left) {
+    while let Some(rest) = canonical_leaf(keyed, left) {
         left = rest;
     }
     left
@@ -452,30 +442,17 @@ fn behind_sized(keyed: bool, pods: &[u8]) -> &[u8] {
 /// The length in bytes of a key, flags and a pod whose body is one or two words.
 const KEYED_LEN: usize = 24;
 
-/// What follows the first member or property, where its pod is canonical and of fixed size.
+/// What follows the first member or property, where its pod is canonical and holds no others.
 #[cfg_attr(not(debug_assertions), inline(always))]
-fn sized_leaf(keyed: bool, left: &[u8]) -> Option<&[u8]> {
-    // One test of the length for both.
+fn canonical_leaf(keyed: bool, left: &[u8]) -> Option<&[u8]> {
+    // One test of the length for both; what is shorter is looked at where the loop ends.
     if keyed && left.len() < KEYED_LEN {
         return None;
     }
     let Some(here) = behind_key(keyed, left) else {
         return None;
     };
-    sized_front(here)
-}
-
-/// What follows the first member or property, where its pod is canonical, not of fixed size, and holds no others.
-#[cfg_attr(not(debug_assertions), inline(always))]
-fn unsized_leaf(keyed: bool, left: &[u8]) -> Option<&[u8]> {
-    // What is shorter is looked at where the loop ends.
-    if keyed && left.len() < KEYED_LEN {
-        return None;
-    }
-    let Some(here) = behind_key(keyed, left) else {
-        return None;
-    };
-    unsized_front(here)
+    leaf_front(here)
 }
 
 /// What follows the first pods whose bodies are one or two words and of a kind of fixed size.

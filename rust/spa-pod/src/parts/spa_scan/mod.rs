@@ -6,7 +6,7 @@ mod nesting;
 mod scan;
 mod text;
 
-pub use front::{fixed_len, sized_front};
+pub use front::fixed_len;
 pub use nesting::nests_within;
-pub use scan::{LEVELS, leaf_front, leaf_members, leaf_properties, unsized_front};
+pub use scan::{LEVELS, leaf_front, leaf_members, leaf_properties};
 pub use text::is_text;

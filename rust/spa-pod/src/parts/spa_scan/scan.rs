@@ -2,7 +2,7 @@
 
 use crate::shims::prelude::*;
 use crate::parts::spa_scan::array::{is_array, is_choice};
-use crate::parts::spa_scan::front::{has_zeros, sized_front};
+use crate::parts::spa_scan::front::{fixed_front, has_zeros};
 use crate::parts::spa_scan::text::is_padded_text;
 use crate::parts::spa_bytes::{HEADER_LEN, POINTER_LEN, SECOND_WORD, open, u32_at};
 use crate::parts::spa_utils::SpaTypes;
@@ -13,15 +13,27 @@ pub const LEVELS: u32 = 1000;
 /// What follows the pod at the front, where that is canonical and neither a struct nor an object.
 #[cfg_attr(not(debug_assertions), inline(always))]
 pub fn leaf_front(input: &[u8]) -> Option<&[u8]> {
-    if let Some(rest) = sized_front(input) {
+    if let Some(rest) = fixed_front(input) {
         return Some(rest);
     }
-    unsized_front(input)
+    if input.len() < HEADER_LEN {
+        return None;
+    }
+    if !is_looked_into(u32_at(input, SECOND_WORD)) {
+        return None;
+    }
+    leaf_body_front(input)
+}
+
+/// Whether pods of this type hold no others.
+#[cfg_attr(not(debug_assertions), inline(always))]
+fn is_looked_into(type_: u32) -> bool {
+    type_ != SpaTypes::Struct.0 && type_ != SpaTypes::Object.0
 }
 
 /// What follows the pod at the front, where that is canonical, not of fixed size, and neither a struct nor an object.
 #[cfg_attr(not(debug_assertions), inline(always))]
-pub fn unsized_front(input: &[u8]) -> Option<&[u8]> {
+fn leaf_body_front(input: &[u8]) -> Option<&[u8]> {
     let Some(front) = open(input) else {
         return None;
     };
@@ -79,8 +91,6 @@ fn is_other_body(type_: u32, body: &[u8]) -> bool {
     match SpaTypes(type_) {
         SpaTypes::Choice => is_choice(body),
         SpaTypes::Array => is_array(body),
-        SpaTypes::Struct => false,
-        SpaTypes::Object => false,
         _ => is_rare_body(type_, body),
     }
 }

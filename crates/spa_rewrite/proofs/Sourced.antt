@@ -83,6 +83,21 @@ pod_places keyed pods left here body rest from pod_at next type l e k o a b =
       many = omega arith;
     }
 
+-- its key is written no further behind than it is read
+pub record KeyIsBefore (at pod_at len : ℕ) : Type 0 where
+  pub low : at ≤ pod_at
+  pub within : pod_at + 8 ≤ len
+
+pub key_before : (all keyed : Bool) (pods old now_pods now here rest : List ℕ) (from to at pod_at next : ℕ) →
+    SourcesOn all keyed pods old now_pods now from to → HasPlaces keyed now_pods here rest from pod_at next → at ≡ to + key_size keyed →
+    KeyIsBefore at pod_at (length now_pods)
+key_before all keyed pods old now_pods now here rest from to at pod_at next p h e =
+    let before = written_before all keyed pods old now_pods now from to p in
+    let here_at = h.at in
+    let order = h.order in
+    let within = h.within in
+    record { low = omega arith; within = omega arith }
+
 -- the pod that is written, once its key is
 pub record IsPart (part here rest : List ℕ) (type size : ℕ) : Type 0 where
   pub is : part ≡ take (length here - length rest) here

@@ -7,7 +7,7 @@ use Rattle.spa_format.proofs.Encodings.{two_words_length}
 use Rattle.spa_format.proofs.WordLemmas.{IsBytes-drop}
 use Rattle.spa_rewrite.proofs.Patches.{length_put}
 use Rattle.spa_rewrite.proofs.Runs.{sources_run}
-use Rattle.spa_rewrite.proofs.Sourced.{behind_written, inside_is, part_of, pod_places, sources_all, sources_more, written_before}
+use Rattle.spa_rewrite.proofs.Sourced.{behind_written, inside_is, key_before, part_of, pod_places, sources_all, sources_more, written_before}
 use Rattle.spa_rewrite.proofs.Written.{inner_room, inner_written, no_front, no_key}
 use Rattle.spa_rewrite.proofs.write.+writing.Goals as goal
 
@@ -44,7 +44,6 @@ write_pods-part-pod-requires-clause-within g t c =
     let now = c.loop-run.out in
     let from = c.loop-run.from in
     let now_pods = g.S.Source.pods source now in
-    let pods = g.S.Source.pods source c.args.out.now in
     let r = c.read-pods.result.now in
     let re = c.read-pods.ensures in
     let here = c.in-Some-behind_key.here.now in
@@ -54,15 +53,13 @@ write_pods-part-pod-requires-clause-within g t c =
     let left_is = take_rest r from ∙ ap (drop from) re in
     let h = pod_places c.args.keyed now_pods _ here _ rest from pod_at next _ inv.within left_is c.in-Some-behind_key.ensures.there c.in-Some-open.ensures.there
     (ap (λ x. length x - length here) re) (ap (λ x. length x - length rest) re) in
-    let order = h.order in
     let within = h.within in
-    let here_at = h.at in
     let at = c.put_key-to.result in
     let keyed_out = c.put_key-to.new.out in
-    let put_at = c.put_key-to.ensures.at in
-    let before = written_before _ _ _ _ _ _ _ _ inv in
     let fits_now = subst (g.S.Source.fits source) (sym inv.on.long) c.requires.fits in
-    let low : at ≤ pod_at = omega arith in
+    let key = key_before _ _ _ _ _ _ _ _ from c.loop-run.to at pod_at next inv h c.put_key-to.ensures.at in
+    let low = key.low in
+    let key_room = key.within in
     let key_kept = g.met.S.Source.kept source now keyed_out at fits_now (omega arith) c.put_key-to.auto.out c.put_key-to.ensures.behind in
     let long = key_kept.long in
     omega arith
@@ -84,15 +81,13 @@ write_pods-write_pod-to-requires g t c = λ κs le.
     let left_is = take_rest r from ∙ ap (drop from) re in
     let h = pod_places c.args.keyed now_pods _ here _ rest from pod_at next _ inv.within left_is c.in-Some-behind_key.ensures.there c.in-Some-open.ensures.there
     (ap (λ x. length x - length here) re) (ap (λ x. length x - length rest) re) in
-    let order = h.order in
     let within = h.within in
-    let here_at = h.at in
     let at = c.put_key-to.result in
     let keyed_out = c.put_key-to.new.out in
-    let put_at = c.put_key-to.ensures.at in
-    let before = written_before _ _ _ _ _ _ _ _ inv in
     let fits_now = subst (g.S.Source.fits source) (sym inv.on.long) c.requires.fits in
-    let low : at ≤ pod_at = omega arith in
+    let key = key_before _ _ _ _ _ _ _ _ from c.loop-run.to at pod_at next inv h c.put_key-to.ensures.at in
+    let low = key.low in
+    let key_room = key.within in
     let key_kept = g.met.S.Source.kept source now keyed_out at fits_now (omega arith) c.put_key-to.auto.out c.put_key-to.ensures.behind in
     let sub_is = take_rest keyed_out at in
     let sub_long = ap length sub_is ∙ length-drop at keyed_out in
@@ -155,18 +150,16 @@ write_pods-loop-run-preserved g t c =
     let opens = c.in-Some-open.ensures.there in
     let h = pod_places c.args.keyed now_pods _ here _ rest from pod_at next _ inv.within left_is there opens
     (ap (λ x. length x - length here) re) (ap (λ x. length x - length rest) re) in
-    let order = h.order in
     let within = h.within in
-    let here_at = h.at in
     let at = c.put_key-to.result in
     let keyed_out = c.put_key-to.new.out in
     let put = c.put_key-to.ensures in
     let same = c.put_key-to.auto.out in
-    let put_at = put.at in
-    let before = written_before _ _ _ _ _ _ _ _ inv in
     let fits_now = subst (g.S.Source.fits source) (sym inv.on.long) c.requires.fits in
     let room = g.met.S.Source.room source now fits_now in
-    let low : at ≤ pod_at = omega arith in
+    let key = key_before _ _ _ _ _ _ _ _ from c.loop-run.to at pod_at next inv h put.at in
+    let low = key.low in
+    let key_room = key.within in
     let key_kept = g.met.S.Source.kept source now keyed_out at fits_now (omega arith) same put.behind in
     let sub_is = take_rest keyed_out at in
     let part = c.part-pod.result in

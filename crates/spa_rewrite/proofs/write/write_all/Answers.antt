@@ -1,11 +1,11 @@
-use Rattle.std.proofs.Common.{◌≤◌, ◌+◌, ◌-◌, ◌∙◌, ap, arith, drop, length, length-drop, refl, subst, sym, take}
+use Rattle.std.proofs.Common.{◌+◌, ◌-◌, ◌∙◌, ap, arith, drop, length, length-drop, refl, subst, sym, take}
 use Rattle.std.proofs.lemmas.List.{length-take-le, take_rest}
 use borrow.Rule.Slice.PartMut.{put_mid}
 use Rattle.spa_rewrite.specs.Inside.{key_size}
 use Rattle.spa_rewrite.proofs.Chains.{ChainsOn, chains_more, enters, last_inside}
 use Rattle.spa_rewrite.proofs.Patches.{length_put}
 use Rattle.spa_rewrite.proofs.Runs.{chains_run}
-use Rattle.spa_rewrite.proofs.Sourced.{behind_written, part_of, pod_places, sources_all, written_before}
+use Rattle.spa_rewrite.proofs.Sourced.{behind_written, key_before, part_of, pod_places, sources_all, written_before}
 use Rattle.spa_rewrite.proofs.Written.{further_behind, no_front, no_key}
 use Rattle.spa_rewrite.proofs.write.write_all.Goals as goal
 
@@ -52,15 +52,14 @@ place_behind-from-requires g c =
     let left_is = take_rest r from ∙ ap (drop from) re in
     let h = pod_places c.loop-run.keyed now_pods _ here _ rest from pod_at next _ inv.within left_is c.in-Some-behind_key.ensures.there c.in-Some-open.ensures.there
     (ap (λ x. length x - length here) re) (ap (λ x. length x - length rest) re) in
-    let order = h.order in
     let within = h.within in
-    let here_at = h.at in
     let at = c.put_key-to.result in
     let keyed_out = c.put_key-to.new.out in
     let put_at = c.put_key-to.ensures.at in
-    let before = written_before _ _ _ _ _ _ _ _ inv in
     let fits_now = subst (g.S.Source.fits source) (sym inv.on.long) c.requires.fits in
-    let low : at ≤ pod_at = omega arith in
+    let key = key_before _ _ _ _ _ _ _ _ from c.loop-run.to at pod_at next inv h put_at in
+    let low = key.low in
+    let key_room = key.within in
     let key_kept = g.met.S.Source.kept source now keyed_out at fits_now (omega arith) c.put_key-to.auto.out c.put_key-to.ensures.behind in
     let i = last_inside c.loop-run.keyed c.in-Some-last_whole.inner pods c.args.out.now now_pods now _ here _ rest from c.loop-run.to at pod_at (length c.read.result.now - c.args.surplus) _ _ c.loop-run.invariant left_is
     c.in-Some-behind_key.ensures.there c.in-Some-open.ensures.there refl c.in-Some-last_whole.ensures.0 c.in-Some-last_whole.ensures.1
@@ -87,15 +86,14 @@ put_header-to-requires-clause-room g c =
     let left_is = take_rest r from ∙ ap (drop from) re in
     let h = pod_places c.loop-run.keyed now_pods _ here _ rest from pod_at next _ inv.within left_is c.in-Some-behind_key.ensures.there c.in-Some-open.ensures.there
     (ap (λ x. length x - length here) re) (ap (λ x. length x - length rest) re) in
-    let order = h.order in
     let within = h.within in
-    let here_at = h.at in
     let at = c.put_key-to.result in
     let keyed_out = c.put_key-to.new.out in
     let put_at = c.put_key-to.ensures.at in
-    let before = written_before _ _ _ _ _ _ _ _ inv in
     let fits_now = subst (g.S.Source.fits source) (sym inv.on.long) c.requires.fits in
-    let low : at ≤ pod_at = omega arith in
+    let key = key_before _ _ _ _ _ _ _ _ from c.loop-run.to at pod_at next inv h put_at in
+    let low = key.low in
+    let key_room = key.within in
     let key_kept = g.met.S.Source.kept source now keyed_out at fits_now (omega arith) c.put_key-to.auto.out c.put_key-to.ensures.behind in
     let i = last_inside c.loop-run.keyed c.in-Some-last_whole.inner pods c.args.out.now now_pods now _ here _ rest from c.loop-run.to at pod_at (length c.read.result.now - c.args.surplus) _ _ c.loop-run.invariant left_is
     c.in-Some-behind_key.ensures.there c.in-Some-open.ensures.there refl c.in-Some-last_whole.ensures.0 c.in-Some-last_whole.ensures.1
@@ -134,15 +132,14 @@ loop-run-smaller-in-Some-last_whole g c =
     let left_is = take_rest r from ∙ ap (drop from) re in
     let h = pod_places c.loop-run.keyed now_pods _ here _ rest from pod_at next _ inv.within left_is c.in-Some-behind_key.ensures.there c.in-Some-open.ensures.there
     (ap (λ x. length x - length here) re) (ap (λ x. length x - length rest) re) in
-    let order = h.order in
     let within = h.within in
-    let here_at = h.at in
     let at = c.put_key-to.result in
     let keyed_out = c.put_key-to.new.out in
     let put_at = c.put_key-to.ensures.at in
-    let before = written_before _ _ _ _ _ _ _ _ inv in
     let fits_now = subst (g.S.Source.fits source) (sym inv.on.long) c.requires.fits in
-    let low : at ≤ pod_at = omega arith in
+    let key = key_before _ _ _ _ _ _ _ _ from c.loop-run.to at pod_at next inv h put_at in
+    let low = key.low in
+    let key_room = key.within in
     let key_kept = g.met.S.Source.kept source now keyed_out at fits_now (omega arith) c.put_key-to.auto.out c.put_key-to.ensures.behind in
     let i = last_inside c.loop-run.keyed c.in-Some-last_whole.inner pods c.args.out.now now_pods now _ here _ rest from c.loop-run.to at pod_at (length c.read.result.now - c.args.surplus) _ _ c.loop-run.invariant left_is
     c.in-Some-behind_key.ensures.there c.in-Some-open.ensures.there refl c.in-Some-last_whole.ensures.0 c.in-Some-last_whole.ensures.1
@@ -172,15 +169,14 @@ loop-run-preserved-in-Some-last_whole g c =
     let left_is = take_rest r from ∙ ap (drop from) re in
     let h = pod_places c.loop-run.keyed now_pods _ here _ rest from pod_at next _ inv.within left_is c.in-Some-behind_key.ensures.there c.in-Some-open.ensures.there
     (ap (λ x. length x - length here) re) (ap (λ x. length x - length rest) re) in
-    let order = h.order in
     let within = h.within in
-    let here_at = h.at in
     let at = c.put_key-to.result in
     let keyed_out = c.put_key-to.new.out in
     let put_at = c.put_key-to.ensures.at in
-    let before = written_before _ _ _ _ _ _ _ _ inv in
     let fits_now = subst (g.S.Source.fits source) (sym inv.on.long) c.requires.fits in
-    let low : at ≤ pod_at = omega arith in
+    let key = key_before _ _ _ _ _ _ _ _ from c.loop-run.to at pod_at next inv h put_at in
+    let low = key.low in
+    let key_room = key.within in
     let key_kept = g.met.S.Source.kept source now keyed_out at fits_now (omega arith) c.put_key-to.auto.out c.put_key-to.ensures.behind in
     let i = last_inside c.loop-run.keyed c.in-Some-last_whole.inner pods c.args.out.now now_pods now _ here _ rest from c.loop-run.to at pod_at (length c.read.result.now - c.args.surplus) _ _ c.loop-run.invariant left_is
     c.in-Some-behind_key.ensures.there c.in-Some-open.ensures.there refl c.in-Some-last_whole.ensures.0 c.in-Some-last_whole.ensures.1
@@ -207,7 +203,6 @@ part-pod-requires-clause-within g c =
     let now = c.loop-run.out in
     let from = c.loop-run.from in
     let now_pods = g.S.Source.pods source now in
-    let pods = g.S.Source.pods source c.args.out.now in
     let r = c.read-pods.result.now in
     let re = c.read-pods.ensures in
     let here = c.in-Some-behind_key.here.now in
@@ -217,15 +212,13 @@ part-pod-requires-clause-within g c =
     let left_is = take_rest r from ∙ ap (drop from) re in
     let h = pod_places c.loop-run.keyed now_pods _ here _ rest from pod_at next _ inv.within left_is c.in-Some-behind_key.ensures.there c.in-Some-open.ensures.there
     (ap (λ x. length x - length here) re) (ap (λ x. length x - length rest) re) in
-    let order = h.order in
     let within = h.within in
-    let here_at = h.at in
     let at = c.put_key-to.result in
     let keyed_out = c.put_key-to.new.out in
-    let put_at = c.put_key-to.ensures.at in
-    let before = written_before _ _ _ _ _ _ _ _ inv in
     let fits_now = subst (g.S.Source.fits source) (sym inv.on.long) c.requires.fits in
-    let low : at ≤ pod_at = omega arith in
+    let key = key_before _ _ _ _ _ _ _ _ from c.loop-run.to at pod_at next inv h c.put_key-to.ensures.at in
+    let low = key.low in
+    let key_room = key.within in
     let key_kept = g.met.S.Source.kept source now keyed_out at fits_now (omega arith) c.put_key-to.auto.out c.put_key-to.ensures.behind in
     let long = key_kept.long in
     omega arith
@@ -237,7 +230,6 @@ write_pod-to-requires-clause-bytes g c =
     let now = c.loop-run.out in
     let from = c.loop-run.from in
     let now_pods = g.S.Source.pods source now in
-    let pods = g.S.Source.pods source c.args.out.now in
     let r = c.read-pods.result.now in
     let re = c.read-pods.ensures in
     let here = c.in-Some-behind_key.here.now in
@@ -247,18 +239,14 @@ write_pod-to-requires-clause-bytes g c =
     let left_is = take_rest r from ∙ ap (drop from) re in
     let h = pod_places c.loop-run.keyed now_pods _ here _ rest from pod_at next _ inv.within left_is c.in-Some-behind_key.ensures.there c.in-Some-open.ensures.there
     (ap (λ x. length x - length here) re) (ap (λ x. length x - length rest) re) in
-    let order = h.order in
-    let within = h.within in
-    let here_at = h.at in
     let at = c.put_key-to.result in
     let keyed_out = c.put_key-to.new.out in
-    let put_at = c.put_key-to.ensures.at in
-    let before = written_before _ _ _ _ _ _ _ _ inv in
     let fits_now = subst (g.S.Source.fits source) (sym inv.on.long) c.requires.fits in
-    let low : at ≤ pod_at = omega arith in
+    let put = key_before _ _ _ _ _ _ _ _ from c.loop-run.to at pod_at next inv h c.put_key-to.ensures.at in
+    let low = put.low in
+    let room = put.within in
     let key_kept = g.met.S.Source.kept source now keyed_out at fits_now (omega arith) c.put_key-to.auto.out c.put_key-to.ensures.behind in
     let sub_is = take_rest keyed_out at in
-    let sub_long = ap length sub_is ∙ length-drop at keyed_out in
     let part = c.part-pod.result in
     let sub_old = take (length keyed_out - at) (drop at keyed_out) in
     let m = part_of c.loop-run.keyed now_pods _ (g.S.Source.pods part sub_old) here _ rest from pod_at next at _ _ h c.in-Some-open.ensures.there refl low key_kept
@@ -272,7 +260,6 @@ write_pod-to-requires-clause-pod g c =
     let now = c.loop-run.out in
     let from = c.loop-run.from in
     let now_pods = g.S.Source.pods source now in
-    let pods = g.S.Source.pods source c.args.out.now in
     let r = c.read-pods.result.now in
     let re = c.read-pods.ensures in
     let here = c.in-Some-behind_key.here.now in
@@ -282,18 +269,14 @@ write_pod-to-requires-clause-pod g c =
     let left_is = take_rest r from ∙ ap (drop from) re in
     let h = pod_places c.loop-run.keyed now_pods _ here _ rest from pod_at next _ inv.within left_is c.in-Some-behind_key.ensures.there c.in-Some-open.ensures.there
     (ap (λ x. length x - length here) re) (ap (λ x. length x - length rest) re) in
-    let order = h.order in
-    let within = h.within in
-    let here_at = h.at in
     let at = c.put_key-to.result in
     let keyed_out = c.put_key-to.new.out in
-    let put_at = c.put_key-to.ensures.at in
-    let before = written_before _ _ _ _ _ _ _ _ inv in
     let fits_now = subst (g.S.Source.fits source) (sym inv.on.long) c.requires.fits in
-    let low : at ≤ pod_at = omega arith in
+    let put = key_before _ _ _ _ _ _ _ _ from c.loop-run.to at pod_at next inv h c.put_key-to.ensures.at in
+    let low = put.low in
+    let room = put.within in
     let key_kept = g.met.S.Source.kept source now keyed_out at fits_now (omega arith) c.put_key-to.auto.out c.put_key-to.ensures.behind in
     let sub_is = take_rest keyed_out at in
-    let sub_long = ap length sub_is ∙ length-drop at keyed_out in
     let part = c.part-pod.result in
     let sub_old = take (length keyed_out - at) (drop at keyed_out) in
     let m = part_of c.loop-run.keyed now_pods _ (g.S.Source.pods part sub_old) here _ rest from pod_at next at _ _ h c.in-Some-open.ensures.there refl low key_kept
@@ -348,18 +331,16 @@ loop-run-preserved g c =
     let opens = c.in-Some-open.ensures.there in
     let h = pod_places c.loop-run.keyed now_pods _ here _ rest from pod_at next _ inv.within left_is there opens
     (ap (λ x. length x - length here) re) (ap (λ x. length x - length rest) re) in
-    let order = h.order in
     let within = h.within in
-    let here_at = h.at in
     let at = c.put_key-to.result in
     let keyed_out = c.put_key-to.new.out in
     let put = c.put_key-to.ensures in
     let same = c.put_key-to.auto.out in
-    let put_at = put.at in
-    let before = written_before _ _ _ _ _ _ _ _ inv in
     let fits_now = subst (g.S.Source.fits source) (sym inv.on.long) c.requires.fits in
     let room = g.met.S.Source.room source now fits_now in
-    let low : at ≤ pod_at = omega arith in
+    let key = key_before _ _ _ _ _ _ _ _ from c.loop-run.to at pod_at next inv h put.at in
+    let low = key.low in
+    let key_room = key.within in
     let key_kept = g.met.S.Source.kept source now keyed_out at fits_now (omega arith) same put.behind in
     let sub_is = take_rest keyed_out at in
     let part = c.part-pod.result in

@@ -1,9 +1,9 @@
 -- Bytes in hex, one behind another.
-use Rattle.std.proofs.Common.{◌≡◌, ◌≤◌, ◌<◌, ℕ, suc, ◌+◌, ◌-◌, ◌/◌, ◌%◌, List, [], ◌∷◌, ◌++◌, refl, sym, arith, take, drop, length, slice_index, ◌∙◌, ap, length-drop, append_assoc, append-nil}
+use Rattle.std.proofs.Common.{◌≡◌, ◌≤◌, ◌<◌, ℕ, suc, ◌+◌, ◌/◌, ◌%◌, List, [], ◌∷◌, ◌++◌, refl, sym, arith, take, drop, length, slice_index, ◌∙◌, ap, length-drop, append_assoc, append-nil}
 use Rattle.std.proofs.lemmas.List.{nil_from_length, take_all}
 use Rattle.hex.specs.Hex.{encode_lower, encode_with, lower_digits}
 use Rattle.spa_text_commands.specs.Dump.{hex_lines, place_text, row_line, rows, spaced}
-use Rattle.spa_text_commands.specs.Lines.{Adds, AreLines}
+use Rattle.spa_text_commands.specs.Lines.{Adds}
 
 one_byte : (b : ℕ) (bs : List ℕ) → encode_lower (b ∷ bs) ≡ encode_lower (b ∷ []) ++ encode_lower bs
 unfolding encode_with

@@ -1,7 +1,7 @@
 -- What is added, line by line and pod by pod.
 use Rattle.std.specs.Io.KnownBytes.{Appends, Keeps}
 use Rattle.std.proofs.Common.{◌≡◌, ◌≤◌, ◌<◌, ℕ, ◌+◌, ◌-◌, ◌^◌, List, [], ◌∷◌, ◌++◌, Option, Some, None, refl, sym, inl, inr, arith, take, length, ◌∙◌, ap, subst, length-drop, append_assoc, append-nil}
-use Rattle.std.specs.Prelude.{◌⊎◌, Result, Ok, Err, OnOk}
+use Rattle.std.specs.Prelude.{Result, Ok, Err, OnOk}
 use Rattle.std.proofs.lemmas.List.{length-take-le, take_all}
 use Rattle.spa_format.specs.Words.{extent, word_at}
 use Rattle.spa_format.specs.Front.{HasFront, front_of, rest_of}

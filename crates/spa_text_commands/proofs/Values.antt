@@ -1,5 +1,5 @@
 -- The values of an object's properties, and pods that are selected.
-use Rattle.std.proofs.Common.{◌≡◌, ◌≢◌, ◌≤◌, ◌<◌, ℕ, zero, suc, ◌+◌, ◌-◌, ◌^◌, List, [], ◌∷◌, ◌++◌, refl, sym, inl, inr, arith, take, drop, length, ◌∙◌, ap, subst, length-drop, append_assoc, append-nil, Bool, true, false, ◌&&◌, eq-eqb, true≢false}
+use Rattle.std.proofs.Common.{◌≡◌, ◌≢◌, ◌≤◌, ◌<◌, ℕ, zero, suc, ◌+◌, ◌^◌, List, [], ◌∷◌, ◌++◌, refl, sym, inl, inr, arith, drop, length, ◌∙◌, ap, subst, length-drop, append_assoc, append-nil, Bool, true, false, ◌&&◌, eq-eqb, true≢false}
 use Rattle.std.specs.Prelude.{Result, Ok, Err, IfOk, IfNone, IfSome, OnOk, if◌then◌else◌, nat_eq, nat_le, Option, None, Some, is_some}
 use Rattle.std.specs.Borrow.{Bor}
 use Rattle.std.proofs.lemmas.Bool.{cases_lt, le-leb}

@@ -1,10 +1,9 @@
 -- What is printed and shown of pods that come in two parts.
-use Rattle.std.proofs.Common.{◌≡◌, ◌∙◌, ◌+◌, ◌≤◌, ℕ, List, [], ◌∷◌, ◌++◌, append_assoc, ap, arith, inl, inr, length, length-append, length-drop, refl, subst, sym, take, drop}
+use Rattle.std.proofs.Common.{◌≡◌, ◌∙◌, ◌+◌, ℕ, List, [], ◌∷◌, ◌++◌, append_assoc, ap, arith, inl, inr, length, length-append, length-drop, refl, subst, sym, take, drop}
 use Rattle.std.proofs.lemmas.Bool.{cases_lt}
 use Rattle.std.proofs.lemmas.List.{drop-append-le, length-take-le, nil_from_length, take-append-le}
 use Rattle.spa_format.specs.Fixation.{walk_size}
 use Rattle.spa_format.specs.Front.{HasFront, front_of, rest_of}
-use Rattle.spa_format.specs.Pod.{AreMembers}
 use Rattle.spa_format.specs.Tree.{Trees, no_trees, member, join_members}
 use Rattle.spa_format.specs.Walk.{walk}
 use Rattle.spa_format.specs.Words.{extent, word_at}

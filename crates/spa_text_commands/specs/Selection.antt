@@ -1,5 +1,5 @@
 -- Which pods of an input are printed, and which values of them: docs/TEXT.md, "A part of an input".
-use Rattle.std.specs.Prelude.{◌≡◌, ◌+◌, ◌-◌, ◌==◌, ◌&&◌, ◌||◌, ℕ, Bool, true, false, List, [], ◌∷◌, ◌++◌, Option, None, Some, length, drop, slice_index, if◌then◌else◌, nat_eq, nat_le}
+use Rattle.std.specs.Prelude.{◌+◌, ◌-◌, ◌==◌, ◌&&◌, ◌||◌, ℕ, Bool, true, false, List, [], ◌∷◌, ◌++◌, Option, None, Some, length, drop, slice_index, if◌then◌else◌, nat_eq, nat_le}
 use Rattle.std.specs.Borrow.{Bor}
 use Rattle.std.specs.Fmt.{decimal}
 use Rattle.std.specs.List.{ends_with}
@@ -10,7 +10,6 @@ use Rattle.spa_format.specs.Walk.{properties_of, property_walk}
 use Rattle.spa_format.specs.Words.{body_of, header_size, word_at}
 use Rattle.spa_names.specs.Lookup.{keys_of, path_of}
 use Rattle.spa_names.specs.declared.table.Table.{Table}
-use Rattle.spa_utils.specs.declared.types.SpaTypes.{SpaTypes}
 use Rattle.spa_text_commands.specs.declared.selection.Selection.{Selection}
 
 -- the N-th top-level pod is selected by N, and each one without a number; so many stand before it

@@ -1,4 +1,4 @@
-use Rattle.std.proofs.Common.{ap, refl, slice_index}
+use Rattle.std.proofs.Common.{ap, slice_index}
 use Rattle.hex.specs.Hex.{lower_digits}
 use Rattle.spa_text_commands.proofs.Dumped.{digits_pushed}
 use Rattle.spa_text_commands.proofs.dump.add_digits.Goals as goal

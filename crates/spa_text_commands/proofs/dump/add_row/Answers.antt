@@ -1,4 +1,3 @@
-use Rattle.std.proofs.Common.{rules}
 use Rattle.spa_text_commands.proofs.Dumped.{row_pushed}
 use Rattle.spa_text_commands.proofs.dump.add_row.Goals as goal
 

@@ -1,4 +1,4 @@
-use Rattle.std.proofs.Common.{◌≡◌, ◌≤◌, ◌+◌, ◌++◌, length}
+use Rattle.std.proofs.Common.{◌≡◌, ◌+◌, ◌++◌, length}
 use Rattle.spa_text_commands.specs.Dump.{hex_lines}
 use Rattle.spa_text_commands.proofs.dump.add_rows.Given as goal
 

@@ -1,4 +1,3 @@
-use Rattle.std.proofs.Common.{◌≡◌}
 use Rattle.spa_view.specs.View.{object_bytes, props_left}
 use Rattle.spa_text_commands.specs.Selection.{values_of}
 use Rattle.spa_text_commands.proofs.Values.{ValuesSoFar}

@@ -1,4 +1,4 @@
-use Rattle.std.proofs.Common.{refl, sym, ap, ◌∙◌, arith}
+use Rattle.std.proofs.Common.{sym, ap, ◌∙◌, arith}
 use lib.Count.{count_trailing_zeros}
 use Rattle.json.specs.Run.{is_stop, is_plain}
 use Rattle.spa_text_commands.proofs.Lanes.{run_bound, run_through, run_stops}

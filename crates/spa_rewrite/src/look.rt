@@ -1,6 +1,6 @@
 //! One look at pods: whether they are accepted, whether they are canonical, and how long their encodings are. It writes nothing, takes no
 //! memory and calls itself nowhere: what is left of the structs and objects around a pod waits in an array of fixed size.
-ghost use Rattle.std.specs.Prelude.{◌≡◌, ◌≢◌, ◌+◌, ◌<◌, ◌≤◌, ◌⊎◌, IfErr, IfOk, IfSome, List, length, true, false, ℕ};
+ghost use Rattle.std.specs.Prelude.{◌≡◌, ◌≢◌, ◌+◌, ◌<◌, ◌≤◌, ◌⊎◌, IfErr, IfNone, IfOk, IfSome, List, length, true, false, ℕ};
 ghost use Rattle.spa_format.specs.Faults.{StandsAtFront};
 ghost use Rattle.spa_format.specs.Front.{Begins, IsRefused, rest_of};
 ghost use Rattle.spa_format.specs.Opened.{OpensHeaderAlone};
@@ -11,7 +11,7 @@ ghost use Rattle.spa_bodies.specs.Refusing.{Says, StandsInBody};
 ghost use Rattle.spa_rewrite.specs.Look.{AreAccepted, AreChanged, IsAccepted, IsAcceptedAsked, IsFound, IsMet, IsRejected, Passes};
 ghost use Rattle.spa_rewrite.specs.Memory.{AreUnwritten};
 ghost use Rattle.spa_rewrite.specs.Rewriting.{IsLeft};
-ghost use Rattle.spa_rewrite.specs.Shorter.{ArePodsWithin, AreShorter, BeginsShorter};
+ghost use Rattle.spa_rewrite.specs.Shorter.{ArePodsWithin, AreShorter, BeginsShorter, IsShorterBody};
 ghost use Rattle.spa_rewrite.specs.Inside.{IsInside};
 ghost use Rattle.spa_scan.specs.Canonical.{BeginsCanonical};
 ghost use Rattle.spa_scan.specs.Depth.{depth_of, levels_looked_into};
@@ -446,10 +446,19 @@ fn meet(keyed: bool, canonical: bool, left: &[u8]) -> Met<'_>
     if let Some(inner) = inside_of(front.type_, front.body) {
         return Met::Inner(inner, front.rest);
     }
-    match leaf_surplus(front.type_, front.body) {
+    match rare_surplus(front.type_, front.body) {
         Some(surplus) => Met::Leaves(front.rest, stays_canonical(canonical, here), surplus),
         None => Met::Fault(here),
     }
+}
+
+/// Does what `leaf_surplus` does, by a call: where it is asked, a struct or an object is met most often.
+#[inline(never)]
+fn rare_surplus(type_: u32, body: &[u8]) -> Option<usize>
+    ensures there { IfSome result (λ surplus. IsShorterBody type_ body.now surplus) }
+    ensures missed { IfNone result ((v : Tree) → type_of v ≡ type_ → depth_of v ≡ 0 → ¬ (IsBody v body.now)) }
+{
+    leaf_surplus(type_, body)
 }
 
 /// What follows the first accepted pods that hold no others, and by how many bytes their encodings are shorter: of canonical ones where `canonical` is

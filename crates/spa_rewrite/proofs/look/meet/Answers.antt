@@ -12,12 +12,12 @@ returns-in_default c =
 pub returns-in_default-open : goal.returns-in_default-open
 returns-in_default-open c = stops_first _ _ _ (λ i. omega (arith, c.type_inv.left i)) c.in-Some.ensures.there c.requires (short_there _ c.in_default-open.ensures.short)
 
-pub returns-in-Some-leaf_surplus : goal.returns-in-Some-leaf_surplus
-returns-in-Some-leaf_surplus c =
+pub returns-in-Some-rare_surplus : goal.returns-in-Some-rare_surplus
+returns-in-Some-rare_surplus c =
     let bytes : IsBytes c.args.left.now = λ i. omega (arith, c.type_inv.left i) in
     let other = c.in_default-inside_of.ensures in
     let stays = c.stays_canonical.ensures in
-    meets_leaf _ _ _ _ _ _ _ _ _ bytes c.in-Some.ensures.there c.in-Some-open.ensures.there other.other other.short c.in-Some-leaf_surplus.ensures.there
+    meets_leaf _ _ _ _ _ _ _ _ _ bytes c.in-Some.ensures.there c.in-Some-open.ensures.there other.other other.short c.in-Some-rare_surplus.ensures.there
     stays.so_far stays.own stays.differs
 
 pub returns-in-None : goal.returns-in-None

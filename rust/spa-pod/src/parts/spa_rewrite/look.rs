@@ -1,7 +1,10 @@
 //! One look at pods: whether they are accepted, whether they are canonical, and how long their encodings are. It writes nothing, takes no
 //! memory and calls itself nowhere: what is left of the structs and objects around a pod waits in an array of fixed size.
-
 use crate::shims::prelude::*;
+<<<<<<< HEAD
+=======
+>>>>>>> a8446a4d (The surplus of a pod that holds no others is asked by a call where lists are looked at)
+
 use crate::parts::spa_rewrite::inside::{Inside, behind_key, inside_of};
 use crate::parts::spa_rewrite::surplus::{CHOICE_HEADER, leaf_surplus, short_front};
 use crate::parts::spa_bodies::VALUE_TYPE_AT;
@@ -390,10 +393,16 @@ fn meet(keyed: bool, canonical: bool, left: &[u8]) -> Met<'_> {
     if let Some(inner) = inside_of(front.type_, front.body) {
         return Met::Inner(inner, front.rest);
     }
-    match leaf_surplus(front.type_, front.body) {
+    match rare_surplus(front.type_, front.body) {
         Some(surplus) => Met::Leaves(front.rest, stays_canonical(canonical, here), surplus),
         None => Met::Fault(here),
     }
+}
+
+/// Does what `leaf_surplus` does, by a call: where it is asked, a struct or an object is met most often.
+#[inline(never)]
+fn rare_surplus(type_: u32, body: &[u8]) -> Option<usize> {
+    leaf_surplus(type_, body)
 }
 
 /// What follows the first accepted pods that hold no others, and by how many bytes their encodings are shorter: of canonical ones where `canonical` is

@@ -13,7 +13,8 @@ use Rattle.spa_format.specs.Words.{padded_size}
 use Rattle.spa_scan.specs.Canonical.{AreTextAlike, EndsInZeros, HasZeros, IsAsciiByte, IsAsciiFor, IsCanonicalText}
 
 -- a part without NUL that is UTF-8, in front of what is one exactly where all is
-alike_behind : (first rest b : List ℕ) → b ≡ first ++ rest → IsUtf8 first → ¬ (Contains first 0) → (IsUtf8 b → IsUtf8 rest) → AreTextAlike rest b
+alike_behind : (first rest b : List ℕ) → b ≡ first ++ rest → IsUtf8 first → ¬ (Contains first 0) → (IsUtf8 b →
+    IsUtf8 rest) → AreTextAlike rest b
 alike_behind first rest b e u n back = (
   λ t.
       record {
@@ -55,7 +56,8 @@ alike_first x rest b e h =
     subst (λ y. AreTextAlike y b) (ap (drop 1) e) (alike_ascii 1 b (omega arith) some one)
 
 -- behind a character of several bytes
-alike_character : (c : ℕ) (xs rest b : List ℕ) → IsScalar c → encode c ≡ xs → ¬ (Contains xs 0) → b ≡ xs ++ rest → AreTextAlike rest b
+alike_character : (c : ℕ) (xs rest b : List ℕ) → IsScalar c → encode c ≡ xs → ¬ (Contains xs 0) →
+    b ≡ xs ++ rest → AreTextAlike rest b
 alike_character c xs rest b s e n d =
     let same : b ≡ encode c ++ rest = d ∙ ap (λ y. y ++ rest) (sym e) in
     alike_behind xs rest b d (subst IsUtf8 e (IsUtf8-encode c s)) n (λ u. IsUtf8-past_char b rest c u same)
@@ -84,14 +86,16 @@ first_two : (b : List ℕ) → 2 ≤ length b → b ≡ slice_index b 0 ∷ slic
 first_two b l = drop_more b 0 0 (omega arith) ∙ ap (λ y. slice_index b 0 ∷ y) (drop_more b 1 0 (omega arith))
 
 -- behind a character of two bytes, and of three
-pub alike_two : (b : List ℕ) → 2 ≤ length b → 194 ≤ slice_index b 0 → slice_index b 0 < 224 → 128 ≤ slice_index b 1 → slice_index b 1 < 192 → AreTextAlike (drop 2 b) b
+pub alike_two : (b : List ℕ) → 2 ≤ length b → 194 ≤ slice_index b 0 → slice_index b 0 < 224 →
+    128 ≤ slice_index b 1 → slice_index b 1 < 192 → AreTextAlike (drop 2 b) b
 alike_two b l p q r s =
     let x = slice_index b 0 in
     let y = slice_index b 1 in
     let c = (x - 192) * 64 + (y - 128) in
     alike_character c (x ∷ y ∷ []) (drop 2 b) b (low_scalar c (omega arith)) (encode_two x y p q r s) (none_of_two x y (omega arith) (omega arith)) (first_two b l)
 
-pub alike_three : (b : List ℕ) → 3 ≤ length b → 225 ≤ slice_index b 0 → slice_index b 0 < 237 → 128 ≤ slice_index b 1 → slice_index b 1 < 192 →
+pub alike_three : (b : List ℕ) → 3 ≤ length b → 225 ≤ slice_index b 0 → slice_index b 0 < 237 →
+    128 ≤ slice_index b 1 → slice_index b 1 < 192 →
     128 ≤ slice_index b 2 → slice_index b 2 < 192 → AreTextAlike (drop 3 b) b
 alike_three b l p q r s t u =
     let x = slice_index b 0 in
@@ -123,7 +127,8 @@ ascii_text text h =
     ]
 
 -- the texts of two bodies that are the same
-pub its_text : (body text : List ℕ) (last : ℕ) → body ≡ text ++ last ∷ [] → IsCanonicalText body → IsText text × (last ≡ 0)
+pub its_text : (body text : List ℕ) (last : ℕ) → body ≡ text ++ last ∷ [] → IsCanonicalText body →
+    IsText text × (last ≡ 0)
 its_text body text last e t =
     let same : text ++ last ∷ [] ≡ t.0 ++ 0 ∷ [] = sym e ∙ t.2 in
     let n = ap length same in
@@ -140,7 +145,8 @@ pub record IsEndOf (behind body text : List ℕ) (last : ℕ) : Type 0 where
   pub count : 8 - length text % 8 ≡ suc (padded_size (length body) - length body)
   pub there : drop (length text) behind ≡ last ∷ drop (length body) behind
 
-pub end_of : (behind body text : List ℕ) (last : ℕ) → body ≡ text ++ last ∷ [] → body ≡ take (length body) behind → padded_size (length body) ≤ length behind → IsEndOf behind body text last
+pub end_of : (behind body text : List ℕ) (last : ℕ) → body ≡ text ++ last ∷ [] →
+    body ≡ take (length body) behind → padded_size (length body) ≤ length behind → IsEndOf behind body text last
 end_of behind body text last e f room =
     let n = length text in
     let l = ap length e in
@@ -153,14 +159,16 @@ end_of behind body text last e f room =
       there = drop_more behind n 0 (omega arith) ∙ ap (λ x. x ∷ drop (n + 1) behind) inside ∙ ap (λ m. last ∷ drop m behind) (sym size);
     }
 
-pub zeros_behind_text : (behind body text : List ℕ) (last : ℕ) → IsEndOf behind body text last → EndsInZeros behind (length text) → (last ≡ 0) × HasZeros behind (length body)
+pub zeros_behind_text : (behind body text : List ℕ) (last : ℕ) → IsEndOf behind body text last →
+    EndsInZeros behind (length text) → (last ≡ 0) × HasZeros behind (length body)
 zeros_behind_text behind body text last s z =
     let k = padded_size (length body) - length body in
     let same : last ∷ take k (drop (length body) behind) ≡ 0 ∷ replicate k 0 =
     sym (ap (take (suc k)) s.there) ∙ sym (ap (λ m. take m (drop (length text) behind)) s.count) ∙ z ∙ ap (λ m. replicate m 0) s.count in
     (ap (λ y. slice_index y 0) same, ap (drop 1) same)
 
-pub text_ends_in_zeros : (behind body text : List ℕ) (last : ℕ) → IsEndOf behind body text last → last ≡ 0 → HasZeros behind (length body) → EndsInZeros behind (length text)
+pub text_ends_in_zeros : (behind body text : List ℕ) (last : ℕ) → IsEndOf behind body text last → last ≡ 0 →
+    HasZeros behind (length body) → EndsInZeros behind (length text)
 text_ends_in_zeros behind body text last s n z =
     let k = padded_size (length body) - length body in
     ap (λ m. take m (drop (length text) behind)) s.count ∙ ap (take (suc k)) s.there ∙ ap (λ x. x ∷ take k (drop (length body) behind)) n

@@ -60,14 +60,16 @@ fn leaf_body_front(input: &[u8]) -> Option<&[u8]>
     }
 }
 
-/// Whether a body of this type, which holds no pods, is as its value is written, and zeros follow it up to a multiple of 8.
+/// Whether a body of this type, which holds no pods, is as its value is written, and zeros follow it up to a
+/// multiple of 8.
 #[inline(always)]
 fn is_padded_body(type_: u32, body: &[u8], behind: &[u8]) -> bool
     requires front { body.now ≡ take (length body.now) behind.now }
     requires room { padded_size (length body.now) ≤ length behind.now }
     ensures canonical { result ≡ true → IsCanonicalBody type_ body.now }
     ensures zeros { result ≡ true → HasZeros behind.now (length body.now) }
-    ensures found { HasZeros behind.now (length body.now) → (c : IsCanonicalBody type_ body.now) → depth_of c.value ≡ 0 → ¬ (IsSized c.value) → result ≡ true }
+    ensures found { HasZeros behind.now (length body.now) → (c : IsCanonicalBody type_ body.now) → depth_of c.value ≡ 0 →
+        ¬ (IsSized c.value) → result ≡ true }
 {
     if type_ == SpaTypes::String.0 {
         return is_padded_text(body, behind);

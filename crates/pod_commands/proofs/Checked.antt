@@ -1,11 +1,11 @@
 -- Inputs that are checked as they come.
-use Rattle.std.proofs.Common.{◌≡◌, ◌≢◌, ◌∙◌, ◌+◌, ◌∷◌, ◌++◌, [], ap, arith, inl, inr, refl, subst, sym, List, ℕ, Option}
+use Rattle.std.proofs.Common.{◌≡◌, ◌∙◌, ◌∷◌, ◌++◌, [], ap, arith, inl, inr, refl, subst, sym, List, ℕ, Option}
 use Rattle.std.specs.Borrow.{Bor}
 use Rattle.spa_recordings.specs.declared.reading.Reading.{Reading}
 use Rattle.spa_recordings.specs.declared.reading.Reading.TheVariants.{Exact}
 use Rattle.pod_commands.specs.Answers.{AreUnmade}
 use Rattle.pod_commands.specs.Inputs.{AreMade, StopsAt, left_behind}
-use Rattle.pod_commands.specs.Making.{AreNoPods, MakesAll, RefusesBy}
+use Rattle.pod_commands.specs.Making.{MakesAll, RefusesBy}
 use Rattle.pod_commands.specs.Streaming.{EndsIn, IsBroken, StreamsAs}
 use Rattle.pod_commands.specs.declared.answer.Failure.{Failure}
 use Rattle.pod_commands.specs.declared.answer.Failure.TheVariants.{Pods, Texts, Pair, Lists, OutOfMemory, Unread, Unwritten}

@@ -13,7 +13,6 @@ use Rattle.spa_format.specs.Faults.{Fault, IsInvalidType, IsWrongSize, LacksValu
 use Rattle.spa_format.specs.Faults as fault
 use Rattle.spa_format.specs.Front.{HasFront, IsRefused, front_of}
 use Rattle.spa_format.specs.Pod.{AreMembers, IsPod}
-use Rattle.spa_format.specs.Tree.{Trees}
 use Rattle.spa_format.specs.Walk.{walk}
 use Rattle.spa_format.specs.Words.{body_of, extent, word_at}
 use Rattle.spa_format.proofs.Refused.{refused_behind_members}
@@ -23,7 +22,7 @@ use Rattle.spa_names.specs.Lookup.{name_of}
 use Rattle.spa_names.specs.declared.table.Table.TheVariants.{Types}
 use Rattle.spa_recordings.specs.Streaming.{EndsAtPod}
 use Rattle.spa_recordings.specs.declared.reading.Reading.TheVariants.{Exact}
-use Rattle.spa_refusals.specs.Paths.{HaveRead, HoldsMember, HoldsValue, IsInnermost, IsPath, LeadsTo, StepsTo, cut_off, further, holds_none, itself, member, members_read, number_of, properties_read, property, short_object, step_limit, type_name, type_number}
+use Rattle.spa_refusals.specs.Paths.{HaveRead, HoldsMember, HoldsValue, IsInnermost, LeadsTo, StepsTo, cut_off, further, holds_none, itself, member, members_read, number_of, properties_read, property, short_object, step_limit, type_name, type_number}
 use Rattle.spa_refusals.specs.Refusals.{IsFirstRefusal, IsRefusalOf, IsUnreadFor}
 use Rattle.spa_refusals.specs.declared.refusal.Refusal.{Refusal}
 use Rattle.pod_commands.specs.Streaming.{StreamsAs}

@@ -1,5 +1,5 @@
 -- Files that are read twice.
-use Rattle.std.proofs.Common.{◌≡◌, ◌∙◌, ◌∷◌, ◌++◌, [], ap, arith, inl, inr, refl, subst, sym, List, ℕ, Option, Some, None}
+use Rattle.std.proofs.Common.{◌≡◌, ◌∙◌, ◌∷◌, [], arith, inl, inr, refl, subst, sym, List, ℕ, Option, Some, None}
 use Rattle.std.specs.Prelude.{⊤, false, if◌then◌else◌}
 use Rattle.std.specs.Borrow.{Bor}
 use Rattle.std.specs.Str.{bytes_eq}

@@ -6,7 +6,7 @@ use Rattle.std.proofs.lemmas.Bool.Decides.{nat_tests}
 use Rattle.pod_commands.specs.Colours.{IsColoured, backslash, colour_of, further, goes_on, is_key, is_number, line_feed, nothing, piece_in, piece_len, quote, quoted_len, word_len}
 use Rattle.spa_format.specs.Tree.{Trees, no_trees, member}
 use Rattle.spa_text_commands.specs.Dump.{hex_lines, place_text, row_line, rows, spaced}
-use Rattle.spa_text_commands.specs.Lines.{AreLines, ArePodLines, PrintsPart, PrintsParts, head_line}
+use Rattle.spa_text_commands.specs.Lines.{ArePodLines, PrintsPart, PrintsParts, head_line}
 use Rattle.spa_text_commands.specs.Selection.{Part}
 use Rattle.spa_text_commands.specs.Texts.{AreTexts}
 use Rattle.spa_text_commands.specs.declared.printing.Layout.{Layout}

@@ -1,5 +1,5 @@
 -- What is written of pods as they come is that of their parts.
-use Rattle.std.proofs.Common.{◌∙◌, ◌+◌, ℕ, List, [], ◌++◌, ap, ap₂, append_assoc, arith, length, refl, subst, sym}
+use Rattle.std.proofs.Common.{◌∙◌, ◌+◌, ℕ, List, [], ◌++◌, ap, ap₂, arith, length, refl}
 use Rattle.spa_format.specs.Tree.{join_members, no_trees}
 use Rattle.spa_format.specs.Walk.{walk}
 use Rattle.spa_format.proofs.Sequences.{members_joined}

@@ -1,10 +1,7 @@
 //! One look at pods: whether they are accepted, whether they are canonical, and how long their encodings are. It writes nothing, takes no
 //! memory and calls itself nowhere: what is left of the structs and objects around a pod waits in an array of fixed size.
-use crate::shims::prelude::*;
-<<<<<<< HEAD
-=======
->>>>>>> a8446a4d (The surplus of a pod that holds no others is asked by a call where lists are looked at)
 
+use crate::shims::prelude::*;
 use crate::parts::spa_rewrite::inside::{Inside, behind_key, inside_of};
 use crate::parts::spa_rewrite::surplus::{CHOICE_HEADER, leaf_surplus, short_front};
 use crate::parts::spa_bodies::VALUE_TYPE_AT;

@@ -45,7 +45,8 @@ fn leaf_body_front(input: &[u8]) -> Option<&[u8]> {
     }
 }
 
-/// Whether a body of this type, which holds no pods, is as its value is written, and zeros follow it up to a multiple of 8.
+/// Whether a body of this type, which holds no pods, is as its value is written, and zeros follow it up to a
+/// multiple of 8.
 #[cfg_attr(not(debug_assertions), inline(always))]
 fn is_padded_body(type_: u32, body: &[u8], behind: &[u8]) -> bool {
     if type_ == SpaTypes::String.0 {

@@ -13,8 +13,8 @@ pub fn is_text(body: &[u8]) -> bool {
     *last == 0 && are_characters(text)
 }
 
-/// Whether the body of a string is a text without NUL, and one NUL behind it, and zeros follow it up to a multiple of 8: one look at the last eight
-/// bytes shows the NUL and the zeros.
+/// Whether the body of a string is a text without NUL, and one NUL behind it, and zeros follow it up to a multiple
+/// of 8: one look at the last eight bytes shows the NUL and the zeros.
 #[cfg_attr(not(debug_assertions), inline(always))]
 pub(crate) fn is_padded_text(body: &[u8], behind: &[u8]) -> bool {
     let Some((_, text)) = body.split_last() else {
@@ -76,13 +76,14 @@ const TWO_BYTES: u8 = 194;
 
 const TWO_BYTES_COUNT: u8 = 30;
 
-/// The first byte of the first characters of three bytes whose other bytes may be any that follow a first one, and how many such bytes there are.
+/// The first byte of the first characters of three bytes whose other bytes may be any that follow a first one, and
+/// how many such bytes there are.
 const THREE_BYTES: u8 = 225;
 
 const THREE_BYTES_COUNT: u8 = 12;
 
-/// How many bytes the first character takes, where it takes two, or three of which the first one doesn't limit the second. 0: another character, or
-/// none, is first.
+/// How many bytes the first character takes, where it takes two, or three of which the first one doesn't limit the
+/// second. 0: another character, or none, is first.
 #[cfg_attr(not(debug_assertions), inline(always))]
 fn character_len(text: &[u8]) -> usize {
     if text.len() < 2 || !is_following(text[1]) {
@@ -140,7 +141,8 @@ fn is_short_ascii_text(text: &[u8]) -> bool {
     are_four_ascii(text) & are_four_ascii(last)
 }
 
-/// Whether each of fewer than four bytes is an ASCII character other than NUL: the first, the middle and the last are all of them.
+/// Whether each of fewer than four bytes is an ASCII character other than NUL: the first, the middle and the last
+/// are all of them.
 #[cfg_attr(not(debug_assertions), inline(always))]
 fn are_few_ascii(text: &[u8]) -> bool {
     text.is_empty()

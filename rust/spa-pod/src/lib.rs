@@ -43,7 +43,7 @@ pub mod pod {
 /// Negotiation: the object in which two objects meet, each of whose values both admit.
 ///
 /// Of choices it takes None, Enum, and Range over Id, Int or Long, and refuses others as `Unsupported`. Formats of video have Ranges over
-/// rectangles and fractions, so for real formats call [`filtering`](crate::filtering), and then `settle`.
+/// rectangles and fractions, so for real formats call [`filtering`], and then `settle`.
 ///
 /// ```
 /// use spa_pod::names::{ids, keys, types};

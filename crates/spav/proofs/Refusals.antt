@@ -58,7 +58,7 @@ list_refused input at e r b =
       first = l.0;
       before = subst (AreMembers l.0) (sym front) l.3;
       inside = inside;
-      refused = fact_of _ r.told (λ o. named e b (r.same ∙ ap kind_text o)) r.front.refused;
+      refused = fact_of _ r.placed (λ o. named e b (r.same ∙ ap kind_text o)) r.front.refused;
       whole = fact_of _ e (λ o. named e b (ap kind_text o)) r.refused;
     }
 

@@ -9,5 +9,5 @@ returns-in-Err-clause-refused c =
     let place = c.in-Err.place in
     let r = c.in-Err.ensures.refused in
     subst (λ z. IsUnmade z c.refused.result) c.as_mut_slice.ensures.value
-    (unmade input (drop place input) place c.in-Err.error r.told c.refused.result r.behind (some_left input place r.behind) r.refused r.front
+    (unmade input (drop place input) place c.in-Err.error r.placed c.refused.result r.behind (some_left input place r.behind) r.refused r.front
     r.same c.refused.ensures)

@@ -55,7 +55,8 @@ fn times(alloc: Global, bytes: &[u8], count: usize) -> Result<Vec<u8>, AllocErro
 }
 
 /// What is said of `WRONG` behind so many of `PADDED`.
-const REFUSED: &[u8] = b"pod: standard input: pod 6001 (Int), byte 144000: a body or the size of elements isn't as long as its type's (WrongSize)\n";
+const REFUSED: &[u8] =
+    b"pod: standard input: pod 6001 (Int), byte 144000: a body or the size of elements isn't as long as its type's (WrongSize)\n";
 
 /// Whether all pods of several blocks are rewritten that come in pieces of so many bytes, and the first refused one is named.
 fn are_blocks_rewritten(rt: &HostRuntime, piece: usize) -> Result<bool, AllocError> {
@@ -64,12 +65,26 @@ fn are_blocks_rewritten(rt: &HostRuntime, piece: usize) -> Result<bool, AllocErr
     let written = times(rt.alloc(), &CLEAN, COUNT)?;
     let source = Source::whole(given.as_slice(), piece);
     let all: Wanted<'_> = (written.as_slice(), b"", 0);
-    let holds = streams(rt, &["rewrite", "--stream"], source, room.as_mut_slice(), all)?;
+    let holds = streams(
+        rt,
+        &["rewrite", "--stream"],
+        source,
+        room.as_mut_slice(),
+        all,
+    )?;
     given.extend_from_slice(&WRONG)?;
     given.extend_from_slice(&PADDED)?;
     let source = Source::whole(given.as_slice(), piece);
     let some: Wanted<'_> = (written.as_slice(), REFUSED, 1);
-    Ok(streams(rt, &["rewrite", "--stream"], source, room.as_mut_slice(), some)? && holds)
+    Ok(
+        streams(
+            rt,
+            &["rewrite", "--stream"],
+            source,
+            room.as_mut_slice(),
+            some,
+        )? && holds,
+    )
 }
 
 /// Whether all pods of several blocks are checked, and the first refused one is named.
@@ -139,7 +154,13 @@ fn is_long_rewritten(rt: &HostRuntime) -> Result<bool, AllocError> {
     let mut room = times(rt.alloc(), &[0], given.len())?;
     let source = Source::whole(given.as_slice(), ALL);
     let wanted: Wanted<'_> = (written.as_slice(), b"", 0);
-    streams(rt, &["rewrite", "--stream"], source, room.as_mut_slice(), wanted)
+    streams(
+        rt,
+        &["rewrite", "--stream"],
+        source,
+        room.as_mut_slice(),
+        wanted,
+    )
 }
 
 #[test]

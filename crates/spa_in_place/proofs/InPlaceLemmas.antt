@@ -1,15 +1,20 @@
 -- Why pods aren't rewritten in place; and what was written elsewhere and copied back.
 use Rattle.std.proofs.Common.{◌≡◌, ℕ, ◌+◌, ◌-◌, ◌≤◌, inl, inr, List, [], ◌++◌, length, take, drop, refl, sym, ap, ◌∙◌, subst, arith, length-append}
 use Rattle.std.specs.Borrow.{Bor}
-use Rattle.std.specs.Prelude.{⊤}
+use Rattle.std.specs.Prelude.{Option, Some, None}
 use Rattle.std.proofs.lemmas.List.{drop_at, take_at}
+use Rattle.spa_format.specs.Faults.{Short, Text}
 use Rattle.spa_format.proofs.Short.{short_members}
 use Rattle.spa_fixed_sized.specs.declared.fault.DeserializeError.{DeserializeError}
 use Rattle.spa_fixed_sized.specs.declared.fault.DeserializeError.TheVariants as error
+use Rattle.spa_fixed_sized.specs.declared.fault.Refusal.{Refusal}
+use Rattle.spa_fixed_sized.specs.declared.fault.Refusal.TheVariants as refusal
 use Rattle.spa_bodies.specs.Reading.{OnFault, OnMemory}
-use Rattle.spa_in_place.specs.InPlace.{IsFaultOf, RefusesListAt, WritesShorter}
+use Rattle.spa_bodies.specs.Refusing.{error_of}
+use Rattle.spa_in_place.specs.InPlace.{IsFaultOf, NamesOffset, RefusesListAt, WritesShorter, moved}
 use Rattle.spa_in_place.proofs.ChangedPods.{behind_canonical}
 use Rattle.spa_rewrite.specs.Memory.{AsksMemory}
+use Rattle.spa_rewrite.specs.Offsets.{IsFaultAt, StandsAt, from_pod}
 use borrow.Rule.Slice.PartMut.{put_mid}
 use Rattle.spa_scan.specs.Canonical.{AreCanonical}
 use Rattle.spa_rewrite.specs.Rewriting.{AreRewritten, IsLeft, RefusesFront, RefusesList}
@@ -18,62 +23,87 @@ use Rattle.spa_rewrite.proofs.FirstPods.{accepted_behind, left_behind_pods}
 use Rattle.spa_rewrite.proofs.Stretches.{list_refused}
 
 -- what is left begins behind so many bytes
-pub left_at : (input left : List ℕ) (at : ℕ) → IsLeft input left → at ≡ length input - length left → drop at input ≡ left
+left_at : (input left : List ℕ) (at : ℕ) → IsLeft input left → at ≡ length input - length left → drop at input ≡ left
 left_at input left at l e =
     let a = ap length l.2 in
     let b = length-append l.1 left in
     let n : at ≡ length l.1 = omega arith in
     ap (drop at) l.2 ∙ drop_at l.1 left at (sym n)
 
--- a fact of any refusal but one for lack of memory
-of_fact : {I : Type 0} (F : Type 0) → F → (e : DeserializeError I) → OnFault F e
-of_fact F h (error.Nom f) = h
-of_fact F h error.UnsupportedType = h
-of_fact F h error.InvalidType = h
-of_fact F h error.PropertyMissing = h
-of_fact F h (error.PropertyWrongKey k) = h
-of_fact F h error.InvalidChoiceType = h
-of_fact F h error.MissingChoiceValues = h
-of_fact F h error.WrongSize = h
-of_fact F h error.UnreadMembers = h
-of_fact F h error.NoElementLeft = h
-of_fact F h error.FailedReader = h
-of_fact F h error.OutOfMemory = tt
+-- a refusal says the same with another place
+pub moved_same : {J : Type 0} (place : J) (e : DeserializeError (Bor (List ℕ))) → IsFaultOf (moved place e) e
+moved_same place (error.Nom f) = refl
+moved_same place error.UnsupportedType = refl
+moved_same place error.InvalidType = refl
+moved_same place error.PropertyMissing = refl
+moved_same place (error.PropertyWrongKey k) = refl
+moved_same place error.InvalidChoiceType = refl
+moved_same place error.MissingChoiceValues = refl
+moved_same place error.WrongSize = refl
+moved_same place error.UnreadMembers = refl
+moved_same place error.NoElementLeft = refl
+moved_same place error.FailedReader = refl
+moved_same place error.OutOfMemory = refl
 
-same_fact : {I J : Type 0} (F : Type 0) (placed : DeserializeError I) (e : DeserializeError J) →
-    (placed ≡ error.OutOfMemory → e ≡ error.OutOfMemory) → OnFault F placed → OnFault F e
-same_fact F (error.Nom f) e m h = of_fact F h e
-same_fact F error.UnsupportedType e m h = of_fact F h e
-same_fact F error.InvalidType e m h = of_fact F h e
-same_fact F error.PropertyMissing e m h = of_fact F h e
-same_fact F (error.PropertyWrongKey k) e m h = of_fact F h e
-same_fact F error.InvalidChoiceType e m h = of_fact F h e
-same_fact F error.MissingChoiceValues e m h = of_fact F h e
-same_fact F error.WrongSize e m h = of_fact F h e
-same_fact F error.UnreadMembers e m h = of_fact F h e
-same_fact F error.NoElementLeft e m h = of_fact F h e
-same_fact F error.FailedReader e m h = of_fact F h e
-same_fact F error.OutOfMemory e m h = subst (OnFault F) (sym (m refl)) tt
+moved_fact : {I J : Type 0} (F : Type 0) (place : J) (e : DeserializeError I) → OnFault F e → OnFault F (moved place e)
+moved_fact F place (error.Nom f) h = h
+moved_fact F place error.UnsupportedType h = h
+moved_fact F place error.InvalidType h = h
+moved_fact F place error.PropertyMissing h = h
+moved_fact F place (error.PropertyWrongKey k) h = h
+moved_fact F place error.InvalidChoiceType h = h
+moved_fact F place error.MissingChoiceValues h = h
+moved_fact F place error.WrongSize h = h
+moved_fact F place error.UnreadMembers h = h
+moved_fact F place error.NoElementLeft h = h
+moved_fact F place error.FailedReader h = h
+moved_fact F place error.OutOfMemory h = h
 
-pub refused_at : (input left : List ℕ) (at : ℕ) (placed : DeserializeError (Bor (List ℕ))) (e : DeserializeError ⊤) →
-    RefusesList input left placed → at ≡ length input - length left → IsFaultOf e placed →
-    (placed ≡ error.OutOfMemory → e ≡ error.OutOfMemory) → RefusesListAt input at e
-refused_at input left at placed e r n s m =
+-- the offset that the look gives
+pub offset_known : (input left : List ℕ) (top at : ℕ) (place : Bor (List ℕ)) (why : Refusal) → drop top input ≡ left → IsFaultAt left place.now at why →
+    NamesOffset input top (moved (Some (top + at)) (error_of place why))
+offset_known input left top at place refusal.Short d f = (at, refl, subst (StandsAt Short from_pod at) (sym d) f.1)
+offset_known input left top at place refusal.Text d f = (at, refl, subst (StandsAt Text from_pod at) (sym d) f.1)
+offset_known input left top at place refusal.InvalidType d f = tt
+offset_known input left top at place refusal.InvalidChoiceType d f = tt
+offset_known input left top at place refusal.MissingChoiceValues d f = tt
+offset_known input left top at place refusal.WrongSize d f = tt
+offset_known input left top at place refusal.OutOfMemory d f = tt
+
+-- none, where memory was asked for
+pub offset_unknown : (input : List ℕ) (top : ℕ) (e : DeserializeError (Bor (List ℕ))) → AsksMemory input → NamesOffset input top (moved None e)
+offset_unknown input top (error.Nom f) a = a
+offset_unknown input top error.UnsupportedType a = tt
+offset_unknown input top error.InvalidType a = tt
+offset_unknown input top error.PropertyMissing a = tt
+offset_unknown input top (error.PropertyWrongKey k) a = tt
+offset_unknown input top error.InvalidChoiceType a = tt
+offset_unknown input top error.MissingChoiceValues a = tt
+offset_unknown input top error.WrongSize a = tt
+offset_unknown input top error.UnreadMembers a = tt
+offset_unknown input top error.NoElementLeft a = tt
+offset_unknown input top error.FailedReader a = tt
+offset_unknown input top error.OutOfMemory a = tt
+
+pub refused_behind : (input first others left : List ℕ) (at : ℕ) (offset : Option ℕ) (placed : DeserializeError (Bor (List ℕ))) → input ≡ first ++ others →
+    AreCanonical first → RefusesList others left placed → at ≡ length input - length left → NamesOffset input at (moved offset placed) →
+    RefusesListAt input at (moved offset placed)
+refused_behind input first others left at offset placed i k f n o =
+    let r = list_refused input left placed (left_behind_pods input first others left k.values i k.members f.behind) f.front in
     let d = left_at input left at r.behind n in
     record {
       behind = subst (IsLeft input) (sym d) r.behind;
-      refused = same_fact _ placed e m r.refused;
+      refused = moved_fact _ offset placed r.refused;
       placed = placed;
       front = subst (λ l. RefusesFront l placed) (sym d) r.front;
-      same = s;
+      same = moved_same offset placed;
+      offset = o;
     }
 
-pub refused_behind : (input first others left : List ℕ) (at : ℕ) (placed : DeserializeError (Bor (List ℕ))) (e : DeserializeError ⊤) →
-    input ≡ first ++ others → AreCanonical first → RefusesList others left placed → at ≡ length input - length left → IsFaultOf e placed →
-    (placed ≡ error.OutOfMemory → e ≡ error.OutOfMemory) → RefusesListAt input at e
-refused_behind input first others left at placed e i k f n same m =
-    refused_at input left at placed e
-    (list_refused input left placed (left_behind_pods input first others left k.values i k.members f.behind) f.front) n same m
+-- what is left of the others begins behind so many bytes of all
+pub left_behind : (input first others left : List ℕ) (at : ℕ) → input ≡ first ++ others → AreCanonical first → IsLeft others left →
+    at ≡ length input - length left → drop at input ≡ left
+left_behind input first others left at i k l n = left_at input left at (left_behind_pods input first others left k.values i k.members l) n
 
 -- the bytes behind the first pods
 pub others_left : (input first others : List ℕ) → input ≡ first ++ others → drop (length first) input ≡ others
@@ -144,5 +174,5 @@ pub asks_behind : (input first others : List ℕ) → input ≡ first ++ others 
 asks_behind input first others i k (inl m) = inl (accepted_behind input first others k.values i k.members m)
 asks_behind input first others i k (inr d) = inr (d.0, left_behind_pods input first others d.0 k.values i k.members d.1, d.2)
 
-pub deep_memory : (P : Type 0) (e : DeserializeError ⊤) → P → OnMemory P e
+pub deep_memory : {I : Type 0} (P : Type 0) (e : DeserializeError I) → P → OnMemory P e
 deep_memory P e h = on_memory P e (λ z. h)

@@ -15,14 +15,13 @@ use Rattle.spa_bytes.specs.Opening.{Opens}
 use Rattle.spa_fixed_sized.specs.declared.fault.Refusal.{Refusal}
 use Rattle.spa_fixed_sized.specs.declared.fault.Refusal.TheVariants as refusal
 use Rattle.spa_bodies.specs.Reading.{TakesMemory}
-use Rattle.spa_bodies.specs.Refusing.{Says}
 use Rattle.spa_scan.specs.Canonical.{BeginsCanonical}
 use Rattle.spa_rewrite.specs.Look.{IsRejected, IsTooDeep}
 use Rattle.spa_rewrite.specs.Rewriting.{IsRewriting}
 use Rattle.spa_rewrite.specs.Inside.{IsInside}
 use Rattle.spa_rewrite.specs.declared.look.Rejected.{Rejected}
 use Rattle.spa_rewrite.specs.declared.look.Rejected.TheVariants as rejected
-use Rattle.spa_rewrite.proofs.Accepted.{fault_front}
+use Rattle.spa_rewrite.proofs.Accepted.{at_place, fault_refuses}
 use Rattle.std.specs.Borrow.{Bor}
 use Rattle.std.specs.Prelude.{Bool, true, false, IfOk, Result, Ok, Err}
 use Rattle.spa_object_view.specs.Fronts.{BeginsObject, BeginsObjectIn, BeginsOther, IsNoObject, IsObject, IsUnread}
@@ -125,17 +124,9 @@ pub begins_other : (input : List ℕ) (v : Tree) → word_at input 4 ≢ object_
 begins_other input v t b = record { value = v; begins = b; no_object = no_object v (λ e. t (sym (begun_type input v b) ∙ e)) }
 
 -- a fault that stands refuses the front
-of_fault : (input : List ℕ) (place : Bor (List ℕ)) (why : Refusal) → Says (λ k. Stands k place.now input) ⊥ why → IsRefused input
-of_fault input place refusal.Short s = (fault_front input place refusal.Short s).refused
-of_fault input place refusal.Text s = (fault_front input place refusal.Text s).refused
-of_fault input place refusal.InvalidType s = (fault_front input place refusal.InvalidType s).refused
-of_fault input place refusal.InvalidChoiceType s = (fault_front input place refusal.InvalidChoiceType s).refused
-of_fault input place refusal.MissingChoiceValues s = (fault_front input place refusal.MissingChoiceValues s).refused
-of_fault input place refusal.WrongSize s = (fault_front input place refusal.WrongSize s).refused
-of_fault input place refusal.OutOfMemory s = absurd s
-
-pub refused_front : (input : List ℕ) (r : Rejected) (place : Bor (List ℕ)) (why : Refusal) → r ≡ rejected.Fault place why → IsRejected input r → IsRefused input
-refused_front input r place why e h = of_fault input place why (subst (IsRejected input) e h)
+pub refused_front : (input : List ℕ) (r : Rejected) (place : Bor (List ℕ)) (at : ℕ) (why : Refusal) → r ≡ rejected.Fault place at why → IsRejected input r →
+    IsRefused input
+refused_front input r place at why e h = fault_refuses input place.now why (at_place input place.now at why (subst (IsRejected input) e h))
 
 pub too_deep : (input : List ℕ) (r : Rejected) → r ≡ rejected.TooDeep → IsRejected input r → IsTooDeep input
 too_deep input r e h = subst (IsRejected input) e h

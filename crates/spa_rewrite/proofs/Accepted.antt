@@ -27,13 +27,15 @@ use Rattle.spa_scan.proofs.Frames.{no_stretch, stretch_parts}
 use Rattle.spa_rewrite.specs.Look.{AreAccepted, AreLooked, AreMet, IsAccepted, IsAcceptedAsked, IsRejected, StopsAt}
 use Rattle.spa_rewrite.specs.Rewriting.{IsLeft, RefusesFront, RefusesList}
 use Rattle.spa_rewrite.specs.Shorter.{ArePodsWithin, BeginsShorter, IsShorterBody}
-use Rattle.spa_rewrite.specs.Inside.{IsBehindKey, IsInside}
+use Rattle.spa_rewrite.specs.Inside.{IsBehindKey, IsInside, key_size}
+use Rattle.spa_rewrite.specs.Offsets.{IsFaultAt, StandsAt, at_pod, from_pod, scope_of}
 use Rattle.spa_rewrite.specs.declared.look.AcceptedPod.{AcceptedPod}
 use Rattle.spa_rewrite.specs.declared.look.Rejected.{Rejected}
 use Rattle.spa_rewrite.specs.declared.look.Rejected.TheVariants as rejected
 use Rattle.spa_rewrite.proofs.FirstPods.{accepted_behind, left_behind_pods}
 use Rattle.spa_rewrite.proofs.Levels.{deep_begun}
 use Rattle.spa_rewrite.proofs.Looks.{Awaits, first_own, goes_on, inside_own, own_opened, passes_pod, some_left, stands_opened}
+use Rattle.spa_rewrite.proofs.Offsets.{body_long, offset_opened, offset_within}
 use Rattle.spa_rewrite.proofs.Refusals.{front_refused}
 use Rattle.spa_rewrite.proofs.Rewritten.{member_encodings-push, parted}
 use Rattle.spa_rewrite.proofs.ShorterLemmas.{CountsOn, counts_all, counts_more, counts_none, first_within, shorter_inside, shorter_opened, within_behind}
@@ -82,11 +84,11 @@ meets_leaf keyed canonical now left here body rest type n h k o s l b c own diff
     }
 
 -- what holds of all once these are passed
-pub goes_over : (asked all keyed canonical now : Bool) (pods left rest : List ℕ) (Then : Bool → ℕ → Type 0) (waiting surplus n : ℕ) →
-    Awaits asked all pods Then waiting keyed left canonical surplus → AreMet canonical keyed left rest now n →
-    Awaits asked all pods Then waiting keyed rest now (surplus + n)
-goes_over asked all keyed canonical now pods left rest Then waiting surplus n w m =
-    goes_on asked all keyed canonical now now pods left rest Then waiting surplus n w m.passed m.so_far (λ e. e) (λ e.
+pub goes_over : (asked all keyed canonical now : Bool) (pods left rest : List ℕ) (Then : Bool → ℕ → Type 0) (waiting behind surplus n : ℕ) →
+    Awaits asked all pods Then waiting keyed left behind canonical surplus → AreMet canonical keyed left rest now n →
+    Awaits asked all pods Then waiting keyed rest behind now (surplus + n)
+goes_over asked all keyed canonical now pods left rest Then waiting behind surplus n w m =
+    goes_on asked all keyed canonical now now pods left rest Then waiting behind surplus n w m.passed m.so_far (λ e. e) (λ e.
     elim (m.differs e) [
       | inl f ↦ w.differs f
       | inr f ↦ λ _ k. f (w.kept k)
@@ -120,13 +122,35 @@ inside_exactly asked type input body rest inside inner canonical n h o i l = (
   λ a. (λ e. own_opened type input body rest inside inner h o i ((l.exactly a).0 e), λ c. (l.exactly a).1 (inside_own type input body rest rest inside inner h o i c)),
 )
 
-pub inside_stops : (type : ℕ) (input body rest inside place : List ℕ) (inner : Bool) (why : Refusal) → Opens input type body rest → IsInside type body inner inside →
-    StopsAt inner inside place → Says (λ k. StandsAtFront k place) ⊥ why → Says (λ k. Stands k place input) ⊥ why
-inside_stops type input body rest inside place inner why o i s f =
-    says_through (λ k. StandsAtFront k place) (λ k. Stands k place input) ⊥ ⊥ (λ k x. stands_opened type input body rest inside inner k place o i (s.stands k x)) (λ n. n) why f
+pub inside_stops : (type : ℕ) (input body rest inside place : List ℕ) (inner : Bool) (behind at : ℕ) (why : Refusal) → Opens input type body rest →
+    IsInside type body inner inside → StopsAt inner inside place behind → at ≡ header_size + length body - (length place + behind) →
+    Says (λ k. StandsAtFront k place) ⊥ why → IsFaultAt input place at why
+inside_stops type input body rest inside place inner behind at why o i s e f =
+    let room = s.room in
+    let long = body_long type body inside inner i in
+    let same : header_size + (key_size inner + (length inside - (length place + behind))) ≡ at = omega arith in
+    says_through (λ k. StandsAtFront k place) (λ k. Stands k place input × StandsAt k from_pod at input) ⊥ ⊥
+    (λ k x. (
+      stands_opened type input body rest inside inner k place o i (s.stands k x),
+      subst (λ n. StandsAt k from_pod n input) same (offset_opened type input body rest inside inner k (length inside - (length place + behind)) o i (s.offset k x)),
+    )) (λ n. n) why f
 
-pub front_stops : (input : List ℕ) (why : Refusal) → Says (λ k. StandsAtFront k input) ⊥ why → Says (λ k. Stands k input input) ⊥ why
-front_stops input why f = says_through (λ k. StandsAtFront k input) (λ k. Stands k input input) ⊥ ⊥ (λ k x. at_front input refl x) (λ n. n) why f
+pub front_stops : (input : List ℕ) (why : Refusal) → Says (λ k. StandsAtFront k input) ⊥ why → IsFaultAt input input 0 why
+front_stops input why f =
+    says_through (λ k. StandsAtFront k input) (λ k. Stands k input input × StandsAt k from_pod 0 input) ⊥ ⊥ (λ k x. (at_front input refl x, at_pod input x)) (λ n. n) why f
+
+-- a fault that stands at a place and an offset
+pub at_place : (input place : List ℕ) (at : ℕ) (why : Refusal) → IsFaultAt input place at why → Says (λ k. Stands k place input) ⊥ why
+at_place input place at why f = says_through (λ k. Stands k place input × StandsAt k from_pod at input) (λ k. Stands k place input) ⊥ ⊥ (λ k x. x.0) (λ n. n) why f
+
+pub at_within : (input place : List ℕ) (at : ℕ) (why : Refusal) → IsFaultAt input place at why → at ≤ length input
+at_within input place at refusal.Short f = offset_within Short from_pod at input f.1
+at_within input place at refusal.Text f = offset_within Text from_pod at input f.1
+at_within input place at refusal.InvalidType f = offset_within InvalidType from_pod at input f.1
+at_within input place at refusal.InvalidChoiceType f = offset_within InvalidChoiceType from_pod at input f.1
+at_within input place at refusal.MissingChoiceValues f = offset_within MissingChoiceValues from_pod at input f.1
+at_within input place at refusal.WrongSize f = offset_within WrongSize from_pod at input f.1
+at_within input place at refusal.OutOfMemory f = absurd f
 
 -- what is rejected is a pod of no value, or of one with more levels
 pub fault_refuses : (input place : List ℕ) (why : Refusal) → Says (λ k. Stands k place input) ⊥ why → IsRefused input
@@ -139,7 +163,7 @@ fault_refuses input place refusal.WrongSize s = format.refused WrongSize place i
 fault_refuses input place refusal.OutOfMemory s = absurd s
 
 pub rejected_value : (input : List ℕ) (r : Rejected) → IsRejected input r → (v : Tree) → Begins input v → levels_looked_into < depth_of v
-rejected_value input (rejected.Fault place why) s v b = absurd (fault_refuses input place.now why s v b)
+rejected_value input (rejected.Fault place at why) s v b = absurd (fault_refuses input place.now why (at_place input place.now at why s) v b)
 rejected_value input rejected.TooDeep s v b = deep_begun levels_looked_into input v s.nests b
 
 -- so it isn't the first of pods of so many levels

@@ -23,10 +23,12 @@ use Rattle.spa_bodies.specs.Refusing.{Says, StandsInBody}
 use Rattle.spa_bodies.proofs.Refusals.{at_front_of, says_through}
 use Rattle.spa_bodies.proofs.Steps.{pod_read}
 use Rattle.spa_scan.specs.Depth.{depth_of}
-use Rattle.spa_rewrite.specs.Look.{AreCanonicalInside, StandsInside, StopsAt}
-use Rattle.spa_rewrite.specs.Inside.{IsBehindKey}
+use Rattle.spa_rewrite.specs.Look.{AreCanonicalInside, StopsAt}
+use Rattle.spa_rewrite.specs.Inside.{IsBehindKey, key_size}
+use Rattle.spa_rewrite.specs.Offsets.{StandsAt, at_key, at_pod, from_properties, scope_of}
 use Rattle.spa_rewrite.proofs.Bodies.{fewer, listed}
-use Rattle.spa_rewrite.proofs.Looks.{first_own, stands_first}
+use Rattle.spa_rewrite.proofs.Looks.{Awaits, first_own, stands_first}
+use Rattle.spa_rewrite.proofs.Offsets.{key_long, offset_first}
 use Rattle.spa_rewrite.proofs.LeafBodies.{leaf_depth, some_key}
 use Rattle.spa_rewrite.proofs.SameLength.{array_same_length}
 
@@ -55,11 +57,16 @@ leaf_there here body rest type o s l n = record {
 }
 
 -- where a look stops
-pub stops_first : (keyed : Bool) (left here : List ℕ) → IsBytes left → IsBehindKey keyed left here → 0 < length left → IsFaulted here → StopsAt keyed left here
+pub stops_first : (keyed : Bool) (left here : List ℕ) → IsBytes left → IsBehindKey keyed left here → 0 < length left → IsFaulted here → StopsAt keyed left here 0
 stops_first keyed left here h k l f = record {
   refused = f.refused;
   alone = f.alone;
   stands = λ c s. stands_first keyed left here c here k l (at_front here refl s);
+  room = (let e = key_long keyed left here k in omega arith);
+  offset = λ c s.
+      let e = key_long keyed left here k in
+      let same : key_size keyed + 0 ≡ length left - (length here + 0) = omega arith in
+      subst (λ m. StandsAt c (scope_of keyed) m left) same (offset_first keyed left here c 0 l k (at_pod here s));
   other = λ c. let first = (first_own keyed left here (rest_of here) h l k refl c).first in f.refused first.value first.begins.begins;
 }
 
@@ -71,7 +78,7 @@ only_short b InvalidChoiceType l s = absurd (let h = s.0.header in omega arith)
 only_short b MissingChoiceValues l s = absurd (let h = s.0.header in omega arith)
 only_short b WrongSize l s = absurd (let h = s.0.header in omega arith)
 
-pub stops_key : (keyed : Bool) (left : List ℕ) → keyed ≡ true → length left < header_size → 0 < length left → StopsAt keyed left left
+pub stops_key : (keyed : Bool) (left : List ℕ) → keyed ≡ true → length left < header_size → 0 < length left → StopsAt keyed left left 0
 stops_key false left e l some = absurd (let t : false ≡ true = e in cc)
 stops_key true left e l some =
     let f = short_there left (λ h. let k = h.header in omega arith) in
@@ -79,13 +86,28 @@ stops_key true left e l some =
       refused = f.refused;
       alone = f.alone;
       stands = λ c s. (no_properties, [], left, refl, refl, inl (only_short left c l s, refl, (λ n. let z = ap length n in omega arith), l));
+      room = omega arith;
+      offset = λ c s.
+          let same : 0 ≡ length left - (length left + 0) = omega arith in
+          subst (λ m. StandsAt c from_properties m left) same (at_key left (λ n. let z = ap length n in omega arith) l (only_short left c l s));
       other = some_key left l some;
     }
 
-pub stops_in : (keyed all : Bool) (left pods place : List ℕ) → ((k : Fault) (at : List ℕ) → StandsInside keyed left at k → StandsInside all pods at k) →
-    (AreCanonicalInside all pods → AreCanonicalInside keyed left) → StopsAt keyed left place → StopsAt all pods place
-stops_in keyed all left pods place f g s =
-    record { refused = s.refused; alone = s.alone; stands = λ k a. f k place (s.stands k a); other = λ t. s.other (g t) }
+pub stops_in : (asked all keyed canonical : Bool) (pods left place : List ℕ) (Then : Bool → ℕ → Type 0) (waiting behind surplus : ℕ) →
+    Awaits asked all pods Then waiting keyed left behind canonical surplus → StopsAt keyed left place 0 → StopsAt all pods place behind
+stops_in asked all keyed canonical pods left place Then waiting behind surplus w s =
+    let a = w.room in
+    let b = s.room in
+    record {
+      refused = s.refused;
+      alone = s.alone;
+      stands = λ k x. w.stands k place (s.stands k x);
+      room = omega arith;
+      offset = λ k x.
+          let e : length pods - (length left + behind) + (length left - (length place + 0)) ≡ length pods - (length place + behind) = omega arith in
+          subst (λ m. StandsAt k (scope_of all) m pods) e (w.offset k (length left - (length place + 0)) (s.offset k x));
+      other = λ t. s.other (w.kept t);
+    }
 
 -- what is known of the body at such a place
 pub record IsFaultyBody (type : ℕ) (body : List ℕ) : Type 0 where

@@ -54,5 +54,5 @@ is_refusal input place refusal.OutOfMemory h a = lacks input place refusal.OutOf
 
 -- what the look at all pods rejects isn't written
 pub unwritten : (pods left : List ℕ) (r : Rejected) → IsLeft pods left → IsRejected left r → AreUnwritten pods left r
-unwritten pods left (rejected.Fault place why) l s = (l, s)
+unwritten pods left (rejected.Fault place at why) l s = (l, s)
 unwritten pods left rejected.TooDeep l s = inr (left, l, s)

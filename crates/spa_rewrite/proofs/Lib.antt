@@ -13,6 +13,7 @@ pub mod ShorterLemmas
 pub mod FirstPods
 pub mod Levels
 pub mod Looks
+pub mod Offsets
 pub mod Faulted
 pub mod Accepted
 pub mod Lacking

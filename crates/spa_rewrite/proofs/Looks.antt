@@ -9,6 +9,7 @@ use Rattle.spa_format.specs.Front.{HasFront, front_of, rest_of}
 use Rattle.spa_format.specs.Faults.{Fault, Stands, in_member, in_key, in_property}
 use Rattle.spa_format.specs.Typed.{IsBytes}
 use Rattle.spa_format.proofs.Fronts.{length-body_of}
+use Rattle.spa_format.proofs.Short.{padded_above}
 use Rattle.spa_format.proofs.Sequences.{props_joined}
 use Rattle.spa_format.proofs.WordLemmas.{IsBytes-drop, word_at-append}
 use Rattle.spa_bytes.specs.Opening.{Opens}
@@ -18,11 +19,13 @@ use Rattle.spa_scan.specs.Canonical.{AreCanonical, AreCanonicalProperties, Begin
 use Rattle.spa_scan.proofs.Frames.{body_bytes, canonical_front, none_left, none_left_either, object_of, one_more, one_more_property}
 use Rattle.spa_scan.proofs.Made.{made_body, made_members, made_properties}
 use Rattle.spa_scan.proofs.Opened.{object_inside, struct_inside}
-use Rattle.spa_rewrite.specs.Look.{AreLooked, DifferInside, NestMore, OpensInside, Passes, StandsInside, StopsAt, nest_behind, nest_inside, nest_last}
+use Rattle.spa_rewrite.specs.Look.{AreLooked, DifferInside, NestMore, OpensInside, Passes, StandsInside, StopsAt, Surround, nest_behind, nest_inside, nest_last}
 use Rattle.spa_rewrite.specs.Look.{AreCanonicalInside}
 use Rattle.spa_rewrite.specs.Shorter.{AreShorterInside, BeginsShorter}
-use Rattle.spa_rewrite.specs.Inside.{IsBehindKey, IsInside}
-use Rattle.spa_rewrite.specs.declared.inside.Inside.{Inside}
+use Rattle.spa_rewrite.specs.Inside.{IsBehindKey, IsInside, key_size}
+use Rattle.spa_rewrite.specs.Offsets.{StandsAt, scope_of}
+use Rattle.spa_rewrite.specs.declared.look.Waiting.{Waiting}
+use Rattle.spa_rewrite.proofs.Offsets.{body_long, key_long, offset_behind, offset_first, offset_opened}
 use Rattle.spa_rewrite.proofs.ShorterLemmas.{shorter_inside, shorter_none, shorter_opened, shorter_room, shorter_step, whole_keyed, whole_list}
 use Rattle.spa_rewrite.proofs.LeafBodies.{never}
 use Rattle.spa_rewrite.proofs.Rewritten.{parted}
@@ -135,6 +138,7 @@ passes_none keyed canonical left h = record {
   own = λ e c. c;
   kept = λ c. c;
   stands = λ k place s. s;
+  offset = λ k n s. (let e : n ≡ length left - length left + n = omega arith in subst (λ m. StandsAt k (scope_of keyed) m left) e s);
   deep = λ n d. d;
   bytes = h;
   room = omega arith;
@@ -151,6 +155,9 @@ passes_more keyed canonical pods left rest n m p q =
       own = λ e c. p.own e (q.own e c);
       kept = λ c. q.kept (p.kept c);
       stands = λ k place s. p.stands k place (q.stands k place s);
+      offset = λ k at s.
+          let e : length pods - length left + (length left - length rest + at) ≡ length pods - length rest + at = omega arith in
+          subst (λ m'. StandsAt k (scope_of keyed) m' pods) e (p.offset k (length left - length rest + at) (q.offset k at s));
       deep = λ n d. p.deep n (q.deep n d);
       bytes = q.bytes;
       room = omega arith;
@@ -168,6 +175,7 @@ passes_pod keyed canonical left here rest n h l k b c =
       own = λ t s. own_step keyed left here rest h k (c t) s;
       kept = λ s. (first_own keyed left here rest h l k e s).others;
       stands = λ f place s. stands_behind keyed left here rest b.value f place k b.begins s;
+      offset = λ f at s. offset_behind keyed left here rest b.value f at k b.begins s;
       deep = λ m s. nest_behind m keyed left here k b.begins.begins.there (subst (NestMore m keyed) e s);
       bytes = rest_bytes here rest (behind_bytes keyed left here h k) e;
       room = omega arith;
@@ -186,25 +194,28 @@ abbrev pub AreOther : Bool → Bool → List ℕ → Type 0
 AreOther asked all pods = asked ≡ true → ¬ (AreCanonicalInside all pods)
 
 -- What is found further on holds of all: of what is left, once that is accepted and shorter by so much, the rest follows.
-pub record Awaits (asked all : Bool) (pods : List ℕ) (Then : Bool → ℕ → Type 0) (waiting : ℕ) (keyed : Bool) (left : List ℕ) (canonical : Bool) (surplus : ℕ) : Type 0 where
+pub record Awaits (asked all : Bool) (pods : List ℕ) (Then : Bool → ℕ → Type 0) (waiting : ℕ) (keyed : Bool) (left : List ℕ) (behind : ℕ) (canonical : Bool) (surplus : ℕ) :
+    Type 0 where
   pub bytes : IsBytes left
   pub ends : (m : ℕ) (c : Bool) → (c ≡ true → canonical ≡ true) → (c ≡ false → AreOther asked all pods) →
       AreShorterInside keyed left m → (c ≡ true → AreCanonicalInside keyed left) → Then c (surplus + m)
   pub differs : canonical ≡ false → AreOther asked all pods
   pub kept : AreCanonicalInside all pods → AreCanonicalInside keyed left
   pub stands : (k : Fault) (place : List ℕ) → StandsInside keyed left place k → StandsInside all pods place k
+  pub room : length left + behind ≤ length pods
+  pub offset : (k : Fault) (at : ℕ) → StandsAt k (scope_of keyed) at left → StandsAt k (scope_of all) (length pods - (length left + behind) + at) pods
   pub deep : (n : ℕ) → NestMore n keyed left → NestMore (n + waiting) all pods
 
 -- what holds once the innermost list ends, where these wait, the innermost first
-abbrev pub Onward : Bool → Bool → List ℕ → List Inside → Bool → ℕ → Type 0
+abbrev pub Onward : Bool → Bool → List ℕ → List Waiting → Bool → ℕ → Type 0
 Onward asked all pods [] = AreLooked asked all pods
-Onward asked all pods (next ∷ outer) = Awaits asked all pods (Onward asked all pods outer) (length outer) next.keyed next.pods.now
+Onward asked all pods (next ∷ outer) = Awaits asked all pods (Onward asked all pods outer) (length outer) next.keyed next.pods.now next.behind
 
 -- these wait, and this is left of the innermost list
-abbrev pub AwaitsAll : Bool → Bool → List ℕ → List Inside → Bool → List ℕ → Bool → ℕ → Type 0
+abbrev pub AwaitsAll : Bool → Bool → List ℕ → List Waiting → Bool → List ℕ → ℕ → Bool → ℕ → Type 0
 AwaitsAll asked all pods outer = Awaits asked all pods (Onward asked all pods outer) (length outer)
 
-pub begins_look : (asked all : Bool) (pods : List ℕ) → IsBytes pods → AwaitsAll asked all pods [] all pods asked 0
+pub begins_look : (asked all : Bool) (pods : List ℕ) → IsBytes pods → AwaitsAll asked all pods [] all pods 0 asked 0
 begins_look asked all pods h = record {
   bytes = h;
   ends = λ m c o d s own. record {
@@ -215,6 +226,8 @@ begins_look asked all pods h = record {
   differs = λ e a. absurd (never asked a e);
   kept = λ c. c;
   stands = λ k place s. s;
+  room = omega arith;
+  offset = λ k n s. (let e : n ≡ length pods - (length pods + 0) + n = omega arith in subst (λ m. StandsAt k (scope_of all) m pods) e s);
   deep = λ n d. subst (λ x. NestMore x all pods) (let e : n ≡ n + 0 = omega arith in e) d;
 }
   where
@@ -227,10 +240,10 @@ begins_look asked all pods h = record {
     stays_unasked false o e = refl
 
 -- accepted pods are passed
-pub goes_on : (asked all keyed canonical own now : Bool) (pods left rest : List ℕ) (Then : Bool → ℕ → Type 0) (waiting surplus n : ℕ) →
-    Awaits asked all pods Then waiting keyed left canonical surplus → Passes keyed own left rest n → (now ≡ true → canonical ≡ true) → (now ≡ true → own ≡ true) →
-    (now ≡ false → AreOther asked all pods) → Awaits asked all pods Then waiting keyed rest now (surplus + n)
-goes_on asked all keyed canonical own now pods left rest Then waiting surplus n w p c o d = record {
+pub goes_on : (asked all keyed canonical own now : Bool) (pods left rest : List ℕ) (Then : Bool → ℕ → Type 0) (waiting behind surplus n : ℕ) →
+    Awaits asked all pods Then waiting keyed left behind canonical surplus → Passes keyed own left rest n → (now ≡ true → canonical ≡ true) →
+    (now ≡ true → own ≡ true) → (now ≡ false → AreOther asked all pods) → Awaits asked all pods Then waiting keyed rest behind now (surplus + n)
+goes_on asked all keyed canonical own now pods left rest Then waiting behind surplus n w p c o d = record {
   bytes = p.bytes;
   ends = λ m f t x s k.
       subst (Then f) (let e : surplus + (n + m) ≡ surplus + n + m = omega arith in e)
@@ -238,14 +251,21 @@ goes_on asked all keyed canonical own now pods left rest Then waiting surplus n 
   differs = d;
   kept = λ k. p.kept (w.kept k);
   stands = λ k place s. w.stands k place (p.stands k place s);
+  room = (let a = w.room in let b = p.room in omega arith);
+  offset = λ k at s.
+      let a = w.room in
+      let b = p.room in
+      let e : length pods - (length left + behind) + (length left - length rest + at) ≡ length pods - (length rest + behind) + at = omega arith in
+      subst (λ m. StandsAt k (scope_of all) m pods) e (w.offset k (length left - length rest + at) (p.offset k at s));
   deep = λ m s. w.deep m (p.deep m s);
 }
 
 -- such that all are of the same kind as before
-pub goes_on_alike : (asked all keyed canonical : Bool) (pods left rest : List ℕ) (Then : Bool → ℕ → Type 0) (waiting surplus n : ℕ) →
-    Awaits asked all pods Then waiting keyed left canonical surplus → Passes keyed canonical left rest n → Awaits asked all pods Then waiting keyed rest canonical (surplus + n)
-goes_on_alike asked all keyed canonical pods left rest Then waiting surplus n w p =
-    goes_on asked all keyed canonical canonical canonical pods left rest Then waiting surplus n w p (λ e. e) (λ e. e) w.differs
+pub goes_on_alike : (asked all keyed canonical : Bool) (pods left rest : List ℕ) (Then : Bool → ℕ → Type 0) (waiting behind surplus n : ℕ) →
+    Awaits asked all pods Then waiting keyed left behind canonical surplus → Passes keyed canonical left rest n →
+    Awaits asked all pods Then waiting keyed rest behind canonical (surplus + n)
+goes_on_alike asked all keyed canonical pods left rest Then waiting behind surplus n w p =
+    goes_on asked all keyed canonical canonical canonical pods left rest Then waiting behind surplus n w p (λ e. e) (λ e. e) w.differs
 
 inside_bytes : (type : ℕ) (body inside : List ℕ) (inner : Bool) → IsBytes body → IsInside type body inner inside → IsBytes inside
 inside_bytes type body inside true h i = subst IsBytes (sym i.2) (IsBytes-drop header_size body h)
@@ -289,11 +309,11 @@ inside_own type here body rest behind inside false h o i c =
     subst AreCanonical (sym i.1) (struct_inside type body i.0 m.canonical)
 
 -- a struct or an object is opened
-opened : (asked all keyed inner canonical : Bool) (pods left inside rest : List ℕ) (Then : Bool → ℕ → Type 0) (waiting more surplus : ℕ) →
-    Awaits asked all pods Then waiting keyed left canonical surplus → OpensInside keyed left inner inside rest →
+opened : (asked all keyed inner canonical : Bool) (pods left inside rest : List ℕ) (Then : Bool → ℕ → Type 0) (waiting more behind after surplus : ℕ) →
+    Awaits asked all pods Then waiting keyed left behind canonical surplus → OpensInside keyed left inner inside rest → Surround keyed left inner inside after →
     ((n : ℕ) → NestMore n inner inside → NestMore (n + more) all pods) →
-    Awaits asked all pods (Awaits asked all pods Then waiting keyed rest) more inner inside canonical surplus
-opened asked all keyed inner canonical pods left inside rest Then waiting more surplus w x deeper =
+    Awaits asked all pods (Awaits asked all pods Then waiting keyed rest behind) more inner inside (behind + after) canonical surplus
+opened asked all keyed inner canonical pods left inside rest Then waiting more behind after surplus w x long deeper =
     let at = x.here in
     let o = x.opens in
     let i = x.its_inside in
@@ -303,21 +323,28 @@ opened asked all keyed inner canonical pods left inside rest Then waiting more s
       bytes = inside_bytes x.type x.body inside inner (body_bytes at x.body rest x.type h o) i;
       ends = λ m c t d s own.
           let one = shorter_opened at x.body rest x.type m o (shorter_inside x.type x.body inside inner m i s) in
-          goes_on asked all keyed canonical c c pods left rest Then waiting surplus m w
+          goes_on asked all keyed canonical c c pods left rest Then waiting behind surplus m w
           (passes_pod keyed c left at rest m w.bytes some x.its_key one (λ e. own_opened x.type at x.body rest inside inner h o i (own e)))
           t (λ e. e) d;
       differs = w.differs;
       kept = λ c. inside_own x.type at x.body rest rest inside inner h o i (first_own keyed left at rest w.bytes some x.its_key o.its_rest (w.kept c)).first;
       stands = λ f place s. w.stands f place (stands_first keyed left at f place x.its_key some (stands_opened x.type at x.body rest inside inner f place o i s));
+      room = (let a = w.room in omega arith);
+      offset = λ f n s.
+          let a = w.room in
+          let head = header_size + (key_size inner + n) in
+          let e : length pods - (length left + behind) + (key_size keyed + head) ≡ length pods - (length inside + (behind + after)) + n = omega arith in
+          subst (λ m. StandsAt f (scope_of all) m pods) e
+          (w.offset f (key_size keyed + head) (offset_first keyed left at f head some x.its_key (offset_opened x.type at x.body rest inside inner f n o i s)));
       deep = deeper;
     }
 
 -- what follows it waits
-pub goes_in : (asked all keyed inner canonical : Bool) (pods left inside rest : List ℕ) (Then : Bool → ℕ → Type 0) (waiting surplus : ℕ) →
-    Awaits asked all pods Then waiting keyed left canonical surplus → OpensInside keyed left inner inside rest → rest ≢ [] →
-    Awaits asked all pods (Awaits asked all pods Then waiting keyed rest) (suc waiting) inner inside canonical surplus
-goes_in asked all keyed inner canonical pods left inside rest Then waiting surplus w x r =
-    opened asked all keyed inner canonical pods left inside rest Then waiting (suc waiting) surplus w x (λ n d.
+pub goes_in : (asked all keyed inner canonical : Bool) (pods left inside rest : List ℕ) (Then : Bool → ℕ → Type 0) (waiting behind after surplus : ℕ) →
+    Awaits asked all pods Then waiting keyed left behind canonical surplus → OpensInside keyed left inner inside rest → Surround keyed left inner inside after →
+    rest ≢ [] → Awaits asked all pods (Awaits asked all pods Then waiting keyed rest behind) (suc waiting) inner inside (behind + after) canonical surplus
+goes_in asked all keyed inner canonical pods left inside rest Then waiting behind after surplus w x long r =
+    opened asked all keyed inner canonical pods left inside rest Then waiting (suc waiting) behind after surplus w x long (λ n d.
     subst (λ m. NestMore m all pods) (let e : suc n + waiting ≡ n + suc waiting = omega arith in e) (w.deep (suc n) (nest_inside n keyed inner left inside rest x r d)))
 
 none_own : (keyed : Bool) (left : List ℕ) → length left ≡ 0 → AreCanonicalInside keyed left
@@ -325,41 +352,44 @@ none_own true left z = none_left_either left z
 none_own false left z = none_left left z
 
 -- the innermost list has ended
-pub list_ends : (asked all keyed canonical : Bool) (pods left : List ℕ) (Then : Bool → ℕ → Type 0) (waiting surplus : ℕ) →
-    Awaits asked all pods Then waiting keyed left canonical surplus → length left ≡ 0 → Then canonical surplus
-list_ends asked all keyed canonical pods left Then waiting surplus w z =
+pub list_ends : (asked all keyed canonical : Bool) (pods left : List ℕ) (Then : Bool → ℕ → Type 0) (waiting behind surplus : ℕ) →
+    Awaits asked all pods Then waiting keyed left behind canonical surplus → length left ≡ 0 → Then canonical surplus
+list_ends asked all keyed canonical pods left Then waiting behind surplus w z =
     subst (Then canonical) (let e : surplus + 0 ≡ surplus = omega arith in e)
     (w.ends 0 canonical (λ e. e) w.differs (shorter_none keyed left z) (λ _. none_own keyed left z))
 
 -- nothing follows it
-pub goes_in_last : (asked all keyed inner canonical : Bool) (pods left inside rest : List ℕ) (Then : Bool → ℕ → Type 0) (waiting surplus : ℕ) →
-    Awaits asked all pods Then waiting keyed left canonical surplus → OpensInside keyed left inner inside rest → length rest ≡ 0 →
-    Awaits asked all pods Then waiting inner inside canonical surplus
-goes_in_last asked all keyed inner canonical pods left inside rest Then waiting surplus w x z =
+pub goes_in_last : (asked all keyed inner canonical : Bool) (pods left inside rest : List ℕ) (Then : Bool → ℕ → Type 0) (waiting behind after surplus : ℕ) →
+    Awaits asked all pods Then waiting keyed left behind canonical surplus → OpensInside keyed left inner inside rest → Surround keyed left inner inside after →
+    length rest ≡ 0 → Awaits asked all pods Then waiting inner inside (behind + after) canonical surplus
+goes_in_last asked all keyed inner canonical pods left inside rest Then waiting behind after surplus w x long z =
     let r = nil_from_length rest z in
-    let n = opened asked all keyed inner canonical pods left inside rest Then waiting waiting surplus w x (λ m d. w.deep m (nest_last m keyed inner left inside rest x r d)) in
+    let n = opened asked all keyed inner canonical pods left inside rest Then waiting waiting behind after surplus w x long
+    (λ m d. w.deep m (nest_last m keyed inner left inside rest x r d)) in
     record {
       bytes = n.bytes;
-      ends = λ m c t d s own. list_ends asked all keyed c pods rest Then waiting (surplus + m) (n.ends m c t d s own) z;
+      ends = λ m c t d s own. list_ends asked all keyed c pods rest Then waiting behind (surplus + m) (n.ends m c t d s own) z;
       differs = n.differs;
       kept = n.kept;
       stands = n.stands;
+      room = n.room;
+      offset = n.offset;
       deep = n.deep;
     }
 
 -- how much is left in those that wait
-abbrev pub left_waiting : List Inside → ℕ
+abbrev pub left_waiting : List Waiting → ℕ
 left_waiting [] = 0
 left_waiting (next ∷ outer) = left_waiting outer + (length next.pods.now + 1)
 
 -- a list more waits
-pub pushed : (frames new : List Inside) (waiting : ℕ) (next : Inside) → new ≡ set frames waiting next → waiting < length frames →
+pub pushed : (frames new : List Waiting) (waiting : ℕ) (next : Waiting) → new ≡ set frames waiting next → waiting < length frames →
     reverse (take (waiting + 1) new) ≡ next ∷ reverse (take waiting frames)
 pushed frames new waiting next e l =
     ap (λ x. reverse (take (waiting + 1) x)) e ∙ ap reverse (take_more_set frames waiting next l) ∙ reverse-append (take waiting frames) (next ∷ [])
 
 -- one less
-pub popped : (frames : List Inside) (waiting fewer : ℕ) (other : Inside) → fewer + 1 ≡ waiting → fewer < length frames →
+pub popped : (frames : List Waiting) (waiting fewer : ℕ) (other : Waiting) → fewer + 1 ≡ waiting → fewer < length frames →
     reverse (take waiting frames) ≡ get_or frames fewer other ∷ reverse (take fewer frames)
 popped frames waiting fewer other e l =
     ap (λ n. reverse (take n frames)) (sym e) ∙ ap reverse (take_more frames fewer other l) ∙ reverse-append (take fewer frames) (get_or frames fewer other ∷ [])
@@ -385,6 +415,17 @@ pub opens_inside : (keyed inner : Bool) (left at body rest inside : List ℕ) (t
     IsInside type body inner inside → OpensInside keyed left inner inside rest
 opens_inside keyed inner left at body rest inside type k o i = record { here = at; type = type; body = body; its_key = k; opens = o; its_inside = i }
 
+-- and how many bytes stand behind what is inside
+pub surround : (keyed inner : Bool) (left at body rest inside : List ℕ) (type after : ℕ) → IsBehindKey keyed left at → Opens at type body rest →
+    IsInside type body inner inside → after ≡ length at - header_size - length body → Surround keyed left inner inside after
+surround keyed inner left at body rest inside type after k o i e =
+    let a = key_long keyed left at k in
+    let b = body_long type body inside inner i in
+    let c = ap length o.its_body ∙ length-body_of at o.there in
+    let d = padded_above (word_at at 0) in
+    let w = o.there.whole in
+    omega arith
+
 -- first pods were passed, and nothing is left
 pub passed_all : (asked keyed : Bool) (pods left : List ℕ) (n : ℕ) → Passes keyed asked pods left n → length left ≡ 0 → AreLooked asked keyed pods asked n
 passed_all asked keyed pods left n p z = record {
@@ -406,6 +447,18 @@ pub differ_behind : (ends asked keyed : Bool) (pods left : List ℕ) (n : ℕ) �
     DifferInside ends asked keyed pods
 differ_behind ends asked keyed pods left n p d = record { allowed = d.allowed; canonical = λ a k. d.canonical a (p.kept k) }
 
-pub stops_behind : (asked keyed : Bool) (pods left place : List ℕ) (n : ℕ) → Passes keyed asked pods left n → StopsAt keyed left place → StopsAt keyed pods place
-stops_behind asked keyed pods left place n p s =
-    record { refused = s.refused; alone = s.alone; stands = λ k x. p.stands k place (s.stands k x); other = λ t. s.other (p.kept t) }
+pub stops_behind : (asked keyed : Bool) (pods left place : List ℕ) (behind n : ℕ) → Passes keyed asked pods left n → StopsAt keyed left place behind →
+    StopsAt keyed pods place behind
+stops_behind asked keyed pods left place behind n p s =
+    let a = p.room in
+    let b = s.room in
+    record {
+      refused = s.refused;
+      alone = s.alone;
+      stands = λ k x. p.stands k place (s.stands k x);
+      room = omega arith;
+      offset = λ k x.
+          let e : length pods - length left + (length left - (length place + behind)) ≡ length pods - (length place + behind) = omega arith in
+          subst (λ m. StandsAt k (scope_of keyed) m pods) e (p.offset k (length left - (length place + behind)) (s.offset k x));
+      other = λ t. s.other (p.kept t);
+    }

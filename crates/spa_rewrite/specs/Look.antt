@@ -1,15 +1,17 @@
 -- What a look at pods finds: docs/FORMAT.md, "The encoding of a value", "Faults" and "Values".
-use Rattle.std.specs.Prelude.{◌≡◌, ◌≢◌, ◌+◌, ◌<◌, ◌≤◌, ◌⊎◌, ℕ, suc, List, [], length, drop, take, Bool, true, false, Decides}
+use Rattle.std.specs.Prelude.{◌≡◌, ◌≢◌, ◌+◌, ◌-◌, ◌<◌, ◌≤◌, ◌⊎◌, ℕ, suc, List, [], length, drop, take, Bool, true, false, Decides}
 use Rattle.spa_format.specs.Front.{HasFront, IsRefused, rest_of}
-use Rattle.spa_format.specs.Faults.{Fault, Stands, StandsAtFront}
+use Rattle.spa_format.specs.Words.{header_size}
+use Rattle.spa_format.specs.Faults.{Fault, StandsAtFront}
 use Rattle.spa_format.specs.Opened.{OpensHeaderAlone}
 use Rattle.spa_format.specs.Typed.{IsBytes}
 use Rattle.spa_bytes.specs.Opening.{Opens}
-use Rattle.spa_bodies.specs.Refusing.{Says, StandsInMembers, StandsInProperties}
+use Rattle.spa_bodies.specs.Refusing.{StandsInMembers, StandsInProperties}
 use Rattle.spa_scan.specs.Canonical.{AreCanonical, AreCanonicalProperties, BeginsCanonical}
 use Rattle.spa_scan.specs.Depth.{NestsDeeper, levels_looked_into}
 use Rattle.spa_rewrite.specs.Shorter.{AreShorter, AreShorterInside, BeginsShorter}
-use Rattle.spa_rewrite.specs.Inside.{IsBehindKey, IsInside}
+use Rattle.spa_rewrite.specs.Inside.{IsBehindKey, IsInside, key_size}
+use Rattle.spa_rewrite.specs.Offsets.{IsFaultAt, StandsAt, scope_of}
 use Rattle.spa_rewrite.specs.declared.look.AcceptedPod.{AcceptedPod}
 use Rattle.spa_rewrite.specs.declared.look.AcceptedPods.{AcceptedPods}
 use Rattle.spa_rewrite.specs.declared.look.ChangedPods.{ChangedPods}
@@ -65,11 +67,14 @@ pub record AreLooked (asked keyed : Bool) (pods : List ℕ) (canonical : Bool) (
   pub exactly : asked ≡ true → Decides canonical (AreCanonicalInside keyed pods)
   pub unasked : asked ≡ false → canonical ≡ false
 
--- No pod begins there, for a fault that is in no member or property of it: a fault that stands at its front stands in them.
-pub record StopsAt (keyed : Bool) (pods place : List ℕ) : Type 0 where
+-- No pod begins at this place, which so many bytes of the pods follow, for a fault that is in no member or property of it: a fault that stands at its
+-- front stands in them.
+pub record StopsAt (keyed : Bool) (pods place : List ℕ) (behind : ℕ) : Type 0 where
   pub refused : IsRefused place
   pub alone : OpensHeaderAlone place
   pub stands : (k : Fault) → StandsAtFront k place → StandsInside keyed pods place k
+  pub room : length place + behind ≤ length pods
+  pub offset : (k : Fault) → StandsAtFront k place → StandsAt k (scope_of keyed) (length pods - (length place + behind)) pods
   pub other : ¬ (AreCanonicalInside keyed pods)
 
 -- Not all are canonical, if that is asked: a look that may end there does.
@@ -81,7 +86,7 @@ pub record DifferInside (ends asked keyed : Bool) (pods : List ℕ) : Type 0 whe
 abbrev pub IsFound : Bool → Bool → ℕ → Bool → List ℕ → Found → Type 0
 IsFound ends asked waiting keyed pods (found.Fits canonical surplus) = AreLooked asked keyed pods canonical surplus
 IsFound ends asked waiting keyed pods found.Differs = DifferInside ends asked keyed pods
-IsFound ends asked waiting keyed pods (found.Stops place) = StopsAt keyed pods place.now
+IsFound ends asked waiting keyed pods (found.Stops place behind) = StopsAt keyed pods place.now behind
 IsFound ends asked waiting keyed pods found.TooDeep = NestMore waiting keyed pods
 
 -- The first members or properties are accepted and were passed, and this follows them: what is found of it holds of all.
@@ -90,6 +95,7 @@ pub record Passes (keyed canonical : Bool) (left rest : List ℕ) (surplus : ℕ
   pub own : canonical ≡ true → AreCanonicalInside keyed rest → AreCanonicalInside keyed left
   pub kept : AreCanonicalInside keyed left → AreCanonicalInside keyed rest
   pub stands : (k : Fault) (place : List ℕ) → StandsInside keyed rest place k → StandsInside keyed left place k
+  pub offset : (k : Fault) (at : ℕ) → StandsAt k (scope_of keyed) at rest → StandsAt k (scope_of keyed) (length left - length rest + at) left
   pub deep : (n : ℕ) → NestMore n keyed rest → NestMore n keyed left
   pub bytes : IsBytes rest
   pub room : surplus + length rest ≤ length left
@@ -102,11 +108,16 @@ pub record AreMet (canonical keyed : Bool) (left rest : List ℕ) (are_all : Boo
   pub so_far : are_all ≡ true → canonical ≡ true
   pub differs : are_all ≡ false → (canonical ≡ false) ⊎ ¬ (AreCanonicalInside keyed left)
 
+-- keys and headers stand before what is inside the first of them, and so many bytes behind it
+abbrev pub Surround : Bool → List ℕ → Bool → List ℕ → ℕ → Type 0
+Surround keyed left inner inside behind = length left ≡ key_size keyed + (header_size + (key_size inner + (length inside + behind)))
+
 -- what stands first in members or properties
 abbrev pub IsMet : Bool → Bool → List ℕ → Met → Type 0
 IsMet canonical keyed left (met.Leaves rest are_all surplus) = AreMet canonical keyed left rest.now are_all surplus
-IsMet canonical keyed left (met.Inner inner rest) = OpensInside keyed left inner.keyed inner.pods.now rest.now
-IsMet canonical keyed left (met.Fault place) = StopsAt keyed left place.now
+IsMet canonical keyed left (met.Inner inner rest behind) =
+    OpensInside keyed left inner.keyed inner.pods.now rest.now × Surround keyed left inner.keyed inner.pods.now behind
+IsMet canonical keyed left (met.Fault place) = StopsAt keyed left place.now 0
 
 -- the pod at the front is accepted: what follows it, whether it is canonical, and by how much its encoding is shorter
 pub record IsAccepted (input : List ℕ) (pod : AcceptedPod) : Type 0 where
@@ -121,7 +132,7 @@ pub record IsAcceptedAsked (asked : Bool) (input : List ℕ) (pod : AcceptedPod)
 
 -- why it isn't: a fault that stands, or too many levels
 abbrev pub IsRejected : List ℕ → Rejected → Type 0
-IsRejected input (rejected.Fault place why) = Says (λ k. Stands k place.now input) ⊥ why
+IsRejected input (rejected.Fault place at why) = IsFaultAt input place.now at why
 IsRejected input rejected.TooDeep = IsTooDeep input
 
 -- all pods are accepted: so many first bytes are canonical pods, behind which no canonical pod begins, and the encodings are so much shorter

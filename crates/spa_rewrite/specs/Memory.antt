@@ -2,13 +2,12 @@
 use Rattle.std.specs.Prelude.{◌⊎◌, ℕ, List}
 use Rattle.std.specs.Borrow.{Bor}
 use Rattle.spa_fixed_sized.specs.declared.fault.DeserializeError.{DeserializeError}
-use Rattle.spa_format.specs.Faults.{Stands}
 use Rattle.spa_format.specs.Front.{Begins}
 use Rattle.spa_format.specs.Pod.{AreMembers}
 use Rattle.spa_format.specs.Tree.{Tree, Trees}
 use Rattle.spa_bodies.specs.Reading.{OnMemory}
-use Rattle.spa_bodies.specs.Refusing.{Says}
 use Rattle.spa_rewrite.specs.Look.{IsTooDeep}
+use Rattle.spa_rewrite.specs.Offsets.{IsFaultAt}
 use Rattle.spa_rewrite.specs.Rewriting.{IsLeft, RefusesFront}
 use Rattle.spa_rewrite.specs.declared.look.Rejected.{Rejected}
 use Rattle.spa_rewrite.specs.declared.look.Rejected.TheVariants as rejected
@@ -24,7 +23,7 @@ pub record IsRefusal (input : List ℕ) (e : DeserializeError (Bor (List ℕ))) 
 
 -- why the front isn't written by calls: a fault that stands, or it asks for memory
 abbrev pub IsUnwritten : List ℕ → Rejected → Type 0
-IsUnwritten input (rejected.Fault place why) = Says (λ k. Stands k place.now input) ⊥ why
+IsUnwritten input (rejected.Fault place at why) = IsFaultAt input place.now at why
 IsUnwritten input rejected.TooDeep = FrontAsksMemory input
 
 -- What memory is asked for: pods one after another, or one behind such pods that nests too deep to be looked into.
@@ -33,5 +32,5 @@ AsksMemory input = ((vs : Trees) × AreMembers vs input) ⊎ ((left : List ℕ) 
 
 -- why pods aren't written by calls: a fault stands in the one at the front of what is left, or they ask for memory
 abbrev pub AreUnwritten : List ℕ → List ℕ → Rejected → Type 0
-AreUnwritten pods left (rejected.Fault place why) = IsLeft pods left × Says (λ k. Stands k place.now left) ⊥ why
+AreUnwritten pods left (rejected.Fault place at why) = IsLeft pods left × IsFaultAt left place.now at why
 AreUnwritten pods left rejected.TooDeep = AsksMemory pods

@@ -4,8 +4,8 @@ ghost use Rattle.spa_format.specs.Front.{HasFront};
 ghost use Rattle.spa_scan.specs.Canonical.{AreCanonical, BeginsCanonical};
 ghost use Rattle.spa_scan.specs.Depth.{AreShallow, depth_of, levels_looked_into};
 
-use crate::inside::{Inside, inside_of};
-use crate::look::{FEW, Found, look_into};
+use crate::inside::inside_of;
+use crate::look::{Found, Waiting, few_frames, look_into};
 use spa_bytes::open;
 use spa_scan::leaf_front;
 
@@ -19,11 +19,7 @@ pub fn canonical_front(input: &[u8]) -> Option<&[u8]>
     ensures shorter { IfSome result (λ rest. length rest.now + 8 ≤ length input.now) }
     ensures missed { IfNone result ((rest : List ℕ) (c : BeginsCanonical input.now rest) → levels_looked_into < depth_of c.value) }
 {
-    let list = Inside {
-        keyed: false,
-        pods: input,
-    };
-    next_canonical(input, &mut [list; FEW])
+    next_canonical(input, &mut few_frames(input))
 }
 
 /// The first pods, as many as `canonical_front` finds to be canonical, and what follows them.
@@ -34,16 +30,15 @@ pub fn canonical_stretch(input: &[u8]) -> (&[u8], &[u8])
     // Nothing follows where the input is such pods that nest no deeper.
     ensures all { AreShallow levels_looked_into input.now → result.1.now ≡ [] }
 {
-    let list = Inside {
-        keyed: false,
-        pods: input,
-    };
-    canonical_pods(input, &mut [list; FEW])
+    canonical_pods(input, &mut few_frames(input))
 }
 
 /// Answers what `canonical_stretch` does, with an array in which lists can wait.
 #[inline(never)]
-pub(crate) fn canonical_pods<'a>(input: &'a [u8], frames: &mut [Inside<'a>]) -> (&'a [u8], &'a [u8])
+pub(crate) fn canonical_pods<'a>(
+    input: &'a [u8],
+    frames: &mut [Waiting<'a>],
+) -> (&'a [u8], &'a [u8])
     ensures parts { input.now ≡ result.0.now ++ result.1.now }
     ensures canonical { AreCanonical result.0.now }
     ensures front { 0 < length result.0.now → HasFront input.now }
@@ -58,7 +53,7 @@ pub(crate) fn canonical_pods<'a>(input: &'a [u8], frames: &mut [Inside<'a>]) -> 
 
 /// What follows the pod at the front as `canonical_front` says it, with an array in which lists can wait.
 #[inline(always)]
-fn next_canonical<'a>(input: &'a [u8], frames: &mut [Inside<'a>]) -> Option<&'a [u8]>
+fn next_canonical<'a>(input: &'a [u8], frames: &mut [Waiting<'a>]) -> Option<&'a [u8]>
     ensures taken { IfSome result (λ rest. BeginsCanonical input.now rest.now) }
     ensures shorter { IfSome result (λ rest. length rest.now + 8 ≤ length input.now) }
     ensures missed { IfNone result ((rest : List ℕ) (c : BeginsCanonical input.now rest) → levels_looked_into < depth_of c.value) }
@@ -80,7 +75,7 @@ fn next_canonical<'a>(input: &'a [u8], frames: &mut [Inside<'a>]) -> Option<&'a 
             None
         }
         Found::Differs => None,
-        Found::Stops(_) => None,
+        Found::Stops(_, _) => None,
         Found::TooDeep => None,
     }
 }

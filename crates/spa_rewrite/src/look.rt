@@ -59,8 +59,8 @@ pub struct ChangedPods {
 #[derive(Clone, Copy)]
 pub enum Rejected<'a> {
     /// It is malformed. The fault stands at the front of these bytes: what is left from there on of the input, or of the struct or object
-    /// inside which it stands.
-    Fault(&'a [u8], Refusal),
+    /// inside which it stands. The number is that place's offset in the pod.
+    Fault(&'a [u8], usize, Refusal),
     /// More than 1000 structs and objects stand in one another, not counting those in tail position.
     TooDeep,
 }
@@ -72,8 +72,8 @@ pub(crate) enum Found<'a> {
     Fits(bool, usize),
     /// The look ended at a pod that isn't canonical.
     Differs,
-    /// A fault stands at the front of these bytes.
-    Stops(&'a [u8]),
+    /// A fault stands at the front of these bytes, which so many follow of those that are looked at.
+    Stops(&'a [u8], usize),
     /// There is no room for one more list that waits.
     TooDeep,
 }
@@ -83,10 +83,37 @@ pub(crate) enum Found<'a> {
 enum Met<'a> {
     /// Accepted pods that hold no others: what follows them, whether all so far are canonical, and by how many bytes their encodings are shorter.
     Leaves(&'a [u8], bool, usize),
-    /// A struct or an object: what is inside, and what follows it.
-    Inner(Inside<'a>, &'a [u8]),
+    /// A struct or an object: what is inside, what follows it, and how many bytes stand behind what is inside, with the padding.
+    Inner(Inside<'a>, &'a [u8], usize),
     /// A fault stands at the front of these bytes.
     Fault(&'a [u8]),
+}
+
+/// What is left of a list while the look is inside of a pod in it.
+#[derive(Clone, Copy)]
+pub(crate) struct Waiting<'a> {
+    /// Whether a key and flags stand before each pod.
+    keyed: bool,
+    /// The pods that are left.
+    pods: &'a [u8],
+    /// How many bytes of those that are looked at follow them.
+    behind: usize,
+}
+
+/// The short array, in which no list waits yet.
+#[inline(always)]
+pub(crate) fn few_frames(pods: &[u8]) -> [Waiting<'_>; FEW] {
+    [none_waiting(pods); FEW]
+}
+
+/// An entry of an array in which no list waits.
+#[inline(always)]
+fn none_waiting(pods: &[u8]) -> Waiting<'_> {
+    Waiting {
+        keyed: false,
+        pods,
+        behind: 0,
+    }
 }
 
 /// How many lists can wait in the short array.
@@ -105,11 +132,7 @@ pub fn look_at_pod(input: &[u8]) -> Result<AcceptedPod<'_>, Rejected<'_>>
     // Each pod of so many levels is accepted.
     ensures missed { IfErr result (λ _. (v : Tree) → Begins input.now v → levels_looked_into < depth_of v) }
 {
-    let list = Inside {
-        keyed: false,
-        pods: input,
-    };
-    look_at_front(true, input, &mut [list; FEW])
+    look_at_front(true, input, &mut few_frames(input))
 }
 
 /// Looks at all pods that the input consists of. A refusal gives what is left of the input from the refused pod on.
@@ -122,8 +145,7 @@ pub fn look_at_pods(pods: &[u8]) -> Result<AcceptedPods, (&[u8], Rejected<'_>)>
     // Pods of so many levels are accepted.
     ensures missed { IfErr result (λ _. ¬ (ArePodsWithin levels_looked_into pods.now)) }
 {
-    let list = Inside { keyed: false, pods };
-    let mut frames = [list; FEW];
+    let mut frames = few_frames(pods);
     let mut left = pods;
     let mut all = true;
     let (mut canonical, mut surplus) = (0, 0);
@@ -179,8 +201,7 @@ fn look_for_changes(pods: &[u8]) -> Result<ChangedPods, (&[u8], Rejected<'_>)>
     ensures rejected { IfErr result (λ refusal. IsRejected refusal.0.now refusal.1) }
     ensures missed { IfErr result (λ _. ¬ (ArePodsWithin levels_looked_into pods.now)) }
 {
-    let list = Inside { keyed: false, pods };
-    let mut frames = [list; FEW];
+    let mut frames = few_frames(pods);
     let mut left = pods;
     let (mut others, mut tail) = (pods, pods);
     let mut surplus = 0;
@@ -283,7 +304,7 @@ fn canonical_len(canonical: usize, are_all: bool, end: usize) -> usize
 pub(crate) fn look_at_front<'a>(
     canonical: bool,
     input: &'a [u8],
-    frames: &mut [Inside<'a>],
+    frames: &mut [Waiting<'a>],
 ) -> Result<AcceptedPod<'a>, Rejected<'a>>
     ensures accepted { IfOk result (IsAcceptedAsked canonical input.now) }
     ensures rejected { IfErr result (IsRejected input.now) }
@@ -296,11 +317,11 @@ pub(crate) fn look_at_front<'a>(
         });
     }
     let Some(front) = open(input) else {
-        return Err(Rejected::Fault(input, Refusal::Short));
+        return Err(Rejected::Fault(input, 0, Refusal::Short));
     };
     let Some(inside) = inside_of(front.type_, front.body) else {
         let Some(surplus) = leaf_surplus(front.type_, front.body) else {
-            return Err(Rejected::Fault(input, fault(input)));
+            return Err(Rejected::Fault(input, 0, fault(input)));
         };
         return Ok(AcceptedPod {
             rest: front.rest,
@@ -315,7 +336,10 @@ pub(crate) fn look_at_front<'a>(
             surplus,
         }),
         Found::Differs => unreachable!(),
-        Found::Stops(place) => Err(Rejected::Fault(place, fault(place))),
+        Found::Stops(place, behind) => {
+            let at = HEADER_LEN + front.body.len() - (place.len() + behind);
+            Err(Rejected::Fault(place, at, fault(place)))
+        }
         Found::TooDeep => Err(Rejected::TooDeep),
     }
 }
@@ -340,7 +364,7 @@ pub(crate) fn look_into<'a>(
     keyed: bool,
     canonical: bool,
     pods: &'a [u8],
-    frames: &mut [Inside<'a>],
+    frames: &mut [Waiting<'a>],
 ) -> Found<'a>
     ensures { IsFound ends canonical levels_looked_into keyed pods.now result }
 {
@@ -351,7 +375,7 @@ pub(crate) fn look_into<'a>(
     match look_inside(ends, keyed, canonical, left, frames) {
         Found::Fits(canonical, more) => Found::Fits(canonical, surplus + more),
         Found::Differs => Found::Differs,
-        Found::Stops(place) => Found::Stops(place),
+        Found::Stops(place, behind) => Found::Stops(place, behind),
         Found::TooDeep => look_deep(ends, keyed, canonical, pods),
     }
 }
@@ -367,7 +391,7 @@ fn look_deep(ends: bool, keyed: bool, canonical: bool, pods: &[u8]) -> Found<'_>
         keyed,
         canonical,
         pods,
-        &mut [Inside { keyed, pods }; MANY],
+        &mut [none_waiting(pods); MANY],
     )
 }
 
@@ -378,11 +402,11 @@ fn look_inside<'a>(
     are_keyed: bool,
     are_canonical: bool,
     pods: &'a [u8],
-    frames: &mut [Inside<'a>],
+    frames: &mut [Waiting<'a>],
 ) -> Found<'a>
     ensures { IsFound ends are_canonical (length frames.old) are_keyed pods.now result }
 {
-    let (mut waiting, mut surplus) = (0, 0);
+    let (mut waiting, mut surplus, mut behind) = (0, 0, 0);
     let (mut keyed, mut canonical) = (are_keyed, are_canonical);
     let mut left = pods;
     loop {
@@ -394,6 +418,7 @@ fn look_inside<'a>(
             let outer = frames[waiting];
             keyed = outer.keyed;
             left = outer.pods;
+            behind = outer.behind;
             continue;
         }
         match meet(keyed, canonical, left) {
@@ -405,21 +430,28 @@ fn look_inside<'a>(
                 surplus += more;
                 left = rest;
             }
-            Met::Inner(inner, rest) => {
+            Met::Inner(inner, rest, more) => {
+                let inner_behind = behind + more;
                 if rest.is_empty() {
                     keyed = inner.keyed;
                     left = inner.pods;
+                    behind = inner_behind;
                     continue;
                 }
                 if waiting >= frames.len() {
                     return Found::TooDeep;
                 }
-                frames[waiting] = Inside { keyed, pods: rest };
+                frames[waiting] = Waiting {
+                    keyed,
+                    pods: rest,
+                    behind,
+                };
                 waiting += 1;
                 keyed = inner.keyed;
                 left = inner.pods;
+                behind = inner_behind;
             }
-            Met::Fault(place) => return Found::Stops(place),
+            Met::Fault(place) => return Found::Stops(place, behind),
         }
     }
 }
@@ -444,7 +476,8 @@ fn meet(keyed: bool, canonical: bool, left: &[u8]) -> Met<'_>
         return Met::Fault(here);
     };
     if let Some(inner) = inside_of(front.type_, front.body) {
-        return Met::Inner(inner, front.rest);
+        let behind = here.len() - HEADER_LEN - front.body.len();
+        return Met::Inner(inner, front.rest, behind);
     }
     match rare_surplus(front.type_, front.body) {
         Some(surplus) => Met::Leaves(front.rest, stays_canonical(canonical, here), surplus),

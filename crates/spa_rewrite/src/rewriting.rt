@@ -20,11 +20,11 @@ ghost use Rattle.spa_scan.specs.Canonical.{AreCanonical, IsStretch};
 ghost use Rattle.spa_scan.specs.Depth.{depth_of, levels_looked_into};
 ghost use Rattle.spa_value.specs.View.{view};
 
-use crate::inside::{Inside, inside_of};
+use crate::inside::inside_of;
 use crate::leading::{canonical_pods, canonical_stretch};
 use crate::look::{
-    AcceptedPod, DEEP_BODY, FEW, Found, Rejected, look_at_front, look_at_pods, look_into,
-    more_unasked,
+    AcceptedPod, DEEP_BODY, Found, Rejected, Waiting, few_frames, look_at_front, look_at_pods,
+    look_into, more_unasked,
 };
 use crate::patch::patch_all;
 use crate::source::Apart;
@@ -59,12 +59,8 @@ pub fn rewrite(alloc: Global, input: &[u8]) -> Result<(&[u8], Vec<u8>), Deserial
     // and is a pod, or nests too deep to be looked into.
     ensures asks { IfErr result (OnMemory (FrontAsksMemory input.now)) }
 {
-    let list = Inside {
-        keyed: false,
-        pods: input,
-    };
     let mut out = Vec::new(alloc);
-    match append_front(input, &mut [list; FEW], &mut out) {
+    match append_front(input, &mut few_frames(input), &mut out) {
         Ok(rest) => Ok((rest, out)),
         Err(refused) => Err(error_at(refused.place, refused.why)),
     }
@@ -142,7 +138,7 @@ pub fn accept_all(alloc: Global, input: &[u8]) -> Result<(), (&[u8], Deserialize
         let Err((pod, rejected)) = look_at_pods(left) else {
             return Ok(());
         };
-        if let Rejected::Fault(place, why) = rejected {
+        if let Rejected::Fault(place, _, why) = rejected {
             return Err((pod, error_at(place, why)));
         }
         match behind_deep(alloc, pod) {
@@ -174,11 +170,7 @@ fn append_all<'a>(input: &'a [u8], out: &mut Vec<u8>) -> Result<(), (&'a [u8], R
     ensures left { IfErr result (λ refusal. IsLeft input.now refusal.0.now) }
     ensures refused { IfErr result (λ refusal. IsRefusal refusal.0.now (error_of refusal.1.place refusal.1.why)) }
 {
-    let list = Inside {
-        keyed: false,
-        pods: input,
-    };
-    let mut frames = [list; FEW];
+    let mut frames = few_frames(input);
     let start = out.len();
     let mut left = input;
     let mut unasked = 1;
@@ -219,7 +211,7 @@ fn lacking_memory(pod: &[u8]) -> Refused<'_>
 #[inline(always)]
 fn append_canonical<'a>(
     left: &'a [u8],
-    frames: &mut [Inside<'a>],
+    frames: &mut [Waiting<'a>],
     out: &mut Vec<u8>,
 ) -> Option<&'a [u8]>
     ensures appended { IfSome result (λ rest. AppendsFirst left.now rest.now out.old.items out.new.items) }
@@ -251,7 +243,7 @@ struct Section<'a> {
 fn append_others<'a>(
     len: usize,
     pods: &'a [u8],
-    frames: &mut [Inside<'a>],
+    frames: &mut [Waiting<'a>],
     out: &mut Vec<u8>,
 ) -> Result<&'a [u8], Refused<'a>>
     ensures appended { IfOk result (λ rest. AppendsFirst pods.now rest.now out.old.items out.new.items) }
@@ -273,7 +265,7 @@ fn append_others<'a>(
 /// gets shorter, since they are patched; and all before one that would be written and in which more than `LEVELS` structs and objects stand in one another,
 /// wherever these end: what writes such a pod calls itself for each.
 #[inline(always)]
-fn look_over<'a>(len: usize, pods: &'a [u8], frames: &mut [Inside<'a>]) -> Section<'a>
+fn look_over<'a>(len: usize, pods: &'a [u8], frames: &mut [Waiting<'a>]) -> Section<'a>
     ensures { IsSection pods.now result }
 {
     let mut left = pods;
@@ -297,7 +289,7 @@ fn look_over<'a>(len: usize, pods: &'a [u8], frames: &mut [Inside<'a>]) -> Secti
 
 /// What follows the pod at the front, where a look accepts it, and by how many bytes its encoding is shorter. It isn't asked whether the pod is canonical.
 #[inline(always)]
-fn behind_front<'a>(input: &'a [u8], frames: &mut [Inside<'a>]) -> Option<(&'a [u8], usize)>
+fn behind_front<'a>(input: &'a [u8], frames: &mut [Waiting<'a>]) -> Option<(&'a [u8], usize)>
     ensures { IfSome result (λ passed. BeginsShorter input.now passed.0.now passed.1) }
 {
     if let Some(rest) = short_front(input) {
@@ -341,7 +333,7 @@ fn cut_section<'a>(pods: &'a [u8], left: &'a [u8], surplus: usize) -> Section<'a
 #[inline(always)]
 fn look_to_write<'a>(
     input: &'a [u8],
-    frames: &mut [Inside<'a>],
+    frames: &mut [Waiting<'a>],
 ) -> Result<AcceptedPod<'a>, Rejected<'a>>
     ensures accepted { IfOk result (IsAcceptedAsked true input.now) }
     ensures rejected { IfErr result (IsUnwritten input.now) }
@@ -380,7 +372,7 @@ fn append_pods(pods: &[u8], surplus: usize, out: &mut Vec<u8>) -> Option<()>
 /// Appends the encoding of the pod at the front of the input, and answers what follows that pod.
 fn append_front<'a>(
     input: &'a [u8],
-    frames: &mut [Inside<'a>],
+    frames: &mut [Waiting<'a>],
     out: &mut Vec<u8>,
 ) -> Result<&'a [u8], Refused<'a>>
     ensures appended { IfOk result (λ rest. AppendsFront input.now rest.now out.old.items out.new.items) }
@@ -396,7 +388,7 @@ fn append_front<'a>(
             }
         }
         Err(rejected) => match rejected {
-            Rejected::Fault(place, why) => Err(Refused { place, why }),
+            Rejected::Fault(place, _, why) => Err(Refused { place, why }),
             Rejected::TooDeep => append_by_value(input, out),
         },
     }

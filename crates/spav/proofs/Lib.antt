@@ -2,5 +2,5 @@ mod Nesting
 mod Refusals
 mod Runs
 mod Written
-mod Searches
+mod FirstFaults
 mod ItemsRead

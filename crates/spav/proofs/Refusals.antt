@@ -1,6 +1,6 @@
 -- Why a list of pods isn't rewritten in place, and why an input that conveys no values isn't.
 use Rattle.std.proofs.Common.{◌≡◌, ℕ, ◌-◌, ◌<◌, inl, inr, List, length, take, drop, refl, sym, ap, subst, ◌∙◌, arith, length-append, length-drop}
-use Rattle.std.specs.Prelude.{⊤, codes}
+use Rattle.std.specs.Prelude.{⊤, Option, codes}
 use Rattle.std.specs.Borrow.{Bor}
 use Rattle.std.proofs.lemmas.Bool.{cases_lt}
 use Rattle.std.proofs.lemmas.List.{drop_at, nil_from_length, take_at}
@@ -22,7 +22,7 @@ for_bytes : {I : Type 0} (e : DeserializeError I) → IsForBytes e → e ≡ err
 for_bytes e b o = subst IsForBytes o b
 
 -- no refusal for what the bytes are has the name of the one for lack of memory
-named : (e : DeserializeError ⊤) → IsForBytes e → kind_text e ≡ codes "OutOfMemory" → ⊥
+named : {I : Type 0} (e : DeserializeError I) → IsForBytes e → kind_text e ≡ codes "OutOfMemory" → ⊥
 named e b k = for_bytes e b (named_memory e k)
 
 -- what a refusal says that isn't for lack of memory
@@ -40,7 +40,7 @@ fact_of F error.NoElementLeft n h = h
 fact_of F error.FailedReader n h = h
 fact_of F error.OutOfMemory n h = absurd (n refl)
 
-pub list_refused : (input : List ℕ) (at : ℕ) (e : DeserializeError ⊤) → RefusesListAt input at e → IsForBytes e → ListIsRefused input at
+pub list_refused : (input : List ℕ) (at : ℕ) (e : DeserializeError (Option ℕ)) → RefusesListAt input at e → IsForBytes e → ListIsRefused input at
 list_refused input at e r b =
     let l = r.behind in
     let rest = drop at input in

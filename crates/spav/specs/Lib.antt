@@ -5,5 +5,4 @@ pub mod Items
 pub mod Lenient
 pub mod Lists
 pub mod Reading
-pub mod Searching
 pub mod Sides

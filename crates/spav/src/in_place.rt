@@ -47,7 +47,7 @@ pub extern "C" fn spav_rewrite_in_place(
 }
 
 /// Whether a refusal is for a fault of the bytes, and not for want of memory.
-fn is_for_bytes(error: &DeserializeError<()>) -> bool
+fn is_for_bytes<I>(error: &DeserializeError<I>) -> bool
     ensures bytes { result ≡ true → IsForBytes error.now }
     ensures memory { result ≡ false → error.now ≡ refused.OutOfMemory }
 {

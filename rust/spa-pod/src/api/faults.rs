@@ -55,9 +55,7 @@ pub fn find_fault(pods: &[u8]) -> Result<(), FoundFault> {
             let pod = offset_in(pods, left);
             match rejected {
                 Rejected::TooDeep => Err(FoundFault::TooDeep(pod)),
-                Rejected::Fault(place, why) => {
-                    Err(FoundFault::Fault { pod, at: offset_in(pods, place), why: error_at(place, why).placed_in(pods) })
-                }
+                Rejected::Fault(place, at, why) => Err(FoundFault::Fault { pod, at: pod + at, why: error_at(place, why).placed_in(pods) }),
             }
         }
     }

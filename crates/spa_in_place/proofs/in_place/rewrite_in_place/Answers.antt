@@ -1,17 +1,19 @@
-use Rattle.std.proofs.Common.{◌≡◌, ◌-◌, ◌∙◌, ap, arith, length, refl, rules, subst, sym}
-use Rattle.std.specs.Prelude.{[], vec_len}
+use Rattle.std.proofs.Common.{◌≡◌, ◌+◌, ◌-◌, ◌∙◌, ap, arith, length, length-append, refl, rules, subst, sym}
+use Rattle.std.specs.Prelude.{[], Some, vec_len}
 use Rattle.std.proofs.lemmas.List.{take_rest}
 use Rattle.spa_scan.specs.Depth.{levels_looked_into}
 use Rattle.spa_rewrite.specs.Memory.{AreUnwritten}
 use Rattle.spa_rewrite.specs.Rewriting.{AreRewritten, RefusesFront}
 use Rattle.spa_rewrite.specs.Look.{AreChanged}
 use Rattle.spa_rewrite.specs.Shorter.{ArePodsWithin}
-use Rattle.spa_rewrite.proofs.Accepted.{fault_front}
+use Rattle.spa_bodies.specs.Refusing.{error_of}
+use Rattle.spa_rewrite.proofs.Accepted.{at_place, at_within, fault_front}
 use Rattle.spa_rewrite.proofs.Changed.{changed_shorter}
 use Rattle.spa_rewrite.proofs.ShorterLemmas.{within_behind}
 use Rattle.spa_rewrite.proofs.Stretches.{list_refused}
+use Rattle.spa_in_place.specs.InPlace.{RefusesListAt, moved}
 use Rattle.spa_in_place.proofs.ChangedPods.{behind_canonical}
-use Rattle.spa_in_place.proofs.InPlaceLemmas.{asks_behind, copied_behind, deep_memory, others_left, refused_behind, rewritten_room}
+use Rattle.spa_in_place.proofs.InPlaceLemmas.{asks_behind, copied_behind, deep_memory, left_behind, offset_known, offset_unknown, others_left, refused_behind, rewritten_room}
 use Rattle.spa_in_place.proofs.in_place.rewrite_in_place.Goals as goal
 
 pub place_rest-requires : goal.place_rest-requires
@@ -39,14 +41,31 @@ returns-in-Ok-clause-behind c =
     stretch.canonical refl (take_rest bytes (length first)) (changed_shorter _ _ c.in-Ok.ensures.there) c.place_rest.ensures in
     all.behind
 
+pub overflow_add-top : goal.overflow_add-top
+overflow_add-top c =
+    let pod = c.in-Err.pod.now in
+    let others = c.canonical_stretch.result.1.now in
+    let first = c.canonical_stretch.result.0.now in
+    let h = subst (AreUnwritten others pod) c.in-Fault.is c.in-Err.ensures.rejected in
+    let within = at_within pod _ c.in-Fault.at c.in-Fault.why h.1 in
+    let left = ap length h.0.2 ∙ length-append h.0.1 pod in
+    let all = ap length c.canonical_stretch.ensures.parts ∙ length-append first others in
+    omega arith
+
 pub returns-in-Fault-clause-refused : goal.returns-in-Fault-clause-refused
 returns-in-Fault-clause-refused c =
     let pod = c.in-Err.pod.now in
     let others = c.canonical_stretch.result.1.now in
     let h = subst (AreUnwritten others pod) c.in-Fault.is c.in-Err.ensures.rejected in
-    let front = subst (RefusesFront pod) (sym c.error_at.ensures) (fault_front pod c.in-Fault.place c.in-Fault.why h.1) in
-    refused_behind _ _ _ _ _ _ _ c.canonical_stretch.ensures.parts c.canonical_stretch.ensures.canonical
-    (list_refused others pod _ h.0 front) refl c.without_place.ensures.same c.without_place.ensures.memory
+    let bytes = c.args.bytes.now in
+    let parts = c.canonical_stretch.ensures.parts in
+    let first = c.canonical_stretch.ensures.canonical in
+    let placed = error_of c.in-Fault.place c.in-Fault.why in
+    let front = fault_front pod c.in-Fault.place c.in-Fault.why (at_place _ _ _ c.in-Fault.why h.1) in
+    let top = length bytes - length pod in
+    let offset = offset_known bytes pod top c.in-Fault.at c.in-Fault.place c.in-Fault.why (left_behind _ _ _ _ top parts first h.0 refl) h.1 in
+    let is = c.with_offset.ensures ∙ ap (moved (Some (top + c.in-Fault.at))) c.error_at.ensures in
+    subst (RefusesListAt bytes top) (sym is) (refused_behind _ _ _ _ top _ placed parts first (list_refused others pod _ h.0 front) refl offset)
 
 pub returns-in-Fault-clause-missed : goal.returns-in-Fault-clause-missed
 returns-in-Fault-clause-missed c = λ w.
@@ -60,9 +79,11 @@ returns-in-Err-rewrite_all-clause-refused c =
     let left = c.in-Err-rewrite_all.left.now in
     let front : RefusesFront left c.in-Err-rewrite_all.error =
     record { refused = e.front; named = e.named; short_first = e.short_first; memory = e.memory } in
-    refused_behind _ _ _ _ _ _ _ c.canonical_stretch.ensures.parts c.canonical_stretch.ensures.canonical
-    (list_refused c.canonical_stretch.result.1.now left _ e.left front) refl
-    c.without_place-in-Err-rewrite_all.ensures.same c.without_place-in-Err-rewrite_all.ensures.memory
+    let parts = c.canonical_stretch.ensures.parts in
+    let first = c.canonical_stretch.ensures.canonical in
+    let asks = asks_behind _ _ _ parts first (subst (AreUnwritten c.canonical_stretch.result.1.now c.in-Err.pod.now) c.in-TooDeep.is c.in-Err.ensures.rejected) in
+    subst (RefusesListAt c.args.bytes.now _) (sym c.with_offset-in-Err-rewrite_all.ensures)
+    (refused_behind _ _ _ _ _ _ _ parts first (list_refused c.canonical_stretch.result.1.now left _ e.left front) refl (offset_unknown _ _ _ asks))
 
 pub returns-in-Err-rewrite_all-clause-missed : goal.returns-in-Err-rewrite_all-clause-missed
 returns-in-Err-rewrite_all-clause-missed c = λ w.

@@ -7,7 +7,7 @@ returns-in-Ok c =
     begins_other c.args.input.now pod.value c.requires pod.begins.begins
 
 pub returns-in-Fault : goal.returns-in-Fault
-returns-in-Fault c = refused_front _ _ _ _ c.in-Fault.is c.in-Err.ensures.rejected
+returns-in-Fault c = refused_front _ _ _ _ _ c.in-Fault.is c.in-Err.ensures.rejected
 
 pub deep_no_object-requires-clause-deep : goal.deep_no_object-requires-clause-deep
 deep_no_object-requires-clause-deep c = too_deep _ _ c.in-TooDeep.is c.in-Err.ensures.rejected

@@ -1,6 +1,7 @@
 use Rattle.std.proofs.Common.{arith, refl}
 use Rattle.spa_format.specs.Faults.{at_front}
 use Rattle.spa_format.specs.Typed.{IsBytes}
+use Rattle.spa_rewrite.specs.Offsets.{at_pod}
 use Rattle.spa_rewrite.proofs.Accepted.{front_stops, inside_exactly, inside_stops, leaf_differs, leaf_exactly, leaf_unasked}
 use Rattle.spa_rewrite.proofs.Faulted.{leaf_there}
 use Rattle.spa_rewrite.proofs.Levels.{too_deep}
@@ -8,7 +9,9 @@ use Rattle.spa_rewrite.proofs.ShorterLemmas.{shorter_opened}
 use Rattle.spa_rewrite.proofs.look.look_at_front.Goals as goal
 
 pub returns-in_default-open-clause-rejected : goal.returns-in_default-open-clause-rejected
-returns-in_default-open-clause-rejected c = at_front _ refl c.in_default-open.ensures.short
+returns-in_default-open-clause-rejected c =
+    let short = c.in_default-open.ensures.short in
+    (at_front _ refl short, at_pod _ short)
 
 pub fault-requires-clause-refused : goal.fault-requires-clause-refused
 fault-requires-clause-refused c =
@@ -44,7 +47,7 @@ returns-in-Fits-clause-accepted c =
 
 pub returns-in-Stops-clause-rejected : goal.returns-in-Stops-clause-rejected
 returns-in-Stops-clause-rejected c =
-    inside_stops _ _ _ _ _ _ _ _ c.in-Some-open.ensures.there c.in-Some-inside_of.ensures.there c.in-Stops.ensures c.fault-in-Stops.ensures
+    inside_stops _ _ _ _ _ _ _ _ _ _ c.in-Some-open.ensures.there c.in-Some-inside_of.ensures.there c.in-Stops.ensures refl c.fault-in-Stops.ensures
 
 pub returns-in-TooDeep-clause-rejected : goal.returns-in-TooDeep-clause-rejected
 returns-in-TooDeep-clause-rejected c = too_deep _ _ _ _ _ _ c.in-Some-open.ensures.there c.in-Some-inside_of.ensures.there c.in-TooDeep.ensures

@@ -13,4 +13,4 @@ pub returns-in-Differs : goal.returns-in-Differs
 returns-in-Differs c = differ_behind _ _ _ _ _ _ c.behind_first-surplus.ensures c.in-Differs.ensures
 
 pub returns-in-Stops : goal.returns-in-Stops
-returns-in-Stops c = stops_behind _ _ _ _ _ _ c.behind_first-surplus.ensures c.in-Stops.ensures
+returns-in-Stops c = stops_behind _ _ _ _ _ _ _ c.behind_first-surplus.ensures c.in-Stops.ensures

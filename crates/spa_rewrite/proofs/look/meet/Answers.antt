@@ -1,7 +1,8 @@
-use Rattle.std.proofs.Common.{arith}
+use Rattle.std.proofs.Common.{arith, refl}
 use Rattle.spa_format.specs.Typed.{IsBytes}
 use Rattle.spa_rewrite.proofs.Accepted.{meets_leaf}
 use Rattle.spa_rewrite.proofs.Faulted.{leaf_there, short_there, stops_first, stops_key}
+use Rattle.spa_rewrite.proofs.Looks.{opens_inside, surround}
 use Rattle.spa_rewrite.proofs.look.meet.Goals as goal
 
 pub returns-in_default : goal.returns-in_default
@@ -25,3 +26,10 @@ returns-in-None c =
     let other = c.in_default-inside_of.ensures in
     stops_first _ _ _ (λ i. omega (arith, c.type_inv.left i)) c.in-Some.ensures.there c.requires
     (leaf_there _ _ _ _ c.in-Some-open.ensures.there other.other other.short c.in-None.ensures.missed)
+
+pub returns-in-Some-inside_of : goal.returns-in-Some-inside_of
+returns-in-Some-inside_of c =
+    let k = c.in-Some.ensures.there in
+    let o = c.in-Some-open.ensures.there in
+    let i = c.in-Some-inside_of.ensures.there in
+    (opens_inside _ _ _ _ _ _ _ _ k o i, surround _ _ _ _ _ _ _ _ _ k o i refl)

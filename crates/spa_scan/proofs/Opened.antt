@@ -1,5 +1,5 @@
 -- Canonical pods, opened: what is in their bodies, and what is left behind them.
-use Rattle.std.proofs.Common.{◌≡◌, ℕ, ◌<◌, ◌⊎◌, inl, inr, List, ◌++◌, length, drop, sym, ap, ◌∙◌, subst, arith, length-append, append_assoc}
+use Rattle.std.proofs.Common.{◌≡◌, ℕ, ◌<◌, List, ◌++◌, length, drop, sym, ap, ◌∙◌, subst, arith, length-append, append_assoc}
 use Rattle.std.specs.Prelude.{IfNone, None, Option, Some}
 use Rattle.std.proofs.lemmas.List.{drop_at}
 use Rattle.spa_format.specs.Words.{word_at, word_bytes, wide_bytes}
@@ -10,9 +10,9 @@ use Rattle.spa_format.specs.Front.{rest_of}
 use Rattle.spa_format.specs.Typed.{IsBytes}
 use Rattle.spa_format.proofs.Shapes.{object_only, pointer_only, struct_only}
 use Rattle.spa_format.proofs.WordLemmas.{length-wide_bytes, length-word_bytes, word_inside}
-use Rattle.spa_scan.specs.Canonical.{AreCanonical, AreCanonicalProperties, BeginsCanonical, IsCanonicalBody}
-use Rattle.spa_scan.specs.Depth.{AreShallow, depth_of}
-use Rattle.spa_scan.proofs.Made.{made_front, made_members}
+use Rattle.spa_scan.specs.Canonical.{AreCanonical, AreCanonicalProperties, IsCanonicalBody}
+use Rattle.spa_scan.specs.Depth.{AreShallow}
+use Rattle.spa_scan.proofs.Made.{made_members}
 
 -- what follows where an option holds none
 pub none_then : {X P Q : Type 0} (o : Option X) → IfNone o P → (P → Q) → IfNone o Q
@@ -27,17 +27,6 @@ shallow_rest levels left rest h l e s =
     let k = s.shallow in
     let c : AreShallow levels (rest_of left) = record { pods = m.others; shallow = omega arith } in
     subst (AreShallow levels) (sym e) c
-
--- a struct or an object holds pods
-pub holds_pods : (input rest : List ℕ) → IsBytes input → (c : BeginsCanonical input rest) (type : ℕ) → type ≡ word_at input 4 →
-    (type ≡ struct_type) ⊎ (type ≡ object_type) → 0 < depth_of c.value
-holds_pods input rest h c type w e =
-    let m = made_front input rest h c in
-    let t = sym m.its_type ∙ sym w in
-    elim e [
-      | inl s ↦ let i = struct_only c.value (t ∙ s) in let d = ap depth_of i.1 in omega arith
-      | inr o ↦ let i = object_only c.value (t ∙ o) in let d = ap depth_of i.3 in omega arith
-    ]
 
 -- what the bodies of each type hold
 pub struct_inside : (type : ℕ) (body : List ℕ) → type ≡ struct_type → IsCanonicalBody type body → AreCanonical body

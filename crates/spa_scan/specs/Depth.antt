@@ -1,10 +1,10 @@
 -- How deep structs and objects stand in one another, in a value and in any bytes: docs/FORMAT.md, "Values", "Walks over views".
-use Rattle.std.specs.Prelude.{◌≡◌, ℕ, suc, zero, ◌+◌, ◌≤◌, ◌⊎◌, List, [], ◌∷◌, drop, max}
+use Rattle.std.specs.Prelude.{Bool, true, ◌≡◌, ℕ, suc, zero, ◌+◌, ◌≤◌, ◌⊎◌, List, [], ◌∷◌, drop, max}
 use Rattle.spa_format.specs.Words.{body_of, header_size, word_at}
 use Rattle.spa_format.specs.Front.{HasFront}
 use Rattle.spa_format.specs.Walk.{property_walk, walk}
 use Rattle.spa_format.specs.Tree.{Tree, fixed, string, bytes, bitmap, array, choice, pointer, struct, object, struct_type, object_type, Trees, no_trees, member, Properties, no_properties, property}
-use Rattle.spa_scan.specs.Canonical.{AreCanonical}
+use Rattle.spa_scan.specs.Canonical.{AreCanonical, IsCanonicalBody, IsSized}
 
 -- One for a struct or an object, and what its deepest member or property has. No other value holds pods.
 abbrev mutual
@@ -50,6 +50,10 @@ IsDeepBody (suc n) type body =
 -- how many levels of a pod are looked into
 abbrev pub levels_looked_into : ℕ
 levels_looked_into = 1000
+
+-- the answer is true of such a canonical body, where its value is neither of a kind of fixed size nor a struct or an object
+abbrev pub FindsOther : ℕ → List ℕ → Bool → Type 0
+FindsOther type body answer = (c : IsCanonicalBody type body) → depth_of c.value ≡ 0 → ¬ (IsSized c.value) → answer ≡ true
 
 -- canonical pods one after another that nest in so many levels at most
 pub record AreShallow (levels : ℕ) (body : List ℕ) : Type 0 where

@@ -2,7 +2,7 @@
 ghost use Rattle.std.specs.Prelude.{◌≡◌, ◌≢◌, ◌+◌, ◌*◌, ◌/◌, ◌<◌, ◌≤◌, ◌⊎◌, IfNone, IfSome, List, drop, length, true, ℕ};
 ghost use Rattle.spa_format.specs.Kind.{Kind, body_size, bool_kind, type_number};
 ghost use Rattle.spa_format.specs.Words.{padded_size};
-ghost use Rattle.spa_scan.specs.Canonical.{BeginsCanonical, EndsInZeros, HasZeros, IsFixedLen, IsSized};
+ghost use Rattle.spa_scan.specs.Canonical.{BeginsCanonical, EndsInZeros, HasZeros, IsFixedLen, IsSized, MissesOnly};
 
 use spa_bytes::{HEADER_LEN, SECOND_WORD, u32_at, u64_at};
 use spa_utils::SpaTypes;
@@ -49,10 +49,10 @@ pub(crate) fn ends_in_zeros(bytes: &[u8], at: usize) -> bool
 
 /// What follows the pod at the front, where that is canonical and of a kind of fixed size, None aside.
 #[inline(always)]
-pub(crate) fn fixed_front(input: &[u8]) -> Option<&[u8]>
+pub fn fixed_front(input: &[u8]) -> Option<&[u8]>
     ensures taken { IfSome result (λ rest. BeginsCanonical input.now rest.now) }
     ensures shorter { IfSome result (λ rest. length rest.now + 16 ≤ length input.now) }
-    ensures missed { IfNone result ((rest : List ℕ) (c : BeginsCanonical input.now rest) → ¬ (IsSized c.value)) }
+    ensures missed { IfNone result (MissesOnly input.now (λ v. ¬ (IsSized v))) }
 {
     if input.len() < SHORT_POD {
         return None;

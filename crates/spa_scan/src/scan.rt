@@ -1,9 +1,9 @@
 //! Pods that hold no others and are canonical, one after another.
-ghost use Rattle.std.specs.Prelude.{◌≡◌, ◌≢◌, ◌+◌, ◌<◌, ◌≤◌, ◌⊎◌, ◌++◌, IfNone, IfSome, List, false, length, take, true, ℕ};
+ghost use Rattle.std.specs.Prelude.{◌≡◌, ◌≢◌, ◌+◌, ◌<◌, ◌≤◌, ◌++◌, IfNone, IfSome, length, take, true};
 ghost use Rattle.spa_format.specs.Tree.{array_type, choice_type, object_type, string_type, struct_type};
 ghost use Rattle.spa_format.specs.Words.{padded_size};
-ghost use Rattle.spa_scan.specs.Canonical.{AreCanonical, AreCanonicalProperties, BeginsCanonical, BeginsCanonicalProperty, HasZeros, IsCanonicalBody, IsSized};
-ghost use Rattle.spa_scan.specs.Depth.{depth_of};
+ghost use Rattle.spa_scan.specs.Canonical.{AreCanonical, AreCanonicalProperties, BeginsCanonical, BeginsCanonicalProperty, HasZeros, IsCanonicalBody, IsSized, MissesOnly};
+ghost use Rattle.spa_scan.specs.Depth.{FindsOther, depth_of};
 
 use crate::array::{is_array, is_choice};
 use crate::front::{fixed_front, has_zeros};
@@ -20,34 +20,20 @@ pub fn leaf_front(input: &[u8]) -> Option<&[u8]>
     ensures taken { IfSome result (λ rest. BeginsCanonical input.now rest.now) }
     ensures shorter { IfSome result (λ rest. length rest.now + 8 ≤ length input.now) }
     // No other canonical pod than a struct or an object is missed.
-    ensures missed { IfNone result ((rest : List ℕ) (c : BeginsCanonical input.now rest) → 0 < depth_of c.value) }
+    ensures missed { IfNone result (MissesOnly input.now (λ v. 0 < depth_of v)) }
 {
     if let Some(rest) = fixed_front(input) {
         return Some(rest);
     }
-    if input.len() < HEADER_LEN {
-        return None;
-    }
-    if !is_looked_into(u32_at(input, SECOND_WORD)) {
-        return None;
-    }
     leaf_body_front(input)
-}
-
-/// Whether pods of this type hold no others.
-#[inline(always)]
-fn is_looked_into(type_: u32) -> bool
-    ensures { result ≡ false → (type_ ≡ struct_type) ⊎ (type_ ≡ object_type) }
-{
-    type_ != SpaTypes::Struct.0 && type_ != SpaTypes::Object.0
 }
 
 /// What follows the pod at the front, where that is canonical, not of fixed size, and neither a struct nor an object.
 #[inline(always)]
-fn leaf_body_front(input: &[u8]) -> Option<&[u8]>
+pub fn leaf_body_front(input: &[u8]) -> Option<&[u8]>
     ensures taken { IfSome result (λ rest. BeginsCanonical input.now rest.now) }
     ensures shorter { IfSome result (λ rest. length rest.now + 8 ≤ length input.now) }
-    ensures missed { IfNone result ((rest : List ℕ) (c : BeginsCanonical input.now rest) → ¬ (IsSized c.value) → 0 < depth_of c.value) }
+    ensures missed { IfNone result (MissesOnly input.now (λ v. ¬ (IsSized v) → 0 < depth_of v)) }
 {
     let Some(front) = open(input) else {
         return None;
@@ -68,8 +54,7 @@ fn is_padded_body(type_: u32, body: &[u8], behind: &[u8]) -> bool
     requires room { padded_size (length body.now) ≤ length behind.now }
     ensures canonical { result ≡ true → IsCanonicalBody type_ body.now }
     ensures zeros { result ≡ true → HasZeros behind.now (length body.now) }
-    ensures found { HasZeros behind.now (length body.now) → (c : IsCanonicalBody type_ body.now) → depth_of c.value ≡ 0 →
-        ¬ (IsSized c.value) → result ≡ true }
+    ensures found { HasZeros behind.now (length body.now) → FindsOther type_ body.now result }
 {
     if type_ == SpaTypes::String.0 {
         return is_padded_text(body, behind);
@@ -117,16 +102,20 @@ pub fn leaf_properties(input: &[u8]) -> (&[u8], &[u8])
     input.split_at(input.len() - left.len())
 }
 
-/// Whether a body of this type is as its value is written, and holds no pods. Choices and arrays need no call.
+/// Whether a body of this type is as its value is written, and holds no pods. Choices, arrays, structs and objects need no call.
 #[inline(always)]
 fn is_other_body(type_: u32, body: &[u8]) -> bool
     requires { type_ ≢ string_type }
     ensures canonical { result ≡ true → IsCanonicalBody type_ body.now }
-    ensures found { (c : IsCanonicalBody type_ body.now) → depth_of c.value ≡ 0 → ¬ (IsSized c.value) → result ≡ true }
+    ensures found { FindsOther type_ body.now result }
 {
+    if type_ == SpaTypes::Choice.0 {
+        return is_choice(body);
+    }
     match SpaTypes(type_) {
-        SpaTypes::Choice => is_choice(body),
         SpaTypes::Array => is_array(body),
+        SpaTypes::Struct => false,
+        SpaTypes::Object => false,
         _ => is_rare_body(type_, body),
     }
 }
@@ -138,7 +127,7 @@ fn is_rare_body(type_: u32, body: &[u8]) -> bool
     requires array { type_ ≢ array_type }
     requires choice { type_ ≢ choice_type }
     ensures canonical { result ≡ true → IsCanonicalBody type_ body.now }
-    ensures found { (c : IsCanonicalBody type_ body.now) → depth_of c.value ≡ 0 → ¬ (IsSized c.value) → result ≡ true }
+    ensures found { FindsOther type_ body.now result }
 {
     match SpaTypes(type_) {
         SpaTypes::Bytes => true,

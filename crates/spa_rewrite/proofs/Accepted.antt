@@ -24,7 +24,7 @@ use Rattle.spa_bodies.proofs.Refusals.{says_through}
 use Rattle.spa_scan.specs.Canonical.{AreCanonical, BeginsCanonical, IsStretch}
 use Rattle.spa_scan.specs.Depth.{depth_of, levels_looked_into}
 use Rattle.spa_scan.proofs.Frames.{no_stretch, stretch_parts}
-use Rattle.spa_rewrite.specs.Look.{AreAccepted, AreLooked, AreMet, IsAccepted, IsAcceptedAsked, IsRejected, StopsAt}
+use Rattle.spa_rewrite.specs.Look.{AreAccepted, IsAccepted, IsAcceptedAsked, IsRejected, Passes, StopsAt}
 use Rattle.spa_rewrite.specs.Rewriting.{IsLeft, RefusesFront, RefusesList}
 use Rattle.spa_rewrite.specs.Shorter.{ArePodsWithin, BeginsShorter, IsShorterBody}
 use Rattle.spa_rewrite.specs.Inside.{IsBehindKey, IsInside, key_size}
@@ -34,7 +34,7 @@ use Rattle.spa_rewrite.specs.declared.look.Rejected.{Rejected}
 use Rattle.spa_rewrite.specs.declared.look.Rejected.TheVariants as rejected
 use Rattle.spa_rewrite.proofs.FirstPods.{accepted_behind, left_behind_pods}
 use Rattle.spa_rewrite.proofs.Levels.{deep_begun}
-use Rattle.spa_rewrite.proofs.Looks.{Awaits, first_own, goes_on, inside_own, own_opened, passes_pod, some_left, stands_opened}
+use Rattle.spa_rewrite.proofs.Looks.{passes_pod, some_left, stands_opened}
 use Rattle.spa_rewrite.proofs.Offsets.{body_long, offset_opened, offset_within}
 use Rattle.spa_rewrite.proofs.Refusals.{front_refused}
 use Rattle.spa_rewrite.proofs.Rewritten.{member_encodings-push, parted}
@@ -64,35 +64,13 @@ pub own_rest : (here rest : List ℕ) → rest ≡ rest_of here → BeginsCanoni
 own_rest here rest e c = subst (BeginsCanonical here) (sym e) c
 
 -- a pod without members is passed
-pub meets_leaf : (keyed canonical now : Bool) (left here body rest : List ℕ) (type n : ℕ) → IsBytes left → IsBehindKey keyed left here →
-    Opens here type body rest → type ≢ struct_type → (type ≡ object_type → length body < header_size) → IsShorterBody type body n →
-    (now ≡ true → canonical ≡ true) → (now ≡ true → BeginsCanonical here (rest_of here)) →
-    (now ≡ false → (canonical ≡ false) ⊎ ((r : List ℕ) (c : BeginsCanonical here r) → 0 < depth_of c.value)) →
-    AreMet canonical keyed left rest now n
-meets_leaf keyed canonical now left here body rest type n h k o s l b c own differs =
-    let some = some_left keyed left here k o.there in
-    let e = left_shorter _ _ _ _ _ _ k o in
-    record {
-      passed = passes_pod keyed now left here rest n h some k (shorter_opened here body rest type n o b) (λ e. own_rest here rest o.its_rest (own e));
-      fewer = omega arith;
-      so_far = c;
-      differs = λ e.
-          elim (differs e) [
-            | inl f ↦ inl f
-            | inr f ↦ inr (λ k'. leaf_differs here body rest type o s l f rest (first_own keyed left here rest h some k o.its_rest k').first)
-          ];
-    }
-
--- what holds of all once these are passed
-pub goes_over : (asked all keyed canonical now : Bool) (pods left rest : List ℕ) (Then : Bool → ℕ → Type 0) (waiting behind surplus n : ℕ) →
-    Awaits asked all pods Then waiting keyed left behind canonical surplus → AreMet canonical keyed left rest now n →
-    Awaits asked all pods Then waiting keyed rest behind now (surplus + n)
-goes_over asked all keyed canonical now pods left rest Then waiting behind surplus n w m =
-    goes_on asked all keyed canonical now now pods left rest Then waiting behind surplus n w m.passed m.so_far (λ e. e) (λ e.
-    elim (m.differs e) [
-      | inl f ↦ w.differs f
-      | inr f ↦ λ _ k. f (w.kept k)
-    ])
+pub meets_leaf : (keyed : Bool) (left here body rest : List ℕ) (type n : ℕ) → IsBytes left → IsBehindKey keyed left here →
+    Opens here type body rest → IsShorterBody type body n → Passes keyed false left rest n × (length rest < length left)
+meets_leaf keyed left here body rest type n h k o b =
+    let e = left_shorter _ _ _ _ _ _ k o in (
+      passes_pod keyed false left here rest n h (some_left keyed left here k o.there) k (shorter_opened here body rest type n o b) (λ e. absurd (never false e refl)),
+      omega arith,
+    )
 
 -- a pod without members is accepted
 pub leaf_exactly : (asked result : Bool) (input rest : List ℕ) → rest ≡ rest_of input → (result ≡ true → BeginsCanonical input (rest_of input)) →
@@ -114,14 +92,6 @@ leaf_unasked asked true o e = absurd (never asked (o refl) e)
 leaf_unasked asked false o e = refl
 
 -- what is found in a struct or an object is found of it
-pub inside_exactly : (asked : Bool) (type : ℕ) (input body rest inside : List ℕ) (inner canonical : Bool) (n : ℕ) → IsBytes input → Opens input type body rest →
-    IsInside type body inner inside → AreLooked asked inner inside canonical n →
-    BeginsShorter input rest n × (asked ≡ true → Decides canonical (BeginsCanonical input rest))
-inside_exactly asked type input body rest inside inner canonical n h o i l = (
-  shorter_opened input body rest type n o (shorter_inside type body inside inner n i l.shorter),
-  λ a. (λ e. own_opened type input body rest inside inner h o i ((l.exactly a).0 e), λ c. (l.exactly a).1 (inside_own type input body rest rest inside inner h o i c)),
-)
-
 pub inside_stops : (type : ℕ) (input body rest inside place : List ℕ) (inner : Bool) (behind at : ℕ) (why : Refusal) → Opens input type body rest →
     IsInside type body inner inside → StopsAt inner inside place behind → at ≡ header_size + length body - (length place + behind) →
     Says (λ k. StandsAtFront k place) ⊥ why → IsFaultAt input place at why

@@ -1,26 +1,23 @@
 -- Pods up to the last one that isn't canonical.
-use Rattle.std.proofs.Common.{◌≡◌, ℕ, ◌+◌, ◌-◌, ◌<◌, List, ◌++◌, length, take, drop, refl, sym, ap, ◌∙◌, subst, arith, append-nil, length-append}
+use Rattle.std.proofs.Common.{◌≡◌, ℕ, ◌+◌, ◌-◌, ◌<◌, List, ◌++◌, length, take, drop, refl, sym, ap, ◌∙◌, subst, arith, append-nil, length-append, append_assoc}
 use Rattle.std.proofs.lemmas.List.{drop_at, nil_from_length, take-append-drop, take_at}
 use Rattle.std.specs.Borrow.{Bor}
 use Rattle.spa_format.specs.Tree.{join_members}
 use Rattle.spa_format.specs.Pod.{AreMembers}
-use Rattle.spa_format.specs.Encoding.{encoding_of, member_encodings}
-use Rattle.spa_format.specs.Front.{front_of}
+use Rattle.spa_format.specs.Encoding.{member_encodings}
 use Rattle.spa_format.proofs.Sequences.{members_joined}
-use Rattle.spa_format.proofs.Unique.{one_value}
-use Rattle.spa_scan.specs.Canonical.{AreCanonical, BeginsCanonical, IsStretch}
+use Rattle.spa_scan.specs.Canonical.{AreCanonical, IsStretch}
 use Rattle.spa_scan.specs.Depth.{levels_looked_into}
 use Rattle.spa_scan.proofs.Frames.{no_stretch}
 use Rattle.spa_rewrite.specs.Look.{AreChanged, IsAcceptedAsked}
 use Rattle.spa_rewrite.specs.Rewriting.{IsLookedOver}
-use Rattle.spa_rewrite.specs.Shorter.{AreShorter, BeginsShorter}
+use Rattle.spa_rewrite.specs.Shorter.{ArePodsWithin, AreShorter}
 use Rattle.spa_rewrite.specs.declared.look.AcceptedPod.{AcceptedPod}
 use Rattle.spa_rewrite.specs.declared.look.ChangedPods.{ChangedPods}
-use Rattle.spa_rewrite.proofs.Accepted.{stretch_more}
-use Rattle.spa_rewrite.proofs.Appending.{accepted_canonical, nothing_looked_over, one_looked_over}
+use Rattle.spa_rewrite.proofs.Appending.{nothing_looked_over, one_looked_over}
 use Rattle.spa_rewrite.proofs.Stretches.{member_encodings-join}
-use Rattle.spa_rewrite.proofs.ShorterLemmas.{CountsOn, counts_more, counts_none}
-use Rattle.std.specs.Prelude.{Bool, false, true}
+use Rattle.spa_rewrite.proofs.ShorterLemmas.{CountsOn, counts_more, counts_none, within_behind}
+use Rattle.std.specs.Prelude.{Bool, false}
 
 -- All pods before what is left are accepted: those before the others are as long as their encodings, and those behind the last one that isn't canonical
 -- are.
@@ -42,30 +39,64 @@ no_changes pods = record {
   counts = counts_none false levels_looked_into pods;
 }
 
--- a canonical pod doesn't get shorter
-canonical_surplus : (left rest : List ℕ) (n : ℕ) → BeginsShorter left rest n → BeginsCanonical left rest → n ≡ 0
-canonical_surplus left rest n s c =
-    let e = ap (λ v. length (encoding_of v)) (one_value (front_of left) s.value c.value s.begins.begins.pod c.begins.begins.pod) in
-    let k = ap length c.same in
-    let l = s.long in
-    omega arith
+-- canonical pods don't get shorter
+canonical_shorter : (pods : List ℕ) → AreCanonical pods → AreShorter pods 0
+canonical_shorter pods k =
+    let own = ap length k.same in
+    record { values = k.values; members = k.members; long = omega arith }
 
--- one more that is canonical
-pub canonical_more : (asked : Bool) (pods others tail left : List ℕ) (pod : AcceptedPod) (surplus : ℕ) → ChangesUpTo pods others tail left surplus →
-    0 < length left → IsAcceptedAsked asked left pod → pod.canonical ≡ true → ChangesUpTo pods others tail pod.rest.now (surplus + pod.surplus)
-canonical_more asked pods others tail left pod surplus h l a e =
-    let s = a.shorter in
-    let rest = pod.rest.now in
-    let c = accepted_canonical asked left pod a e in
-    let z = canonical_surplus left rest pod.surplus s c in
-    let same : surplus ≡ surplus + pod.surplus = omega arith in
+-- first pods and those behind them
+pub shorter_joined : (pods first rest : List ℕ) (m n : ℕ) → pods ≡ first ++ rest → AreShorter first m → AreShorter rest n → AreShorter pods (m + n)
+shorter_joined pods first rest m n e s t =
+    let vs = join_members s.values t.values in
+    let l0 = s.long in
+    let l1 = t.long in
+    let l2 = ap length (member_encodings-join s.values t.values) ∙ length-append (member_encodings s.values) (member_encodings t.values) in
+    let l3 = ap length e ∙ length-append first rest in
     record {
-      seen = one_looked_over pods left rest surplus pod.surplus h.seen s;
+      values = vs;
+      members = subst (AreMembers vs) (sym e) (members_joined s.values t.values first rest s.members t.members);
+      long = omega arith;
+    }
+
+-- canonical pods are looked over,
+stretch_looked_over : (pods left rest : List ℕ) (n : ℕ) → IsLookedOver pods left n → IsStretch left rest → IsLookedOver pods rest n
+stretch_looked_over pods left rest n h s = (
+  h.0 ++ s.0,
+  h.1 ∙ ap (λ l. h.0 ++ l) s.1 ∙ sym (append_assoc h.0 s.0 rest),
+  subst (AreShorter (h.0 ++ s.0)) (let e : n + 0 ≡ n = omega arith in e) (shorter_joined (h.0 ++ s.0) h.0 s.0 n 0 refl h.2 (canonical_shorter s.0 s.2)),
+)
+
+stretches_joined : (pods left rest : List ℕ) → IsStretch pods left → IsStretch left rest → IsStretch pods rest
+stretches_joined pods left rest h s = (
+  h.0 ++ s.0,
+  h.1 ∙ ap (λ l. h.0 ++ l) s.1 ∙ sym (append_assoc h.0 s.0 rest),
+  record {
+    values = join_members h.2.values s.2.values;
+    members = members_joined h.2.values s.2.values h.0 s.0 h.2.members s.2.members;
+    same = ap (λ x. x ++ s.0) h.2.same ∙ ap (λ x. member_encodings h.2.values ++ x) s.2.same ∙ sym (member_encodings-join h.2.values s.2.values);
+  },
+)
+
+-- and change nothing
+pub stretch_passed : (pods others tail left rest : List ℕ) (surplus : ℕ) → ChangesUpTo pods others tail left surplus → IsStretch left rest →
+    ChangesUpTo pods others tail rest surplus
+stretch_passed pods others tail left rest surplus h s =
+    let room = h.counts.room in
+    let l = ap length s.1 ∙ length-append s.0 rest in
+    record {
+      seen = stretch_looked_over pods left rest surplus h.seen s;
       same_length = h.same_length;
-      since = one_looked_over others left rest surplus pod.surplus h.since s;
-      changed = subst (IsLookedOver others tail) same h.changed;
-      last = stretch_more tail left rest h.last c;
-      counts = counts_more false levels_looked_into pods left left rest surplus pod.surplus h.counts l refl s.begins.follows s;
+      since = stretch_looked_over others left rest surplus h.since s;
+      changed = h.changed;
+      last = stretches_joined tail left rest h.last s;
+      counts = record {
+        ends = λ n t.
+            let sum : 0 + n ≡ n = omega arith in
+            h.counts.ends n (subst (AreShorter left) sum (shorter_joined left s.0 rest 0 n s.1 (canonical_shorter s.0 s.2) t));
+        room = omega arith;
+        within = λ w. within_behind s.2.values s.0 rest levels_looked_into s.2.members (subst (ArePodsWithin levels_looked_into) s.1 (h.counts.within w));
+      };
     }
 
 -- one that isn't, or may not be, behind others that get shorter,
@@ -98,10 +129,9 @@ others_none pods others tail left surplus h z =
       counts = h.counts;
     }
 
-pub changes_are : (pods others tail left : List ℕ) (surplus : ℕ) (new_others new_tail : Bor (List ℕ)) → ChangesUpTo pods others tail left surplus →
-    new_others.now ≡ others → new_tail.now ≡ tail → ChangesUpTo pods new_others.now new_tail.now left surplus
-changes_are pods others tail left surplus new_others new_tail h e f =
-    subst (λ x. ChangesUpTo pods new_others.now x left surplus) (sym f) (subst (λ x. ChangesUpTo pods x tail left surplus) (sym e) h)
+pub others_are : (pods others tail left : List ℕ) (surplus : ℕ) (new : Bor (List ℕ)) → ChangesUpTo pods others tail left surplus → new.now ≡ others →
+    ChangesUpTo pods new.now tail left surplus
+others_are pods others tail left surplus new h e = subst (λ x. ChangesUpTo pods x tail left surplus) (sym e) h
 
 pub all_changed : (pods others tail left : List ℕ) (same_length more surplus : ℕ) → ChangesUpTo pods others tail left surplus → length left ≡ 0 →
     same_length ≡ length pods - length others → more ≡ length others - length tail →
@@ -129,25 +159,6 @@ all_changed pods others tail left same_length more surplus h z e f =
 -- where there are no pods
 pub none_changed : (pods : List ℕ) → length pods ≡ 0 → AreChanged pods (record { same_length = 0; others = 0; surplus = 0 })
 none_changed pods z = all_changed pods pods pods pods 0 0 0 (no_changes pods) z (omega arith) (omega arith)
-
--- first pods and those behind them
-pub shorter_joined : (pods first rest : List ℕ) (m n : ℕ) → pods ≡ first ++ rest → AreShorter first m → AreShorter rest n → AreShorter pods (m + n)
-shorter_joined pods first rest m n e s t =
-    let vs = join_members s.values t.values in
-    let l0 = s.long in
-    let l1 = t.long in
-    let l2 = ap length (member_encodings-join s.values t.values) ∙ length-append (member_encodings s.values) (member_encodings t.values) in
-    let l3 = ap length e ∙ length-append first rest in
-    record {
-      values = vs;
-      members = subst (AreMembers vs) (sym e) (members_joined s.values t.values first rest s.members t.members);
-      long = omega arith;
-    }
-
-canonical_shorter : (pods : List ℕ) → AreCanonical pods → AreShorter pods 0
-canonical_shorter pods k =
-    let own = ap length k.same in
-    record { values = k.values; members = k.members; long = omega arith }
 
 -- those behind the ones that are as long as their encodings
 pub others_shorter : (pods : List ℕ) (c : ChangedPods) → AreChanged pods c → AreShorter (drop c.same_length pods) c.surplus

@@ -57,8 +57,8 @@ leaf_there here body rest type o s l n = record {
 }
 
 -- where a look stops
-pub stops_first : (keyed : Bool) (left here : List ℕ) → IsBytes left → IsBehindKey keyed left here → 0 < length left → IsFaulted here → StopsAt keyed left here 0
-stops_first keyed left here h k l f = record {
+pub stops_first : (keyed : Bool) (left here : List ℕ) → IsBehindKey keyed left here → 0 < length left → IsFaulted here → StopsAt keyed left here 0
+stops_first keyed left here k l f = record {
   refused = f.refused;
   alone = f.alone;
   stands = λ c s. stands_first keyed left here c here k l (at_front here refl s);
@@ -67,7 +67,6 @@ stops_first keyed left here h k l f = record {
       let e = key_long keyed left here k in
       let same : key_size keyed + 0 ≡ length left - (length here + 0) = omega arith in
       subst (λ m. StandsAt c (scope_of keyed) m left) same (offset_first keyed left here c 0 l k (at_pod here s));
-  other = λ c. let first = (first_own keyed left here (rest_of here) h l k refl c).first in f.refused first.value first.begins.begins;
 }
 
 only_short : (b : List ℕ) (k : Fault) → length b < header_size → StandsAtFront k b → k ≡ Short
@@ -90,12 +89,11 @@ stops_key true left e l some =
       offset = λ c s.
           let same : 0 ≡ length left - (length left + 0) = omega arith in
           subst (λ m. StandsAt c from_properties m left) same (at_key left (λ n. let z = ap length n in omega arith) l (only_short left c l s));
-      other = some_key left l some;
     }
 
-pub stops_in : (asked all keyed canonical : Bool) (pods left place : List ℕ) (Then : Bool → ℕ → Type 0) (waiting behind surplus : ℕ) →
-    Awaits asked all pods Then waiting keyed left behind canonical surplus → StopsAt keyed left place 0 → StopsAt all pods place behind
-stops_in asked all keyed canonical pods left place Then waiting behind surplus w s =
+pub stops_in : (all keyed : Bool) (pods left place : List ℕ) (Then : ℕ → Type 0) (waiting behind surplus : ℕ) →
+    Awaits all pods Then waiting keyed left behind surplus → StopsAt keyed left place 0 → StopsAt all pods place behind
+stops_in all keyed pods left place Then waiting behind surplus w s =
     let a = w.room in
     let b = s.room in
     record {
@@ -106,7 +104,6 @@ stops_in asked all keyed canonical pods left place Then waiting behind surplus w
       offset = λ k x.
           let e : length pods - (length left + behind) + (length left - (length place + 0)) ≡ length pods - (length place + behind) = omega arith in
           subst (λ m. StandsAt k (scope_of all) m pods) e (w.offset k (length left - (length place + 0)) (s.offset k x));
-      other = λ t. s.other (w.kept t);
     }
 
 -- what is known of the body at such a place

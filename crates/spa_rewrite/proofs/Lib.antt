@@ -14,6 +14,7 @@ pub mod FirstPods
 pub mod Levels
 pub mod Looks
 pub mod Offsets
+pub mod CanonicalLooks
 pub mod Faulted
 pub mod Accepted
 pub mod Lacking

@@ -19,7 +19,7 @@ use Rattle.spa_scan.specs.Canonical.{AreCanonical, AreCanonicalProperties, Begin
 use Rattle.spa_scan.proofs.Frames.{body_bytes, canonical_front, none_left, none_left_either, object_of, one_more, one_more_property}
 use Rattle.spa_scan.proofs.Made.{made_body, made_members, made_properties}
 use Rattle.spa_scan.proofs.Opened.{object_inside, struct_inside}
-use Rattle.spa_rewrite.specs.Look.{AreLooked, DifferInside, NestMore, OpensInside, Passes, StandsInside, StopsAt, Surround, nest_behind, nest_inside, nest_last}
+use Rattle.spa_rewrite.specs.Look.{NestMore, OpensInside, Passes, StandsInside, StopsAt, Surround, nest_behind, nest_inside, nest_last}
 use Rattle.spa_rewrite.specs.Look.{AreCanonicalInside}
 use Rattle.spa_rewrite.specs.Shorter.{AreShorterInside, BeginsShorter}
 use Rattle.spa_rewrite.specs.Inside.{IsBehindKey, IsInside, key_size}
@@ -120,7 +120,7 @@ stands_opened type here body rest inside true k place o i s =
       | inr x ↦ in_property here s.0 s.1 s.2 o.there t long behind s.4 x.0 x.1
     ]
 
-behind_bytes : (keyed : Bool) (left here : List ℕ) → IsBytes left → IsBehindKey keyed left here → IsBytes here
+pub behind_bytes : (keyed : Bool) (left here : List ℕ) → IsBytes left → IsBehindKey keyed left here → IsBytes here
 behind_bytes true left here h k = subst IsBytes (sym k.1) (IsBytes-drop header_size left h)
 behind_bytes false left here h k = subst IsBytes (sym k) h
 
@@ -189,67 +189,40 @@ own_shorter here rest c = let l = ap length c.same in record { value = c.value; 
 pub some_left : (keyed : Bool) (left here : List ℕ) → IsBehindKey keyed left here → HasFront here → 0 < length left
 some_left keyed left here k h = let d = behind_shorter keyed left here k in let e = h.header in omega arith
 
--- where it is asked, not all are canonical
-abbrev pub AreOther : Bool → Bool → List ℕ → Type 0
-AreOther asked all pods = asked ≡ true → ¬ (AreCanonicalInside all pods)
-
 -- What is found further on holds of all: of what is left, once that is accepted and shorter by so much, the rest follows.
-pub record Awaits (asked all : Bool) (pods : List ℕ) (Then : Bool → ℕ → Type 0) (waiting : ℕ) (keyed : Bool) (left : List ℕ) (behind : ℕ) (canonical : Bool) (surplus : ℕ) :
-    Type 0 where
+pub record Awaits (all : Bool) (pods : List ℕ) (Then : ℕ → Type 0) (waiting : ℕ) (keyed : Bool) (left : List ℕ) (behind surplus : ℕ) : Type 0 where
   pub bytes : IsBytes left
-  pub ends : (m : ℕ) (c : Bool) → (c ≡ true → canonical ≡ true) → (c ≡ false → AreOther asked all pods) →
-      AreShorterInside keyed left m → (c ≡ true → AreCanonicalInside keyed left) → Then c (surplus + m)
-  pub differs : canonical ≡ false → AreOther asked all pods
-  pub kept : AreCanonicalInside all pods → AreCanonicalInside keyed left
+  pub ends : (m : ℕ) → AreShorterInside keyed left m → Then (surplus + m)
   pub stands : (k : Fault) (place : List ℕ) → StandsInside keyed left place k → StandsInside all pods place k
   pub room : length left + behind ≤ length pods
   pub offset : (k : Fault) (at : ℕ) → StandsAt k (scope_of keyed) at left → StandsAt k (scope_of all) (length pods - (length left + behind) + at) pods
   pub deep : (n : ℕ) → NestMore n keyed left → NestMore (n + waiting) all pods
 
 -- what holds once the innermost list ends, where these wait, the innermost first
-abbrev pub Onward : Bool → Bool → List ℕ → List Waiting → Bool → ℕ → Type 0
-Onward asked all pods [] = AreLooked asked all pods
-Onward asked all pods (next ∷ outer) = Awaits asked all pods (Onward asked all pods outer) (length outer) next.keyed next.pods.now next.behind
+abbrev pub Onward : Bool → List ℕ → List Waiting → ℕ → Type 0
+Onward all pods [] = AreShorterInside all pods
+Onward all pods (next ∷ outer) = Awaits all pods (Onward all pods outer) (length outer) next.keyed next.pods.now next.behind
 
 -- these wait, and this is left of the innermost list
-abbrev pub AwaitsAll : Bool → Bool → List ℕ → List Waiting → Bool → List ℕ → ℕ → Bool → ℕ → Type 0
-AwaitsAll asked all pods outer = Awaits asked all pods (Onward asked all pods outer) (length outer)
+abbrev pub AwaitsAll : Bool → List ℕ → List Waiting → Bool → List ℕ → ℕ → ℕ → Type 0
+AwaitsAll all pods outer = Awaits all pods (Onward all pods outer) (length outer)
 
-pub begins_look : (asked all : Bool) (pods : List ℕ) → IsBytes pods → AwaitsAll asked all pods [] all pods 0 asked 0
-begins_look asked all pods h = record {
+pub begins_look : (all : Bool) (pods : List ℕ) → IsBytes pods → AwaitsAll all pods [] all pods 0 0
+begins_look all pods h = record {
   bytes = h;
-  ends = λ m c o d s own. record {
-    shorter = subst (AreShorterInside all pods) (let e : m ≡ 0 + m = omega arith in e) s;
-    exactly = λ a. (own, λ k. kept_true c (λ e. d e a) k);
-    unasked = λ e. stays_unasked c o e;
-  };
-  differs = λ e a. absurd (never asked a e);
-  kept = λ c. c;
+  ends = λ m s. subst (AreShorterInside all pods) (let e : m ≡ 0 + m = omega arith in e) s;
   stands = λ k place s. s;
   room = omega arith;
   offset = λ k n s. (let e : n ≡ length pods - (length pods + 0) + n = omega arith in subst (λ m. StandsAt k (scope_of all) m pods) e s);
   deep = λ n d. subst (λ x. NestMore x all pods) (let e : n ≡ n + 0 = omega arith in e) d;
 }
-  where
-    kept_true : (c : Bool) → (c ≡ false → ¬ (AreCanonicalInside all pods)) → AreCanonicalInside all pods → c ≡ true
-    kept_true true d k = refl
-    kept_true false d k = absurd (d refl k)
-
-    stays_unasked : (c : Bool) → (c ≡ true → asked ≡ true) → asked ≡ false → c ≡ false
-    stays_unasked true o e = absurd (never asked (o refl) e)
-    stays_unasked false o e = refl
 
 -- accepted pods are passed
-pub goes_on : (asked all keyed canonical own now : Bool) (pods left rest : List ℕ) (Then : Bool → ℕ → Type 0) (waiting behind surplus n : ℕ) →
-    Awaits asked all pods Then waiting keyed left behind canonical surplus → Passes keyed own left rest n → (now ≡ true → canonical ≡ true) →
-    (now ≡ true → own ≡ true) → (now ≡ false → AreOther asked all pods) → Awaits asked all pods Then waiting keyed rest behind now (surplus + n)
-goes_on asked all keyed canonical own now pods left rest Then waiting behind surplus n w p c o d = record {
+pub goes_on : (all keyed : Bool) (pods left rest : List ℕ) (Then : ℕ → Type 0) (waiting behind surplus n : ℕ) →
+    Awaits all pods Then waiting keyed left behind surplus → Passes keyed false left rest n → Awaits all pods Then waiting keyed rest behind (surplus + n)
+goes_on all keyed pods left rest Then waiting behind surplus n w p = record {
   bytes = p.bytes;
-  ends = λ m f t x s k.
-      subst (Then f) (let e : surplus + (n + m) ≡ surplus + n + m = omega arith in e)
-      (w.ends (n + m) f (λ e. c (t e)) x (p.shorter m s) (λ e. p.own (o (t e)) (k e)));
-  differs = d;
-  kept = λ k. p.kept (w.kept k);
+  ends = λ m s. subst Then (let e : surplus + (n + m) ≡ surplus + n + m = omega arith in e) (w.ends (n + m) (p.shorter m s));
   stands = λ k place s. w.stands k place (p.stands k place s);
   room = (let a = w.room in let b = p.room in omega arith);
   offset = λ k at s.
@@ -260,14 +233,7 @@ goes_on asked all keyed canonical own now pods left rest Then waiting behind sur
   deep = λ m s. w.deep m (p.deep m s);
 }
 
--- such that all are of the same kind as before
-pub goes_on_alike : (asked all keyed canonical : Bool) (pods left rest : List ℕ) (Then : Bool → ℕ → Type 0) (waiting behind surplus n : ℕ) →
-    Awaits asked all pods Then waiting keyed left behind canonical surplus → Passes keyed canonical left rest n →
-    Awaits asked all pods Then waiting keyed rest behind canonical (surplus + n)
-goes_on_alike asked all keyed canonical pods left rest Then waiting behind surplus n w p =
-    goes_on asked all keyed canonical canonical canonical pods left rest Then waiting behind surplus n w p (λ e. e) (λ e. e) w.differs
-
-inside_bytes : (type : ℕ) (body inside : List ℕ) (inner : Bool) → IsBytes body → IsInside type body inner inside → IsBytes inside
+pub inside_bytes : (type : ℕ) (body inside : List ℕ) (inner : Bool) → IsBytes body → IsInside type body inner inside → IsBytes inside
 inside_bytes type body inside true h i = subst IsBytes (sym i.2) (IsBytes-drop header_size body h)
 inside_bytes type body inside false h i = subst IsBytes (sym i.1) h
 
@@ -309,11 +275,11 @@ inside_own type here body rest behind inside false h o i c =
     subst AreCanonical (sym i.1) (struct_inside type body i.0 m.canonical)
 
 -- a struct or an object is opened
-opened : (asked all keyed inner canonical : Bool) (pods left inside rest : List ℕ) (Then : Bool → ℕ → Type 0) (waiting more behind after surplus : ℕ) →
-    Awaits asked all pods Then waiting keyed left behind canonical surplus → OpensInside keyed left inner inside rest → Surround keyed left inner inside after →
+opened : (all keyed inner : Bool) (pods left inside rest : List ℕ) (Then : ℕ → Type 0) (waiting more behind after surplus : ℕ) →
+    Awaits all pods Then waiting keyed left behind surplus → OpensInside keyed left inner inside rest → Surround keyed left inner inside after →
     ((n : ℕ) → NestMore n inner inside → NestMore (n + more) all pods) →
-    Awaits asked all pods (Awaits asked all pods Then waiting keyed rest behind) more inner inside (behind + after) canonical surplus
-opened asked all keyed inner canonical pods left inside rest Then waiting more behind after surplus w x long deeper =
+    Awaits all pods (Awaits all pods Then waiting keyed rest behind) more inner inside (behind + after) surplus
+opened all keyed inner pods left inside rest Then waiting more behind after surplus w x long deeper =
     let at = x.here in
     let o = x.opens in
     let i = x.its_inside in
@@ -321,13 +287,10 @@ opened asked all keyed inner canonical pods left inside rest Then waiting more b
     let some = some_left keyed left at x.its_key o.there in
     record {
       bytes = inside_bytes x.type x.body inside inner (body_bytes at x.body rest x.type h o) i;
-      ends = λ m c t d s own.
+      ends = λ m s.
           let one = shorter_opened at x.body rest x.type m o (shorter_inside x.type x.body inside inner m i s) in
-          goes_on asked all keyed canonical c c pods left rest Then waiting behind surplus m w
-          (passes_pod keyed c left at rest m w.bytes some x.its_key one (λ e. own_opened x.type at x.body rest inside inner h o i (own e)))
-          t (λ e. e) d;
-      differs = w.differs;
-      kept = λ c. inside_own x.type at x.body rest rest inside inner h o i (first_own keyed left at rest w.bytes some x.its_key o.its_rest (w.kept c)).first;
+          goes_on all keyed pods left rest Then waiting behind surplus m w
+          (passes_pod keyed false left at rest m w.bytes some x.its_key one (λ e. absurd (never false e refl)));
       stands = λ f place s. w.stands f place (stands_first keyed left at f place x.its_key some (stands_opened x.type at x.body rest inside inner f place o i s));
       room = (let a = w.room in omega arith);
       offset = λ f n s.
@@ -340,37 +303,34 @@ opened asked all keyed inner canonical pods left inside rest Then waiting more b
     }
 
 -- what follows it waits
-pub goes_in : (asked all keyed inner canonical : Bool) (pods left inside rest : List ℕ) (Then : Bool → ℕ → Type 0) (waiting behind after surplus : ℕ) →
-    Awaits asked all pods Then waiting keyed left behind canonical surplus → OpensInside keyed left inner inside rest → Surround keyed left inner inside after →
-    rest ≢ [] → Awaits asked all pods (Awaits asked all pods Then waiting keyed rest behind) (suc waiting) inner inside (behind + after) canonical surplus
-goes_in asked all keyed inner canonical pods left inside rest Then waiting behind after surplus w x long r =
-    opened asked all keyed inner canonical pods left inside rest Then waiting (suc waiting) behind after surplus w x long (λ n d.
+pub goes_in : (all keyed inner : Bool) (pods left inside rest : List ℕ) (Then : ℕ → Type 0) (waiting behind after surplus : ℕ) →
+    Awaits all pods Then waiting keyed left behind surplus → OpensInside keyed left inner inside rest → Surround keyed left inner inside after →
+    rest ≢ [] → Awaits all pods (Awaits all pods Then waiting keyed rest behind) (suc waiting) inner inside (behind + after) surplus
+goes_in all keyed inner pods left inside rest Then waiting behind after surplus w x long r =
+    opened all keyed inner pods left inside rest Then waiting (suc waiting) behind after surplus w x long (λ n d.
     subst (λ m. NestMore m all pods) (let e : suc n + waiting ≡ n + suc waiting = omega arith in e) (w.deep (suc n) (nest_inside n keyed inner left inside rest x r d)))
 
-none_own : (keyed : Bool) (left : List ℕ) → length left ≡ 0 → AreCanonicalInside keyed left
+pub none_own : (keyed : Bool) (left : List ℕ) → length left ≡ 0 → AreCanonicalInside keyed left
 none_own true left z = none_left_either left z
 none_own false left z = none_left left z
 
 -- the innermost list has ended
-pub list_ends : (asked all keyed canonical : Bool) (pods left : List ℕ) (Then : Bool → ℕ → Type 0) (waiting behind surplus : ℕ) →
-    Awaits asked all pods Then waiting keyed left behind canonical surplus → length left ≡ 0 → Then canonical surplus
-list_ends asked all keyed canonical pods left Then waiting behind surplus w z =
-    subst (Then canonical) (let e : surplus + 0 ≡ surplus = omega arith in e)
-    (w.ends 0 canonical (λ e. e) w.differs (shorter_none keyed left z) (λ _. none_own keyed left z))
+pub list_ends : (all keyed : Bool) (pods left : List ℕ) (Then : ℕ → Type 0) (waiting behind surplus : ℕ) →
+    Awaits all pods Then waiting keyed left behind surplus → length left ≡ 0 → Then surplus
+list_ends all keyed pods left Then waiting behind surplus w z =
+    subst Then (let e : surplus + 0 ≡ surplus = omega arith in e) (w.ends 0 (shorter_none keyed left z))
 
 -- nothing follows it
-pub goes_in_last : (asked all keyed inner canonical : Bool) (pods left inside rest : List ℕ) (Then : Bool → ℕ → Type 0) (waiting behind after surplus : ℕ) →
-    Awaits asked all pods Then waiting keyed left behind canonical surplus → OpensInside keyed left inner inside rest → Surround keyed left inner inside after →
-    length rest ≡ 0 → Awaits asked all pods Then waiting inner inside (behind + after) canonical surplus
-goes_in_last asked all keyed inner canonical pods left inside rest Then waiting behind after surplus w x long z =
+pub goes_in_last : (all keyed inner : Bool) (pods left inside rest : List ℕ) (Then : ℕ → Type 0) (waiting behind after surplus : ℕ) →
+    Awaits all pods Then waiting keyed left behind surplus → OpensInside keyed left inner inside rest → Surround keyed left inner inside after →
+    length rest ≡ 0 → Awaits all pods Then waiting inner inside (behind + after) surplus
+goes_in_last all keyed inner pods left inside rest Then waiting behind after surplus w x long z =
     let r = nil_from_length rest z in
-    let n = opened asked all keyed inner canonical pods left inside rest Then waiting waiting behind after surplus w x long
+    let n = opened all keyed inner pods left inside rest Then waiting waiting behind after surplus w x long
     (λ m d. w.deep m (nest_last m keyed inner left inside rest x r d)) in
     record {
       bytes = n.bytes;
-      ends = λ m c t d s own. list_ends asked all keyed c pods rest Then waiting behind (surplus + m) (n.ends m c t d s own) z;
-      differs = n.differs;
-      kept = n.kept;
+      ends = λ m s. list_ends all keyed pods rest Then waiting behind (surplus + m) (n.ends m s) z;
       stands = n.stands;
       room = n.room;
       offset = n.offset;
@@ -383,13 +343,13 @@ left_waiting [] = 0
 left_waiting (next ∷ outer) = left_waiting outer + (length next.pods.now + 1)
 
 -- a list more waits
-pub pushed : (frames new : List Waiting) (waiting : ℕ) (next : Waiting) → new ≡ set frames waiting next → waiting < length frames →
+pub pushed : {A : Type 0} (frames new : List A) (waiting : ℕ) (next : A) → new ≡ set frames waiting next → waiting < length frames →
     reverse (take (waiting + 1) new) ≡ next ∷ reverse (take waiting frames)
 pushed frames new waiting next e l =
     ap (λ x. reverse (take (waiting + 1) x)) e ∙ ap reverse (take_more_set frames waiting next l) ∙ reverse-append (take waiting frames) (next ∷ [])
 
 -- one less
-pub popped : (frames : List Waiting) (waiting fewer : ℕ) (other : Waiting) → fewer + 1 ≡ waiting → fewer < length frames →
+pub popped : {A : Type 0} (frames : List A) (waiting fewer : ℕ) (other : A) → fewer + 1 ≡ waiting → fewer < length frames →
     reverse (take waiting frames) ≡ get_or frames fewer other ∷ reverse (take fewer frames)
 popped frames waiting fewer other e l =
     ap (λ n. reverse (take n frames)) (sym e) ∙ ap reverse (take_more frames fewer other l) ∙ reverse-append (take fewer frames) (get_or frames fewer other ∷ [])
@@ -427,29 +387,14 @@ surround keyed inner left at body rest inside type after k o i e =
     omega arith
 
 -- first pods were passed, and nothing is left
-pub passed_all : (asked keyed : Bool) (pods left : List ℕ) (n : ℕ) → Passes keyed asked pods left n → length left ≡ 0 → AreLooked asked keyed pods asked n
-passed_all asked keyed pods left n p z = record {
-  shorter = subst (AreShorterInside keyed pods) (let e : n + 0 ≡ n = omega arith in e) (p.shorter 0 (shorter_none keyed left z));
-  exactly = λ a. (λ _. p.own a (none_own keyed left z), λ _. a);
-  unasked = λ e. e;
-}
+pub passed_all : (keyed : Bool) (pods left : List ℕ) (n : ℕ) → Passes keyed false pods left n → length left ≡ 0 → AreShorterInside keyed pods n
+passed_all keyed pods left n p z =
+    subst (AreShorterInside keyed pods) (let e : n + 0 ≡ n = omega arith in e) (p.shorter 0 (shorter_none keyed left z))
 
 -- what is found behind these
-pub looked_behind : (asked keyed : Bool) (pods left : List ℕ) (canonical : Bool) (n m : ℕ) → Passes keyed asked pods left n →
-    AreLooked asked keyed left canonical m → AreLooked asked keyed pods canonical (n + m)
-looked_behind asked keyed pods left canonical n m p l = record {
-  shorter = p.shorter m l.shorter;
-  exactly = λ a. (λ e. p.own a ((l.exactly a).0 e), λ k. (l.exactly a).1 (p.kept k));
-  unasked = l.unasked;
-}
-
-pub differ_behind : (ends asked keyed : Bool) (pods left : List ℕ) (n : ℕ) → Passes keyed asked pods left n → DifferInside ends asked keyed left →
-    DifferInside ends asked keyed pods
-differ_behind ends asked keyed pods left n p d = record { allowed = d.allowed; canonical = λ a k. d.canonical a (p.kept k) }
-
-pub stops_behind : (asked keyed : Bool) (pods left place : List ℕ) (behind n : ℕ) → Passes keyed asked pods left n → StopsAt keyed left place behind →
+pub stops_behind : (keyed : Bool) (pods left place : List ℕ) (behind n : ℕ) → Passes keyed false pods left n → StopsAt keyed left place behind →
     StopsAt keyed pods place behind
-stops_behind asked keyed pods left place behind n p s =
+stops_behind keyed pods left place behind n p s =
     let a = p.room in
     let b = s.room in
     record {
@@ -460,5 +405,4 @@ stops_behind asked keyed pods left place behind n p s =
       offset = λ k x.
           let e : length pods - length left + (length left - (length place + behind)) ≡ length pods - (length place + behind) = omega arith in
           subst (λ m. StandsAt k (scope_of keyed) m pods) e (p.offset k (length left - (length place + behind)) (s.offset k x));
-      other = λ t. s.other (p.kept t);
     }

@@ -12,6 +12,10 @@ use Rattle.spa_scan.specs.Depth.{NestsDeeper, levels_looked_into}
 use Rattle.spa_rewrite.specs.Shorter.{AreShorter, AreShorterInside, BeginsShorter}
 use Rattle.spa_rewrite.specs.Inside.{IsBehindKey, IsInside, key_size}
 use Rattle.spa_rewrite.specs.Offsets.{IsFaultAt, StandsAt, scope_of}
+use Rattle.spa_rewrite.specs.declared.leading.CanonicalLook.{CanonicalLook}
+use Rattle.spa_rewrite.specs.declared.leading.CanonicalLook.TheVariants as look
+use Rattle.spa_rewrite.specs.declared.leading.First.{First}
+use Rattle.spa_rewrite.specs.declared.leading.First.TheVariants as first
 use Rattle.spa_rewrite.specs.declared.look.AcceptedPod.{AcceptedPod}
 use Rattle.spa_rewrite.specs.declared.look.AcceptedPods.{AcceptedPods}
 use Rattle.spa_rewrite.specs.declared.look.ChangedPods.{ChangedPods}
@@ -61,12 +65,6 @@ pub record IsTooDeep (input : List ℕ) : Type 0 where
   pub opens : OpensInside false input inner inside rest
   pub more : NestMore levels_looked_into inner inside
 
--- They are accepted, and their encodings are so many bytes shorter; whether they are canonical, if that is asked.
-pub record AreLooked (asked keyed : Bool) (pods : List ℕ) (canonical : Bool) (surplus : ℕ) : Type 0 where
-  pub shorter : AreShorterInside keyed pods surplus
-  pub exactly : asked ≡ true → Decides canonical (AreCanonicalInside keyed pods)
-  pub unasked : asked ≡ false → canonical ≡ false
-
 -- No pod begins at this place, which so many bytes of the pods follow, for a fault that is in no member or property of it: a fault that stands at its
 -- front stands in them.
 pub record StopsAt (keyed : Bool) (pods place : List ℕ) (behind : ℕ) : Type 0 where
@@ -75,19 +73,12 @@ pub record StopsAt (keyed : Bool) (pods place : List ℕ) (behind : ℕ) : Type 
   pub stands : (k : Fault) → StandsAtFront k place → StandsInside keyed pods place k
   pub room : length place + behind ≤ length pods
   pub offset : (k : Fault) → StandsAtFront k place → StandsAt k (scope_of keyed) (length pods - (length place + behind)) pods
-  pub other : ¬ (AreCanonicalInside keyed pods)
-
--- Not all are canonical, if that is asked: a look that may end there does.
-pub record DifferInside (ends asked keyed : Bool) (pods : List ℕ) : Type 0 where
-  pub allowed : ends ≡ true
-  pub canonical : asked ≡ true → ¬ (AreCanonicalInside keyed pods)
 
 -- what is found in members or properties, where so many lists can wait
-abbrev pub IsFound : Bool → Bool → ℕ → Bool → List ℕ → Found → Type 0
-IsFound ends asked waiting keyed pods (found.Fits canonical surplus) = AreLooked asked keyed pods canonical surplus
-IsFound ends asked waiting keyed pods found.Differs = DifferInside ends asked keyed pods
-IsFound ends asked waiting keyed pods (found.Stops place behind) = StopsAt keyed pods place.now behind
-IsFound ends asked waiting keyed pods found.TooDeep = NestMore waiting keyed pods
+abbrev pub IsFound : ℕ → Bool → List ℕ → Found → Type 0
+IsFound waiting keyed pods (found.Fits surplus) = AreShorterInside keyed pods surplus
+IsFound waiting keyed pods (found.Stops place behind) = StopsAt keyed pods place.now behind
+IsFound waiting keyed pods found.TooDeep = NestMore waiting keyed pods
 
 -- The first members or properties are accepted and were passed, and this follows them: what is found of it holds of all.
 pub record Passes (keyed canonical : Bool) (left rest : List ℕ) (surplus : ℕ) : Type 0 where
@@ -100,24 +91,28 @@ pub record Passes (keyed canonical : Bool) (left rest : List ℕ) (surplus : ℕ
   pub bytes : IsBytes rest
   pub room : surplus + length rest ≤ length left
 
--- Accepted pods that hold no others stand first, this follows them, and their encodings are so many bytes shorter. The pods before them are
--- canonical, if that is set; whether these are too.
-pub record AreMet (canonical keyed : Bool) (left rest : List ℕ) (are_all : Bool) (surplus : ℕ) : Type 0 where
-  pub passed : Passes keyed are_all left rest surplus
-  pub fewer : length rest < length left
-  pub so_far : are_all ≡ true → canonical ≡ true
-  pub differs : are_all ≡ false → (canonical ≡ false) ⊎ ¬ (AreCanonicalInside keyed left)
-
 -- keys and headers stand before what is inside the first of them, and so many bytes behind it
 abbrev pub Surround : Bool → List ℕ → Bool → List ℕ → ℕ → Type 0
 Surround keyed left inner inside behind = length left ≡ key_size keyed + (header_size + (key_size inner + (length inside + behind)))
 
 -- what stands first in members or properties
-abbrev pub IsMet : Bool → Bool → List ℕ → Met → Type 0
-IsMet canonical keyed left (met.Leaves rest are_all surplus) = AreMet canonical keyed left rest.now are_all surplus
-IsMet canonical keyed left (met.Inner inner rest behind) =
+abbrev pub IsMet : Bool → List ℕ → Met → Type 0
+IsMet keyed left (met.Leaves rest surplus) = Passes keyed false left rest.now surplus × (length rest.now < length left)
+IsMet keyed left (met.Inner inner rest behind) =
     OpensInside keyed left inner.keyed inner.pods.now rest.now × Surround keyed left inner.keyed inner.pods.now behind
-IsMet canonical keyed left (met.Fault place) = StopsAt keyed left place.now 0
+IsMet keyed left (met.Fault place) = StopsAt keyed left place.now 0
+
+-- what stands first in members or properties that a look for canonical ones is at
+abbrev pub IsFirst : Bool → List ℕ → First → Type 0
+IsFirst keyed left (first.Inner inner rest) = OpensInside keyed left inner.keyed inner.pods.now rest.now
+IsFirst keyed left (first.Leaf rest) = Passes keyed true left rest.now 0 × (length rest.now < length left)
+IsFirst keyed left first.Differs = ¬ (AreCanonicalInside keyed left)
+
+-- what it finds in all of them, where so many lists can wait
+abbrev pub IsCanonicalLook : ℕ → Bool → List ℕ → CanonicalLook → Type 0
+IsCanonicalLook waiting keyed pods look.Same = AreCanonicalInside keyed pods
+IsCanonicalLook waiting keyed pods look.Differs = ¬ (AreCanonicalInside keyed pods)
+IsCanonicalLook waiting keyed pods look.TooDeep = NestMore waiting keyed pods
 
 -- the pod at the front is accepted: what follows it, whether it is canonical, and by how much its encoding is shorter
 pub record IsAccepted (input : List ℕ) (pod : AcceptedPod) : Type 0 where

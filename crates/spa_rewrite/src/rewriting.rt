@@ -21,10 +21,9 @@ ghost use Rattle.spa_scan.specs.Depth.{depth_of, levels_looked_into};
 ghost use Rattle.spa_value.specs.View.{view};
 
 use crate::inside::inside_of;
-use crate::leading::{canonical_pods, canonical_stretch};
+use crate::leading::canonical_stretch;
 use crate::look::{
-    AcceptedPod, DEEP_BODY, Found, Rejected, Waiting, few_frames, look_at_front, look_at_pods,
-    look_into, more_unasked,
+    AcceptedPod, DEEP_BODY, Found, Rejected, look_at_front, look_at_pods, look_into, more_unasked,
 };
 use crate::patch::patch_all;
 use crate::source::Apart;
@@ -60,7 +59,7 @@ pub fn rewrite(alloc: Global, input: &[u8]) -> Result<(&[u8], Vec<u8>), Deserial
     ensures asks { IfErr result (OnMemory (FrontAsksMemory input.now)) }
 {
     let mut out = Vec::new(alloc);
-    match append_front(input, &mut few_frames(input), &mut out) {
+    match append_front(input, &mut out) {
         Ok(rest) => Ok((rest, out)),
         Err(refused) => Err(error_at(refused.place, refused.why)),
     }
@@ -170,12 +169,11 @@ fn append_all<'a>(input: &'a [u8], out: &mut Vec<u8>) -> Result<(), (&'a [u8], R
     ensures left { IfErr result (λ refusal. IsLeft input.now refusal.0.now) }
     ensures refused { IfErr result (λ refusal. IsRefusal refusal.0.now (error_of refusal.1.place refusal.1.why)) }
 {
-    let mut frames = few_frames(input);
     let start = out.len();
     let mut left = input;
     let mut unasked = 1;
     loop {
-        let Some(others) = append_canonical(left, &mut frames, out) else {
+        let Some(others) = append_canonical(left, out) else {
             out.truncate(start);
             return Err((left, lacking_memory(left)));
         };
@@ -187,7 +185,7 @@ fn append_all<'a>(input: &'a [u8], out: &mut Vec<u8>) -> Result<(), (&'a [u8], R
         } else {
             more_unasked(unasked)
         };
-        match append_others(unasked, others, &mut frames, out) {
+        match append_others(unasked, others, out) {
             Ok(rest) => left = rest,
             Err(refused) => {
                 out.truncate(start);
@@ -209,16 +207,12 @@ fn lacking_memory(pod: &[u8]) -> Refused<'_>
 
 /// Appends the first pods, as many as are canonical, and answers what follows them. `None`: memory ran out, and nothing was appended.
 #[inline(always)]
-fn append_canonical<'a>(
-    left: &'a [u8],
-    frames: &mut [Waiting<'a>],
-    out: &mut Vec<u8>,
-) -> Option<&'a [u8]>
+fn append_canonical<'a>(left: &'a [u8], out: &mut Vec<u8>) -> Option<&'a [u8]>
     ensures appended { IfSome result (λ rest. AppendsFirst left.now rest.now out.old.items out.new.items) }
     ensures unchanged { IfNone result (out.new.items ≡ out.old.items) }
     ensures asks { IfNone result (HasFront left.now × FrontAsksMemory left.now) }
 {
-    let (stretch, rest) = canonical_pods(left, frames);
+    let (stretch, rest) = canonical_stretch(left);
     if stretch.is_empty() {
         return Some(left);
     }
@@ -240,20 +234,15 @@ struct Section<'a> {
 }
 
 /// Appends the encodings of pods the first of which isn't canonical, some `len` bytes, and answers what follows them. Refused is the first of them.
-fn append_others<'a>(
-    len: usize,
-    pods: &'a [u8],
-    frames: &mut [Waiting<'a>],
-    out: &mut Vec<u8>,
-) -> Result<&'a [u8], Refused<'a>>
+fn append_others<'a>(len: usize, pods: &'a [u8], out: &mut Vec<u8>) -> Result<&'a [u8], Refused<'a>>
     ensures appended { IfOk result (λ rest. AppendsFirst pods.now rest.now out.old.items out.new.items) }
     ensures fewer { IfOk result (λ rest. length rest.now < length pods.now) }
     ensures unchanged { OnErr result (out.new.items ≡ out.old.items) }
     ensures refused { IfErr result (λ refused. IsRefusal pods.now (error_of refused.place refused.why)) }
 {
-    let section = look_over(len, pods, frames);
+    let section = look_over(len, pods);
     if section.pods.is_empty() {
-        return append_front(pods, frames, out);
+        return append_front(pods, out);
     }
     match append_pods(section.pods, section.surplus, out) {
         Some(()) => Ok(section.rest),
@@ -265,13 +254,13 @@ fn append_others<'a>(
 /// gets shorter, since they are patched; and all before one that would be written and in which more than `LEVELS` structs and objects stand in one another,
 /// wherever these end: what writes such a pod calls itself for each.
 #[inline(always)]
-fn look_over<'a>(len: usize, pods: &'a [u8], frames: &mut [Waiting<'a>]) -> Section<'a>
+fn look_over<'a>(len: usize, pods: &'a [u8]) -> Section<'a>
     ensures { IsSection pods.now result }
 {
     let mut left = pods;
     let mut surplus = 0;
     while pods.len() - left.len() < len {
-        let Some((rest, more)) = behind_front(left, frames) else {
+        let Some((rest, more)) = behind_front(left) else {
             return cut_section(pods, left, surplus);
         };
         if surplus == 0 && more > 0 && left.len() < pods.len() {
@@ -289,7 +278,7 @@ fn look_over<'a>(len: usize, pods: &'a [u8], frames: &mut [Waiting<'a>]) -> Sect
 
 /// What follows the pod at the front, where a look accepts it, and by how many bytes its encoding is shorter. It isn't asked whether the pod is canonical.
 #[inline(always)]
-fn behind_front<'a>(input: &'a [u8], frames: &mut [Waiting<'a>]) -> Option<(&'a [u8], usize)>
+fn behind_front<'a>(input: &'a [u8]) -> Option<(&'a [u8], usize)>
     ensures { IfSome result (λ passed. BeginsShorter input.now passed.0.now passed.1) }
 {
     if let Some(rest) = short_front(input) {
@@ -300,8 +289,8 @@ fn behind_front<'a>(input: &'a [u8], frames: &mut [Waiting<'a>]) -> Option<(&'a 
         let surplus = leaf_surplus(front.type_, front.body)?;
         return Some((front.rest, surplus));
     };
-    match look_into(false, inside.keyed, false, inside.pods, frames) {
-        Found::Fits(_, surplus) => Some((front.rest, surplus)),
+    match look_into(inside.keyed, inside.pods) {
+        Found::Fits(surplus) => Some((front.rest, surplus)),
         _ => None,
     }
 }
@@ -331,16 +320,13 @@ fn cut_section<'a>(pods: &'a [u8], left: &'a [u8], surplus: usize) -> Section<'a
 
 /// Looks at the pod at the front, and rejects it as too deep also where it gets shorter and is deep.
 #[inline(always)]
-fn look_to_write<'a>(
-    input: &'a [u8],
-    frames: &mut [Waiting<'a>],
-) -> Result<AcceptedPod<'a>, Rejected<'a>>
+fn look_to_write<'a>(input: &'a [u8]) -> Result<AcceptedPod<'a>, Rejected<'a>>
     ensures accepted { IfOk result (IsAcceptedAsked true input.now) }
     ensures rejected { IfErr result (IsUnwritten input.now) }
     // Each pod of so many levels is accepted.
     ensures missed { IfErr result (λ _. (v : Tree) → Begins input.now v → levels_looked_into < depth_of v) }
 {
-    let pod = match look_at_front(true, input, frames) {
+    let pod = match look_at_front(true, input) {
         Ok(pod) => pod,
         Err(rejected) => return Err(rejected),
     };
@@ -370,16 +356,12 @@ fn append_pods(pods: &[u8], surplus: usize, out: &mut Vec<u8>) -> Option<()>
 }
 
 /// Appends the encoding of the pod at the front of the input, and answers what follows that pod.
-fn append_front<'a>(
-    input: &'a [u8],
-    frames: &mut [Waiting<'a>],
-    out: &mut Vec<u8>,
-) -> Result<&'a [u8], Refused<'a>>
+fn append_front<'a>(input: &'a [u8], out: &mut Vec<u8>) -> Result<&'a [u8], Refused<'a>>
     ensures appended { IfOk result (λ rest. AppendsFront input.now rest.now out.old.items out.new.items) }
     ensures unchanged { OnErr result (out.new.items ≡ out.old.items) }
     ensures refused { IfErr result (λ refused. IsRefusal input.now (error_of refused.place refused.why)) }
 {
-    match look_to_write(input, frames) {
+    match look_to_write(input) {
         Ok(pod) => {
             let (front, _) = input.split_at(input.len() - pod.rest.len());
             match append_pod(pod.canonical, front, pod.surplus, out) {

@@ -51,9 +51,9 @@ IsDeepBody (suc n) type body =
 abbrev pub levels_looked_into : ℕ
 levels_looked_into = 1000
 
--- the answer is true of such a canonical body, where its value is neither of a kind of fixed size nor a struct or an object
+-- the answer is true of such a canonical body, unless its value is of a kind of fixed size, a struct or an object
 abbrev pub FindsOther : ℕ → List ℕ → Bool → Type 0
-FindsOther type body answer = (c : IsCanonicalBody type body) → depth_of c.value ≡ 0 → ¬ (IsSized c.value) → answer ≡ true
+FindsOther type body found = (c : IsCanonicalBody type body) → depth_of c.value ≡ 0 → ¬ (IsSized c.value) → found ≡ true
 
 -- canonical pods one after another that nest in so many levels at most
 pub record AreShallow (levels : ℕ) (body : List ℕ) : Type 0 where

@@ -7,4 +7,4 @@ use Rattle.spa_rewrite.proofs.look.look_deep.Goals as goal
 pub returns : goal.returns
 returns c =
     let frame : Inside = record { keyed = c.args.keyed; pods = c.args.pods } in
-    subst (λ n. IsFound c.args.ends c.args.canonical n c.args.keyed c.args.pods.now c.look_inside.result) (length-replicate 1000 frame) c.look_inside.ensures
+    subst (λ n. IsFound n c.args.keyed c.args.pods.now c.look_inside.result) (length-replicate 1000 frame) c.look_inside.ensures

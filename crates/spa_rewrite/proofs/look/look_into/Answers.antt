@@ -1,16 +1,13 @@
 use Rattle.std.proofs.Common.{sym, ◌∙◌}
 use Rattle.std.proofs.lemmas.Bool.{eqb-true}
-use Rattle.spa_rewrite.proofs.Looks.{differ_behind, looked_behind, passed_all, stops_behind}
+use Rattle.spa_rewrite.proofs.Looks.{passed_all, stops_behind}
 use Rattle.spa_rewrite.proofs.look.look_into.Goals as goal
 
 pub returns-then-is_empty : goal.returns-then-is_empty
-returns-then-is_empty c = passed_all _ _ _ _ _ c.behind_first-surplus.ensures (eqb-true _ _ (sym c.is_empty.ensures ∙ c.if-is_empty.true))
+returns-then-is_empty c = passed_all _ _ _ _ c.behind_accepted-surplus.ensures (eqb-true _ _ (sym c.is_empty.ensures ∙ c.if-is_empty.true))
 
 pub returns-in-Fits : goal.returns-in-Fits
-returns-in-Fits c = looked_behind _ _ _ _ _ _ _ c.behind_first-surplus.ensures c.in-Fits.ensures
-
-pub returns-in-Differs : goal.returns-in-Differs
-returns-in-Differs c = differ_behind _ _ _ _ _ _ c.behind_first-surplus.ensures c.in-Differs.ensures
+returns-in-Fits c = c.behind_accepted-surplus.ensures.shorter _ c.in-Fits.ensures
 
 pub returns-in-Stops : goal.returns-in-Stops
-returns-in-Stops c = stops_behind _ _ _ _ _ _ _ c.behind_first-surplus.ensures c.in-Stops.ensures
+returns-in-Stops c = stops_behind _ _ _ _ _ _ c.behind_accepted-surplus.ensures c.in-Stops.ensures

@@ -11,20 +11,17 @@ returns-in_default c =
     stops_key _ _ short.0 short.1 c.requires
 
 pub returns-in_default-open : goal.returns-in_default-open
-returns-in_default-open c = stops_first _ _ _ (λ i. omega (arith, c.type_inv.left i)) c.in-Some.ensures.there c.requires (short_there _ c.in_default-open.ensures.short)
+returns-in_default-open c = stops_first _ _ _ c.in-Some.ensures.there c.requires (short_there _ c.in_default-open.ensures.short)
 
 pub returns-in-Some-rare_surplus : goal.returns-in-Some-rare_surplus
 returns-in-Some-rare_surplus c =
     let bytes : IsBytes c.args.left.now = λ i. omega (arith, c.type_inv.left i) in
-    let other = c.in_default-inside_of.ensures in
-    let stays = c.stays_canonical.ensures in
-    meets_leaf _ _ _ _ _ _ _ _ _ bytes c.in-Some.ensures.there c.in-Some-open.ensures.there other.other other.short c.in-Some-rare_surplus.ensures.there
-    stays.so_far stays.own stays.differs
+    meets_leaf _ _ _ _ _ _ _ bytes c.in-Some.ensures.there c.in-Some-open.ensures.there c.in-Some-rare_surplus.ensures.there
 
 pub returns-in-None : goal.returns-in-None
 returns-in-None c =
     let other = c.in_default-inside_of.ensures in
-    stops_first _ _ _ (λ i. omega (arith, c.type_inv.left i)) c.in-Some.ensures.there c.requires
+    stops_first _ _ _ c.in-Some.ensures.there c.requires
     (leaf_there _ _ _ _ c.in-Some-open.ensures.there other.other other.short c.in-None.ensures.missed)
 
 pub returns-in-Some-inside_of : goal.returns-in-Some-inside_of

@@ -1,7 +1,4 @@
-use Rattle.std.proofs.Common.{arith}
-use Rattle.spa_format.specs.Typed.{IsBytes}
-use Rattle.spa_rewrite.proofs.Accepted.{inside_exactly}
-use Rattle.spa_rewrite.proofs.ShorterLemmas.{shorter_opened}
+use Rattle.spa_rewrite.proofs.ShorterLemmas.{shorter_inside, shorter_opened}
 use Rattle.spa_rewrite.proofs.rewriting.behind_front.Goals as goal
 
 pub returns-in_default-inside_of : goal.returns-in_default-inside_of
@@ -9,5 +6,4 @@ returns-in_default-inside_of c = shorter_opened _ _ _ _ _ c.in_ok-front.ensures.
 
 pub returns-in-Fits : goal.returns-in-Fits
 returns-in-Fits c =
-    let bytes : IsBytes c.args.input.now = λ i. omega (arith, c.type_inv.input i) in
-    (inside_exactly _ _ _ _ _ _ _ _ _ bytes c.in_ok-front.ensures.there c.in-Some-inside_of.ensures.there c.in-Fits.ensures).0
+    shorter_opened _ _ _ _ _ c.in_ok-front.ensures.there (shorter_inside _ _ _ _ _ c.in-Some-inside_of.ensures.there c.in-Fits.ensures)

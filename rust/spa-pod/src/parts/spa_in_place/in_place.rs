@@ -12,8 +12,8 @@ use crate::parts::spa_rewrite::{
 /// Puts the rewritings of all pods that the bytes are at their front, and answers how many bytes these take: never more than the
 /// pods took. The bytes behind them stay as they were.
 ///
-/// The call is refused exactly as `rewrite_all`, and then no byte is changed. A refusal gives how many bytes stand before the refused
-/// pod, and its fault without the place inside it, which `accept_all` of `spa_rewrite` gives.
+/// The call is refused exactly as `rewrite_all`, and then no byte is changed. A refusal gives the offset of the refused pod, and its fault;
+/// `Nom` has the offset of the byte at which the fault stands, or `None` where memory was asked for.
 ///
 /// All pods are looked at first, and a fault that the look finds is the refusal. Then those before the first one that gets shorter are patched where
 /// they are, those from it up to the last one that isn't canonical are written behind them, and the canonical ones that follow are moved at once. That
@@ -21,7 +21,7 @@ use crate::parts::spa_rewrite::{
 /// ones nest too deep: then their rewritings are made in memory, by `rewrite_all`, and copied back.
 pub fn rewrite_in_place(
     bytes: &mut [u8],
-) -> Result<usize, (usize, DeserializeError<()>)> {
+) -> Result<usize, (usize, DeserializeError<Option<usize>>)> {
     let len = bytes.len();
     let (first, others) = canonical_stretch(bytes);
     let from = first.len();
@@ -31,13 +31,14 @@ pub fn rewrite_in_place(
             Ok(len - changed.surplus)
         }
         Err((pod, rejected)) => match rejected {
-            Rejected::Fault(place, why) => {
-                Err((len - pod.len(), without_place(error_at(place, why))))
+            Rejected::Fault(place, at, why) => {
+                let top = len - pod.len();
+                Err((top, with_offset(Some(top + at), error_at(place, why))))
             }
             Rejected::TooDeep => {
                 let mut written = Vec::new();
                 if let Err((left, error)) = rewrite_all(others, &mut written) {
-                    return Err((len - left.len(), without_place(error)));
+                    return Err((len - left.len(), with_offset(None, error)));
                 }
                 put_first(written.as_slice(), &mut bytes[from..]);
                 Ok(from + written.len())
@@ -69,11 +70,14 @@ fn move_rest(len: usize, surplus: usize, pods: &mut [u8]) {
     tail.carry(&mut pods[end..]);
 }
 
-/// The refusal without its place.
-fn without_place(error: DeserializeError<&[u8]>) -> DeserializeError<()> {
+/// The refusal with the place given by its offset.
+fn with_offset(
+    offset: Option<usize>,
+    error: DeserializeError<&[u8]>,
+) -> DeserializeError<Option<usize>> {
     match error {
         DeserializeError::Nom(fault) => DeserializeError::Nom(Fault {
-            input: (),
+            input: offset,
             kind: fault.kind,
         }),
         DeserializeError::UnsupportedType => DeserializeError::UnsupportedType,

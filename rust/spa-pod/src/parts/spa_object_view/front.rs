@@ -69,7 +69,7 @@ fn no_object(input: &[u8]) -> NoObject {
     match look_at_pod(input) {
         Ok(_) => NoObject::Other,
         Err(rejected) => match rejected {
-            Rejected::Fault(_, _) => NoObject::Unread,
+            Rejected::Fault(_, _, _) => NoObject::Unread,
             Rejected::TooDeep => deep_no_object(input),
         },
     }

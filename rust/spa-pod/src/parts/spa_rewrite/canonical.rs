@@ -15,7 +15,7 @@ pub fn is_canonical(input: &[u8]) -> Result<bool, AllocError> {
     match look_at_pod(input) {
         Ok(pod) => Ok(pod.canonical),
         Err(rejected) => match rejected {
-            Rejected::Fault(_, _) => Ok(false),
+            Rejected::Fault(_, _, _) => Ok(false),
             Rejected::TooDeep => is_deep_canonical(input),
         },
     }

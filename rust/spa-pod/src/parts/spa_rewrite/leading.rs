@@ -1,64 +1,226 @@
-//! The first pods of an input that are canonical, found by the look.
+//! The first pods of an input that are canonical. This look writes nothing, takes no memory and calls itself nowhere: what is left of the structs and
+//! objects around a pod waits in an array of fixed size.
 
 use crate::shims::prelude::*;
-use crate::parts::spa_rewrite::inside::{Inside, inside_of};
-use crate::parts::spa_rewrite::look::{FEW, Found, look_into};
-use crate::parts::spa_bytes::open;
-use crate::parts::spa_scan::leaf_front;
+use crate::parts::spa_rewrite::inside::{Inside, behind_key, inside_of};
+use crate::parts::spa_rewrite::look::{FEW, MANY};
+use crate::parts::spa_bytes::{HEADER_LEN, SECOND_WORD, open, u32_at};
+use crate::parts::spa_scan::{fixed_front, leaf_body_front, leaf_front};
+use crate::parts::spa_utils::SpaTypes;
+
+/// What a look for canonical pods finds in a struct or an object.
+#[derive(Clone, Copy)]
+pub(crate) enum CanonicalLook {
+    /// All pods are canonical.
+    Same,
+    /// One isn't.
+    Differs,
+    /// There is no room for one more list that waits.
+    TooDeep,
+}
+
+/// What stands first in a list.
+#[derive(Clone, Copy)]
+enum First<'a> {
+    /// A struct or an object: what is inside, and what follows it.
+    Inner(Inside<'a>, &'a [u8]),
+    /// Another canonical pod, which this follows.
+    Leaf(&'a [u8]),
+    /// No canonical pod.
+    Differs,
+}
 
 /// What follows the pod at the front, where a look finds that it is canonical: its padding is zeros, its truth values are 0 or 1, its choices hold
 /// no surplus values, its pointers take 16 bytes, and the same holds of its members. It takes no memory.
 ///
 /// `None` says that it isn't, or that more than 1000 structs and objects stand in one another, not counting those in tail position:
 /// such a pod may not be looked into, and may still be canonical.
+#[cfg_attr(not(debug_assertions), inline(always))]
 pub fn canonical_front(input: &[u8]) -> Option<&[u8]> {
-    let list = Inside {
-        keyed: false,
-        pods: input,
+    let Some(front) = open(input) else {
+        return None;
     };
-    next_canonical(input, &mut [list; FEW])
+    let Some(inside) = inside_of(front.type_, front.body) else {
+        return leaf_front(input);
+    };
+    match look_for_canonical(inside.keyed, inside.pods) {
+        CanonicalLook::Same => Some(front.rest),
+        CanonicalLook::Differs => None,
+        CanonicalLook::TooDeep => None,
+    }
 }
 
 /// The first pods, as many as `canonical_front` finds to be canonical, and what follows them.
-pub fn canonical_stretch(input: &[u8]) -> (&[u8], &[u8]) {
-    let list = Inside {
-        keyed: false,
-        pods: input,
-    };
-    canonical_pods(input, &mut [list; FEW])
-}
-
-/// Answers what `canonical_stretch` does, with an array in which lists can wait.
 #[inline(never)]
-pub(crate) fn canonical_pods<'a>(input: &'a [u8], frames: &mut [Inside<'a>]) -> (&'a [u8], &'a [u8]) {
+pub fn canonical_stretch(input: &[u8]) -> (&[u8], &[u8]) {
     let mut left = input;
-    while let Some(rest) = next_canonical(left, frames) {
+    while let Some(rest) = canonical_front(left) {
         left = rest;
     }
     input.split_at(input.len() - left.len())
 }
 
-/// What follows the pod at the front as `canonical_front` says it, with an array in which lists can wait.
+/// Looks whether all pods inside a struct or an object are canonical: at the first ones that hold no others, which need no array, and at what follows
+/// them.
 #[cfg_attr(not(debug_assertions), inline(always))]
-fn next_canonical<'a>(input: &'a [u8], frames: &mut [Inside<'a>]) -> Option<&'a [u8]> {
-    if let Some(rest) = leaf_front(input) {
-        return Some(rest);
+pub(crate) fn look_for_canonical(keyed: bool, pods: &[u8]) -> CanonicalLook {
+    let left = behind_canonical(keyed, pods);
+    if left.is_empty() {
+        return CanonicalLook::Same;
     }
-    let Some(front) = open(input) else {
-        return None;
-    };
-    let Some(inside) = inside_of(front.type_, front.body) else {
-        return None;
-    };
-    match look_into(true, inside.keyed, true, inside.pods, frames) {
-        Found::Fits(canonical, _) => {
-            if canonical {
-                return Some(front.rest);
+    match look_on(keyed, left, &mut [Inside { keyed, pods }; FEW]) {
+        CanonicalLook::Same => CanonicalLook::Same,
+        CanonicalLook::Differs => CanonicalLook::Differs,
+        CanonicalLook::TooDeep => look_deep_for_canonical(keyed, pods),
+    }
+}
+
+/// Does what `look_for_canonical` does, with the long array alone.
+#[cold]
+#[inline(never)]
+fn look_deep_for_canonical(keyed: bool, pods: &[u8]) -> CanonicalLook {
+    look_on(keyed, pods, &mut [Inside { keyed, pods }; MANY])
+}
+
+/// Looks whether all these pods are canonical. What is left behind an inner struct or object waits in the array; nothing waits where nothing is left.
+#[inline(never)]
+fn look_on<'a>(are_keyed: bool, pods: &'a [u8], frames: &mut [Inside<'a>]) -> CanonicalLook {
+    let mut waiting = 0;
+    let mut keyed = are_keyed;
+    let mut left = pods;
+    loop {
+        let next = behind_leaves(keyed, left);
+        if next.is_empty() {
+            if waiting == 0 {
+                return CanonicalLook::Same;
             }
-            None
+            waiting -= 1;
+            let outer = frames[waiting];
+            keyed = outer.keyed;
+            left = outer.pods;
+            continue;
         }
-        Found::Differs => None,
-        Found::Stops(_) => None,
-        Found::TooDeep => None,
+        match first_of(keyed, next) {
+            First::Inner(inner, rest) => {
+                if rest.is_empty() {
+                    keyed = inner.keyed;
+                    left = inner.pods;
+                    continue;
+                }
+                if waiting >= frames.len() {
+                    return CanonicalLook::TooDeep;
+                }
+                frames[waiting] = Inside { keyed, pods: rest };
+                waiting += 1;
+                keyed = inner.keyed;
+                left = inner.pods;
+            }
+            First::Leaf(rest) => left = rest,
+            First::Differs => return CanonicalLook::Differs,
+        }
     }
+}
+
+/// What stands first in pods behind those that `behind_leaves` passes.
+#[cfg_attr(not(debug_assertions), inline(always))]
+fn first_of(keyed: bool, left: &[u8]) -> First<'_> {
+    let Some(here) = behind_key(keyed, left) else {
+        return First::Differs;
+    };
+    let Some(front) = open(here) else {
+        return First::Differs;
+    };
+    if let Some(inner) = inside_of(front.type_, front.body) {
+        return First::Inner(inner, front.rest);
+    }
+    if is_leaf(here) {
+        First::Leaf(front.rest)
+    } else {
+        First::Differs
+    }
+}
+
+/// Whether the pod at the front is canonical and holds no others, by a call: where it is asked, a struct or an object is met most often.
+#[inline(never)]
+pub(crate) fn is_leaf(here: &[u8]) -> bool {
+    match leaf_front(here) {
+        Some(_) => true,
+        None => false,
+    }
+}
+
+/// What follows the first canonical pods that hold no others: nothing is passed where a struct or an object is first.
+#[cfg_attr(not(debug_assertions), inline(always))]
+fn behind_leaves(keyed: bool, pods: &[u8]) -> &[u8] {
+    if is_inside_first(keyed, pods) {
+        return pods;
+    }
+    behind_canonical(keyed, pods)
+}
+
+/// Whether a struct or an object is first.
+#[cfg_attr(not(debug_assertions), inline(always))]
+pub(crate) fn is_inside_first(keyed: bool, pods: &[u8]) -> bool {
+    if pods.len() < 2 * HEADER_LEN {
+        return false;
+    }
+    let type_ = if keyed {
+        u32_at(pods, HEADER_LEN + SECOND_WORD)
+    } else {
+        u32_at(pods, SECOND_WORD)
+    };
+    type_ == SpaTypes::Struct.0 || type_ == SpaTypes::Object.0
+}
+
+/// What follows the first canonical pods that hold no others, with key and flags before each where `keyed` is set.
+#[cfg_attr(not(debug_assertions), inline(always))]
+fn behind_canonical(keyed: bool, pods: &[u8]) -> &[u8] {
+    if keyed {
+        return behind_properties(pods);
+    }
+    behind_members(pods)
+}
+
+/// What follows the first members that are canonical and hold no others: those of fixed size, often many, by a loop of their own.
+#[cfg_attr(not(debug_assertions), inline(always))]
+fn behind_members(pods: &[u8]) -> &[u8] {
+    let mut left = behind_fixed(pods);
+    while let Some(rest) = leaf_body_front(left) {
+        left = behind_fixed(rest);
+    }
+    left
+}
+
+/// What follows the first members that are canonical and of a kind of fixed size, None aside.
+#[cfg_attr(not(debug_assertions), inline(always))]
+fn behind_fixed(pods: &[u8]) -> &[u8] {
+    let mut left = pods;
+    while let Some(rest) = fixed_front(left) {
+        left = rest;
+    }
+    left
+}
+
+/// What follows the first properties whose pods are canonical and hold no others.
+#[cfg_attr(not(debug_assertions), inline(always))]
+fn behind_properties(pods: &[u8]) -> &[u8] {
+    let mut left = pods;
+    while let Some(rest) = canonical_property(left) {
+        left = rest;
+    }
+    left
+}
+
+/// The length in bytes of a key, flags and a pod whose body is one or two words.
+const KEYED_LEN: usize = 24;
+
+/// What follows the first property, where its pod is canonical and holds no others, and is no shorter than a pod of one word: one test of the length
+/// for both, and for what is shorter `first_of` is asked.
+#[cfg_attr(not(debug_assertions), inline(always))]
+fn canonical_property(left: &[u8]) -> Option<&[u8]> {
+    if left.len() < KEYED_LEN {
+        return None;
+    }
+    let (_, here) = left.split_at(HEADER_LEN);
+    leaf_front(here)
 }

@@ -3,11 +3,14 @@
 
 use crate::shims::prelude::*;
 use crate::parts::spa_rewrite::inside::{Inside, behind_key, inside_of};
+use crate::parts::spa_rewrite::leading::{
+    CanonicalLook, canonical_stretch, is_inside_first, is_leaf, look_for_canonical,
+};
 use crate::parts::spa_rewrite::surplus::{CHOICE_HEADER, leaf_surplus, short_front};
 use crate::parts::spa_bodies::VALUE_TYPE_AT;
 use crate::parts::spa_bytes::{HEADER_LEN, SECOND_WORD, open, u32_at};
 use crate::parts::spa_fixed_sized::{FLAGS_SHAPE, Refusal};
-use crate::parts::spa_scan::{LEVELS, fixed_len, leaf_front, nests_within};
+use crate::parts::spa_scan::{LEVELS, fixed_len, nests_within};
 use crate::parts::spa_utils::SpaTypes;
 
 /// A pod that is accepted.
@@ -45,8 +48,8 @@ pub struct ChangedPods {
 #[derive(Clone, Copy)]
 pub enum Rejected<'a> {
     /// It is malformed. The fault stands at the front of these bytes: what is left from there on of the input, or of the struct or object
-    /// inside which it stands.
-    Fault(&'a [u8], Refusal),
+    /// inside which it stands. The number is that place's offset in the pod.
+    Fault(&'a [u8], usize, Refusal),
     /// More than 1000 structs and objects stand in one another, not counting those in tail position.
     TooDeep,
 }
@@ -54,12 +57,10 @@ pub enum Rejected<'a> {
 /// What is found inside a struct or an object.
 #[derive(Clone, Copy)]
 pub(crate) enum Found<'a> {
-    /// Accepted pods: whether they are canonical, and by how many bytes their encodings are shorter.
-    Fits(bool, usize),
-    /// The look ended at a pod that isn't canonical.
-    Differs,
-    /// A fault stands at the front of these bytes.
-    Stops(&'a [u8]),
+    /// Accepted pods, whose encodings are so many bytes shorter.
+    Fits(usize),
+    /// A fault stands at the front of these bytes, which so many follow of those that are looked at.
+    Stops(&'a [u8], usize),
     /// There is no room for one more list that waits.
     TooDeep,
 }
@@ -67,43 +68,58 @@ pub(crate) enum Found<'a> {
 /// What stands first in a list.
 #[derive(Clone, Copy)]
 enum Met<'a> {
-    /// Accepted pods that hold no others: what follows them, whether all so far are canonical, and by how many bytes their encodings are shorter.
-    Leaves(&'a [u8], bool, usize),
-    /// A struct or an object: what is inside, and what follows it.
-    Inner(Inside<'a>, &'a [u8]),
+    /// Accepted pods that hold no others: what follows them, and by how many bytes their encodings are shorter.
+    Leaves(&'a [u8], usize),
+    /// A struct or an object: what is inside, what follows it, and how many bytes stand behind what is inside, with the padding.
+    Inner(Inside<'a>, &'a [u8], usize),
     /// A fault stands at the front of these bytes.
     Fault(&'a [u8]),
 }
 
+/// What is left of a list while the look is inside of a pod in it.
+#[derive(Clone, Copy)]
+struct Waiting<'a> {
+    /// Whether a key and flags stand before each pod.
+    keyed: bool,
+    /// The pods that are left.
+    pods: &'a [u8],
+    /// How many bytes of those that are looked at follow them.
+    behind: usize,
+}
+
+/// An entry of an array in which no list waits.
+#[cfg_attr(not(debug_assertions), inline(always))]
+fn none_waiting(pods: &[u8]) -> Waiting<'_> {
+    Waiting {
+        keyed: false,
+        pods,
+        behind: 0,
+    }
+}
+
 /// How many lists can wait in the short array.
-pub(crate) const FEW: usize = 16;
+pub(crate) const FEW: usize = 8;
 
 /// How many can wait in the long one, which is taken where the short one is full.
-const MANY: usize = 1000;
+pub(crate) const MANY: usize = 1000;
 
 /// Looks at the pod at the front of the input.
 ///
 /// It takes no memory. Any pod is accepted in which at most 1000 structs and objects stand in one another; where more do, those in tail position
 /// don't count.
 pub fn look_at_pod(input: &[u8]) -> Result<AcceptedPod<'_>, Rejected<'_>> {
-    let list = Inside {
-        keyed: false,
-        pods: input,
-    };
-    look_at_front(true, input, &mut [list; FEW])
+    look_at_front(true, input)
 }
 
 /// Looks at all pods that the input consists of. A refusal gives what is left of the input from the refused pod on.
 ///
 /// It takes no memory, and accepts pods as `look_at_pod` does.
 pub fn look_at_pods(pods: &[u8]) -> Result<AcceptedPods, (&[u8], Rejected<'_>)> {
-    let list = Inside { keyed: false, pods };
-    let mut frames = [list; FEW];
     let mut left = pods;
     let mut all = true;
     let (mut canonical, mut surplus) = (0, 0);
     while !left.is_empty() {
-        let pod = match look_at_front(all, left, &mut frames) {
+        let pod = match look_at_front(all, left) {
             Ok(pod) => pod,
             Err(why) => return Err((left, why)),
         };
@@ -145,39 +161,49 @@ pub(crate) fn more_unasked(unasked: usize) -> usize {
 
 /// Looks at all pods for those that `changed_pods` answers, wherever structs and objects end.
 fn look_for_changes(pods: &[u8]) -> Result<ChangedPods, (&[u8], Rejected<'_>)> {
-    let list = Inside { keyed: false, pods };
-    let mut frames = [list; FEW];
     let mut left = pods;
     let (mut others, mut tail) = (pods, pods);
     let mut surplus = 0;
     let (mut unasked, mut asked_from) = (1, 0);
-    while !left.is_empty() {
-        let at = pods.len() - left.len();
-        let asked = at >= asked_from;
-        let pod = match look_at_front(asked, left, &mut frames) {
-            Ok(pod) => pod,
-            Err(why) => return Err((left, why)),
-        };
-        if pod.canonical {
-            unasked = 1;
-        } else {
-            if asked {
-                unasked = more_unasked(unasked);
-                asked_from = at.saturating_add(unasked);
-            }
-            if surplus == 0 {
-                others = if pod.surplus == 0 { pod.rest } else { left };
-            }
-            tail = pod.rest;
+    loop {
+        let asked = pods.len() - left.len() >= asked_from;
+        let other = behind_canonical_pods(asked, left);
+        if asked {
+            unasked = if other.len() < left.len() {
+                1
+            } else {
+                more_unasked(unasked)
+            };
+            asked_from = (pods.len() - other.len()).saturating_add(unasked);
         }
+        if other.is_empty() {
+            return Ok(ChangedPods {
+                same_length: pods.len() - others.len(),
+                others: others.len() - tail.len(),
+                surplus,
+            });
+        }
+        let pod = match look_at_front(false, other) {
+            Ok(pod) => pod,
+            Err(why) => return Err((other, why)),
+        };
+        if surplus == 0 {
+            others = if pod.surplus == 0 { pod.rest } else { other };
+        }
+        tail = pod.rest;
         surplus += pod.surplus;
         left = pod.rest;
     }
-    Ok(ChangedPods {
-        same_length: pods.len() - others.len(),
-        others: others.len() - tail.len(),
-        surplus,
-    })
+}
+
+/// What follows the first canonical pods, where it is asked which these are.
+#[cfg_attr(not(debug_assertions), inline(always))]
+fn behind_canonical_pods(asked: bool, pods: &[u8]) -> &[u8] {
+    if !asked {
+        return pods;
+    }
+    let (_, rest) = canonical_stretch(pods);
+    rest
 }
 
 /// Whether at most `LEVELS` structs and objects stand in one another in each of the pods, not counting those that end where the input does.
@@ -236,149 +262,127 @@ fn canonical_len(canonical: usize, are_all: bool, end: usize) -> usize {
     if are_all { end } else { canonical }
 }
 
-/// Looks at the pod at the front of the input as `look_at_pod` does, with an array in which lists can wait. Where `canonical` isn't set it isn't
-/// asked whether the pod is canonical, and the answer says that it isn't.
+/// Looks at the pod at the front of the input as `look_at_pod` does. Where `canonical` isn't set it isn't asked whether the pod is canonical, and the
+/// answer says that it isn't. Where it is asked, that is looked for first.
 #[cfg_attr(not(debug_assertions), inline(always))]
-pub(crate) fn look_at_front<'a>(
-    canonical: bool,
-    input: &'a [u8],
-    frames: &mut [Inside<'a>],
-) -> Result<AcceptedPod<'a>, Rejected<'a>> {
-    if let Some(rest) = first_leaf(canonical, input) {
-        return Ok(AcceptedPod {
-            rest,
-            canonical,
-            surplus: 0,
-        });
-    }
+pub(crate) fn look_at_front(canonical: bool, input: &[u8]) -> Result<AcceptedPod<'_>, Rejected<'_>> {
     let Some(front) = open(input) else {
-        return Err(Rejected::Fault(input, Refusal::Short));
+        return Err(Rejected::Fault(input, 0, Refusal::Short));
     };
     let Some(inside) = inside_of(front.type_, front.body) else {
         let Some(surplus) = leaf_surplus(front.type_, front.body) else {
-            return Err(Rejected::Fault(input, fault(input)));
+            return Err(Rejected::Fault(input, 0, fault(input)));
         };
         return Ok(AcceptedPod {
             rest: front.rest,
-            canonical: stays_canonical(canonical, input),
+            canonical: is_asked_leaf(canonical, input),
             surplus,
         });
     };
-    match look_into(false, inside.keyed, canonical, inside.pods, frames) {
-        Found::Fits(canonical, surplus) => Ok(AcceptedPod {
+    if canonical {
+        match look_for_canonical(inside.keyed, inside.pods) {
+            CanonicalLook::Same => {
+                return Ok(AcceptedPod {
+                    rest: front.rest,
+                    canonical: true,
+                    surplus: 0,
+                });
+            }
+            CanonicalLook::Differs => {}
+            CanonicalLook::TooDeep => return Err(Rejected::TooDeep),
+        }
+    }
+    match look_into(inside.keyed, inside.pods) {
+        Found::Fits(surplus) => Ok(AcceptedPod {
             rest: front.rest,
-            canonical,
+            canonical: false,
             surplus,
         }),
-        Found::Differs => unreachable!(),
-        Found::Stops(place) => Err(Rejected::Fault(place, fault(place))),
+        Found::Stops(place, behind) => {
+            let at = HEADER_LEN + front.body.len() - (place.len() + behind);
+            Err(Rejected::Fault(place, at, fault(place)))
+        }
         Found::TooDeep => Err(Rejected::TooDeep),
     }
 }
 
-/// What follows the pod at the front, where that is canonical and holds no others; or else, where `canonical` isn't set, if it is one or two words.
+/// Looks inside a struct or an object: at its first pods that hold no others, which need no array, and at what follows them.
 #[cfg_attr(not(debug_assertions), inline(always))]
-fn first_leaf(canonical: bool, input: &[u8]) -> Option<&[u8]> {
-    if canonical {
-        return leaf_front(input);
-    }
-    short_front(input)
-}
-
-/// Looks inside a struct or an object: at its first pods that hold no others, which need no array, and at what follows them. `ends` says whether
-/// the look ends at the first pod that isn't canonical, if that is asked.
-#[cfg_attr(not(debug_assertions), inline(always))]
-pub(crate) fn look_into<'a>(
-    ends: bool,
-    keyed: bool,
-    canonical: bool,
-    pods: &'a [u8],
-    frames: &mut [Inside<'a>],
-) -> Found<'a> {
-    let (left, surplus) = behind_first(keyed, canonical, pods);
+pub(crate) fn look_into(keyed: bool, pods: &[u8]) -> Found<'_> {
+    let (left, surplus) = behind_accepted(keyed, pods);
     if left.is_empty() {
-        return Found::Fits(canonical, surplus);
+        return Found::Fits(surplus);
     }
-    match look_inside(ends, keyed, canonical, left, frames) {
-        Found::Fits(canonical, more) => Found::Fits(canonical, surplus + more),
-        Found::Differs => Found::Differs,
-        Found::Stops(place) => Found::Stops(place),
-        Found::TooDeep => look_deep(ends, keyed, canonical, pods),
+    match look_inside(keyed, left, &mut [none_waiting(pods); FEW]) {
+        Found::Fits(more) => Found::Fits(surplus + more),
+        Found::Stops(place, behind) => Found::Stops(place, behind),
+        Found::TooDeep => look_deep(keyed, pods),
     }
 }
 
 /// Looks inside a struct or an object with the long array alone.
 #[cold]
 #[inline(never)]
-fn look_deep(ends: bool, keyed: bool, canonical: bool, pods: &[u8]) -> Found<'_> {
-    look_inside(
-        ends,
-        keyed,
-        canonical,
-        pods,
-        &mut [Inside { keyed, pods }; MANY],
-    )
+fn look_deep(keyed: bool, pods: &[u8]) -> Found<'_> {
+    look_inside(keyed, pods, &mut [none_waiting(pods); MANY])
 }
 
 /// Looks inside a struct or an object. What is left behind an inner one waits in the array; nothing waits where nothing is left.
 #[inline(never)]
-fn look_inside<'a>(
-    ends: bool,
-    are_keyed: bool,
-    are_canonical: bool,
-    pods: &'a [u8],
-    frames: &mut [Inside<'a>],
-) -> Found<'a> {
-    let (mut waiting, mut surplus) = (0, 0);
-    let (mut keyed, mut canonical) = (are_keyed, are_canonical);
+fn look_inside<'a>(are_keyed: bool, pods: &'a [u8], frames: &mut [Waiting<'a>]) -> Found<'a> {
+    let (mut waiting, mut surplus, mut behind) = (0, 0, 0);
+    let mut keyed = are_keyed;
     let mut left = pods;
     loop {
         if left.is_empty() {
             if waiting == 0 {
-                return Found::Fits(canonical, surplus);
+                return Found::Fits(surplus);
             }
             waiting -= 1;
             let outer = frames[waiting];
             keyed = outer.keyed;
             left = outer.pods;
+            behind = outer.behind;
             continue;
         }
-        match meet(keyed, canonical, left) {
-            Met::Leaves(rest, are_all, more) => {
-                if ends && !are_all {
-                    return Found::Differs;
-                }
-                canonical = are_all;
+        match meet(keyed, left) {
+            Met::Leaves(rest, more) => {
                 surplus += more;
                 left = rest;
             }
-            Met::Inner(inner, rest) => {
+            Met::Inner(inner, rest, more) => {
+                let inner_behind = behind + more;
                 if rest.is_empty() {
                     keyed = inner.keyed;
                     left = inner.pods;
+                    behind = inner_behind;
                     continue;
                 }
                 if waiting >= frames.len() {
                     return Found::TooDeep;
                 }
-                frames[waiting] = Inside { keyed, pods: rest };
+                frames[waiting] = Waiting {
+                    keyed,
+                    pods: rest,
+                    behind,
+                };
                 waiting += 1;
                 keyed = inner.keyed;
                 left = inner.pods;
+                behind = inner_behind;
             }
-            Met::Fault(place) => return Found::Stops(place),
+            Met::Fault(place) => return Found::Stops(place, behind),
         }
     }
 }
 
-/// What stands first in pods: accepted ones that hold no others, a struct or an object, or a fault. `canonical` says whether all pods before are
-/// canonical.
+/// What stands first in pods: accepted ones that hold no others, a struct or an object, or a fault.
 #[cfg_attr(not(debug_assertions), inline(always))]
-fn meet(keyed: bool, canonical: bool, left: &[u8]) -> Met<'_> {
+fn meet(keyed: bool, left: &[u8]) -> Met<'_> {
     if !is_inside_first(keyed, left) {
-        let (rest, surplus) = behind_first(keyed, canonical, left);
+        let (rest, surplus) = behind_accepted(keyed, left);
         if rest.len() < left.len() {
-            return Met::Leaves(rest, canonical, surplus);
+            return Met::Leaves(rest, surplus);
         }
     }
     let Some(here) = behind_key(keyed, left) else {
@@ -388,10 +392,11 @@ fn meet(keyed: bool, canonical: bool, left: &[u8]) -> Met<'_> {
         return Met::Fault(here);
     };
     if let Some(inner) = inside_of(front.type_, front.body) {
-        return Met::Inner(inner, front.rest);
+        let behind = here.len() - HEADER_LEN - front.body.len();
+        return Met::Inner(inner, front.rest, behind);
     }
     match rare_surplus(front.type_, front.body) {
-        Some(surplus) => Met::Leaves(front.rest, stays_canonical(canonical, here), surplus),
+        Some(surplus) => Met::Leaves(front.rest, surplus),
         None => Met::Fault(here),
     }
 }
@@ -402,64 +407,8 @@ fn rare_surplus(type_: u32, body: &[u8]) -> Option<usize> {
     leaf_surplus(type_, body)
 }
 
-/// What follows the first accepted pods that hold no others, and by how many bytes their encodings are shorter: of canonical ones where `canonical` is
-/// set. A key and flags stand before each where `keyed` is set.
-#[cfg_attr(not(debug_assertions), inline(always))]
-fn behind_first(keyed: bool, canonical: bool, pods: &[u8]) -> (&[u8], usize) {
-    if canonical {
-        return (behind_canonical(keyed, pods), 0);
-    }
-    behind_accepted(keyed, pods)
-}
-
-/// Whether a struct or an object is first, or less than a pod of one word is left.
-#[cfg_attr(not(debug_assertions), inline(always))]
-fn is_inside_first(keyed: bool, pods: &[u8]) -> bool {
-    if pods.len() < 2 * HEADER_LEN {
-        return true;
-    }
-    let type_ = if keyed {
-        u32_at(pods, HEADER_LEN + SECOND_WORD)
-    } else {
-        u32_at(pods, SECOND_WORD)
-    };
-    type_ == SpaTypes::Struct.0 || type_ == SpaTypes::Object.0
-}
-
-/// What follows the first canonical pods that hold no others: of properties by one loop, and of members by another.
-#[cfg_attr(not(debug_assertions), inline(always))]
-fn behind_canonical(keyed: bool, pods: &[u8]) -> &[u8] {
-    if keyed {
-        return behind_alike(true, pods);
-    }
-    behind_alike(false, pods)
-}
-
-/// What follows the first canonical pods that hold no others, with key and flags before each where `keyed` is set.
-#[cfg_attr(not(debug_assertions), inline(always))]
-fn behind_alike(keyed: bool, pods: &[u8]) -> &[u8] {
-    let mut left = pods;
-    while let Some(rest) = canonical_leaf(keyed, left) {
-        left = rest;
-    }
-    left
-}
-
 /// The length in bytes of a key, flags and a pod whose body is one or two words.
 const KEYED_LEN: usize = 24;
-
-/// What follows the first member or property, where its pod is canonical and holds no others.
-#[cfg_attr(not(debug_assertions), inline(always))]
-fn canonical_leaf(keyed: bool, left: &[u8]) -> Option<&[u8]> {
-    // One test of the length for both; what is shorter is looked at where the loop ends.
-    if keyed && left.len() < KEYED_LEN {
-        return None;
-    }
-    let Some(here) = behind_key(keyed, left) else {
-        return None;
-    };
-    leaf_front(here)
-}
 
 /// What follows the first pods whose bodies are one or two words and of a kind of fixed size.
 #[cfg_attr(not(debug_assertions), inline(always))]
@@ -514,15 +463,9 @@ fn behind_leaves(keyed: bool, pods: &[u8]) -> (&[u8], usize) {
     }
 }
 
-/// Whether all pods so far are canonical, once this one is among them. It holds no others.
-fn stays_canonical(canonical: bool, pod: &[u8]) -> bool {
-    if !canonical {
-        return false;
-    }
-    match leaf_front(pod) {
-        Some(_) => true,
-        None => false,
-    }
+/// Whether the pod at the front, which holds no others, is canonical, where that is asked.
+fn is_asked_leaf(asked: bool, pod: &[u8]) -> bool {
+    asked && is_leaf(pod)
 }
 
 /// The fault that stands at the front of these bytes, which begin with no pod, and not for what is inside one.

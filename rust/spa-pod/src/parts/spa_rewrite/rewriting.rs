@@ -4,11 +4,10 @@
 //! written over it. What nests too deep for that is read as a value, which is written.
 
 use crate::shims::prelude::*;
-use crate::parts::spa_rewrite::inside::{Inside, inside_of};
-use crate::parts::spa_rewrite::leading::{canonical_pods, canonical_stretch};
+use crate::parts::spa_rewrite::inside::inside_of;
+use crate::parts::spa_rewrite::leading::canonical_stretch;
 use crate::parts::spa_rewrite::look::{
-    AcceptedPod, DEEP_BODY, FEW, Found, Rejected, look_at_front, look_at_pods, look_into,
-    more_unasked,
+    AcceptedPod, DEEP_BODY, Found, Rejected, look_at_front, look_at_pods, look_into, more_unasked,
 };
 use crate::parts::spa_rewrite::patch::patch_all;
 use crate::parts::spa_rewrite::source::Apart;
@@ -31,12 +30,8 @@ use crate::shims::memory::AllocError;
 /// answered for a pod of fixed size, whose encoding takes memory. A size is never a cause: what was read can be
 /// written. A malformed pod is refused for its fault, never for want of memory, unless more than 1000 structs and objects stand in one another in it.
 pub fn rewrite(input: &[u8]) -> Result<(&[u8], Vec<u8>), DeserializeError<&[u8]>> {
-    let list = Inside {
-        keyed: false,
-        pods: input,
-    };
     let mut out = Vec::new();
-    match append_front(input, &mut [list; FEW], &mut out) {
+    match append_front(input, &mut out) {
         Ok(rest) => Ok((rest, out)),
         Err(refused) => Err(error_at(refused.place, refused.why)),
     }
@@ -85,7 +80,7 @@ pub fn accept_all(input: &[u8]) -> Result<(), (&[u8], DeserializeError<&[u8]>)> 
         let Err((pod, rejected)) = look_at_pods(left) else {
             return Ok(());
         };
-        if let Rejected::Fault(place, why) = rejected {
+        if let Rejected::Fault(place, _, why) = rejected {
             return Err((pod, error_at(place, why)));
         }
         match behind_deep(pod) {
@@ -109,16 +104,11 @@ fn behind_deep(pod: &[u8]) -> Result<&[u8], DeserializeError<&[u8]>> {
 
 /// Appends the encodings of all pods that the input consists of. A refusal gives what is left from the refused pod on, and that pod's refusal.
 fn append_all<'a>(input: &'a [u8], out: &mut Vec<u8>) -> Result<(), (&'a [u8], Refused<'a>)> {
-    let list = Inside {
-        keyed: false,
-        pods: input,
-    };
-    let mut frames = [list; FEW];
     let start = out.len();
     let mut left = input;
     let mut unasked = 1;
     loop {
-        let Some(others) = append_canonical(left, &mut frames, out) else {
+        let Some(others) = append_canonical(left, out) else {
             out.truncate(start);
             return Err((left, lacking_memory(left)));
         };
@@ -130,7 +120,7 @@ fn append_all<'a>(input: &'a [u8], out: &mut Vec<u8>) -> Result<(), (&'a [u8], R
         } else {
             more_unasked(unasked)
         };
-        match append_others(unasked, others, &mut frames, out) {
+        match append_others(unasked, others, out) {
             Ok(rest) => left = rest,
             Err(refused) => {
                 out.truncate(start);
@@ -150,12 +140,8 @@ fn lacking_memory(pod: &[u8]) -> Refused<'_> {
 
 /// Appends the first pods, as many as are canonical, and answers what follows them. `None`: memory ran out, and nothing was appended.
 #[cfg_attr(not(debug_assertions), inline(always))]
-fn append_canonical<'a>(
-    left: &'a [u8],
-    frames: &mut [Inside<'a>],
-    out: &mut Vec<u8>,
-) -> Option<&'a [u8]> {
-    let (stretch, rest) = canonical_pods(left, frames);
+fn append_canonical<'a>(left: &'a [u8], out: &mut Vec<u8>) -> Option<&'a [u8]> {
+    let (stretch, rest) = canonical_stretch(left);
     if stretch.is_empty() {
         return Some(left);
     }
@@ -177,15 +163,10 @@ struct Section<'a> {
 }
 
 /// Appends the encodings of pods the first of which isn't canonical, some `len` bytes, and answers what follows them. Refused is the first of them.
-fn append_others<'a>(
-    len: usize,
-    pods: &'a [u8],
-    frames: &mut [Inside<'a>],
-    out: &mut Vec<u8>,
-) -> Result<&'a [u8], Refused<'a>> {
-    let section = look_over(len, pods, frames);
+fn append_others<'a>(len: usize, pods: &'a [u8], out: &mut Vec<u8>) -> Result<&'a [u8], Refused<'a>> {
+    let section = look_over(len, pods);
     if section.pods.is_empty() {
-        return append_front(pods, frames, out);
+        return append_front(pods, out);
     }
     match append_pods(section.pods, section.surplus, out) {
         Some(()) => Ok(section.rest),
@@ -197,11 +178,11 @@ fn append_others<'a>(
 /// gets shorter, since they are patched; and all before one that would be written and in which more than `LEVELS` structs and objects stand in one another,
 /// wherever these end: what writes such a pod calls itself for each.
 #[cfg_attr(not(debug_assertions), inline(always))]
-fn look_over<'a>(len: usize, pods: &'a [u8], frames: &mut [Inside<'a>]) -> Section<'a> {
+fn look_over<'a>(len: usize, pods: &'a [u8]) -> Section<'a> {
     let mut left = pods;
     let mut surplus = 0;
     while pods.len() - left.len() < len {
-        let Some((rest, more)) = behind_front(left, frames) else {
+        let Some((rest, more)) = behind_front(left) else {
             return cut_section(pods, left, surplus);
         };
         if surplus == 0 && more > 0 && left.len() < pods.len() {
@@ -219,7 +200,7 @@ fn look_over<'a>(len: usize, pods: &'a [u8], frames: &mut [Inside<'a>]) -> Secti
 
 /// What follows the pod at the front, where a look accepts it, and by how many bytes its encoding is shorter. It isn't asked whether the pod is canonical.
 #[cfg_attr(not(debug_assertions), inline(always))]
-fn behind_front<'a>(input: &'a [u8], frames: &mut [Inside<'a>]) -> Option<(&'a [u8], usize)> {
+fn behind_front<'a>(input: &'a [u8]) -> Option<(&'a [u8], usize)> {
     if let Some(rest) = short_front(input) {
         return Some((rest, 0));
     }
@@ -228,8 +209,8 @@ fn behind_front<'a>(input: &'a [u8], frames: &mut [Inside<'a>]) -> Option<(&'a [
         let surplus = leaf_surplus(front.type_, front.body)?;
         return Some((front.rest, surplus));
     };
-    match look_into(false, inside.keyed, false, inside.pods, frames) {
-        Found::Fits(_, surplus) => Some((front.rest, surplus)),
+    match look_into(inside.keyed, inside.pods) {
+        Found::Fits(surplus) => Some((front.rest, surplus)),
         _ => None,
     }
 }
@@ -253,11 +234,8 @@ fn cut_section<'a>(pods: &'a [u8], left: &'a [u8], surplus: usize) -> Section<'a
 
 /// Looks at the pod at the front, and rejects it as too deep also where it gets shorter and is deep.
 #[cfg_attr(not(debug_assertions), inline(always))]
-fn look_to_write<'a>(
-    input: &'a [u8],
-    frames: &mut [Inside<'a>],
-) -> Result<AcceptedPod<'a>, Rejected<'a>> {
-    let pod = match look_at_front(true, input, frames) {
+fn look_to_write<'a>(input: &'a [u8]) -> Result<AcceptedPod<'a>, Rejected<'a>> {
+    let pod = match look_at_front(true, input) {
         Ok(pod) => pod,
         Err(rejected) => return Err(rejected),
     };
@@ -283,12 +261,8 @@ fn append_pods(pods: &[u8], surplus: usize, out: &mut Vec<u8>) -> Option<()> {
 }
 
 /// Appends the encoding of the pod at the front of the input, and answers what follows that pod.
-fn append_front<'a>(
-    input: &'a [u8],
-    frames: &mut [Inside<'a>],
-    out: &mut Vec<u8>,
-) -> Result<&'a [u8], Refused<'a>> {
-    match look_to_write(input, frames) {
+fn append_front<'a>(input: &'a [u8], out: &mut Vec<u8>) -> Result<&'a [u8], Refused<'a>> {
+    match look_to_write(input) {
         Ok(pod) => {
             let (front, _) = input.split_at(input.len() - pod.rest.len());
             match append_pod(pod.canonical, front, pod.surplus, out) {
@@ -297,7 +271,7 @@ fn append_front<'a>(
             }
         }
         Err(rejected) => match rejected {
-            Rejected::Fault(place, why) => Err(Refused { place, why }),
+            Rejected::Fault(place, _, why) => Err(Refused { place, why }),
             Rejected::TooDeep => append_by_value(input, out),
         },
     }

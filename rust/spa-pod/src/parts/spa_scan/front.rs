@@ -38,7 +38,7 @@ pub(crate) fn ends_in_zeros(bytes: &[u8], at: usize) -> bool {
 
 /// What follows the pod at the front, where that is canonical and of a kind of fixed size, None aside.
 #[cfg_attr(not(debug_assertions), inline(always))]
-pub(crate) fn fixed_front(input: &[u8]) -> Option<&[u8]> {
+pub fn fixed_front(input: &[u8]) -> Option<&[u8]> {
     if input.len() < SHORT_POD {
         return None;
     }

@@ -16,24 +16,12 @@ pub fn leaf_front(input: &[u8]) -> Option<&[u8]> {
     if let Some(rest) = fixed_front(input) {
         return Some(rest);
     }
-    if input.len() < HEADER_LEN {
-        return None;
-    }
-    if !is_looked_into(u32_at(input, SECOND_WORD)) {
-        return None;
-    }
     leaf_body_front(input)
-}
-
-/// Whether pods of this type hold no others.
-#[cfg_attr(not(debug_assertions), inline(always))]
-fn is_looked_into(type_: u32) -> bool {
-    type_ != SpaTypes::Struct.0 && type_ != SpaTypes::Object.0
 }
 
 /// What follows the pod at the front, where that is canonical, not of fixed size, and neither a struct nor an object.
 #[cfg_attr(not(debug_assertions), inline(always))]
-fn leaf_body_front(input: &[u8]) -> Option<&[u8]> {
+pub fn leaf_body_front(input: &[u8]) -> Option<&[u8]> {
     let Some(front) = open(input) else {
         return None;
     };
@@ -86,12 +74,16 @@ pub fn leaf_properties(input: &[u8]) -> (&[u8], &[u8]) {
     input.split_at(input.len() - left.len())
 }
 
-/// Whether a body of this type is as its value is written, and holds no pods. Choices and arrays need no call.
+/// Whether a body of this type is as its value is written, and holds no pods. Choices, arrays, structs and objects need no call.
 #[cfg_attr(not(debug_assertions), inline(always))]
 fn is_other_body(type_: u32, body: &[u8]) -> bool {
+    if type_ == SpaTypes::Choice.0 {
+        return is_choice(body);
+    }
     match SpaTypes(type_) {
-        SpaTypes::Choice => is_choice(body),
         SpaTypes::Array => is_array(body),
+        SpaTypes::Struct => false,
+        SpaTypes::Object => false,
         _ => is_rare_body(type_, body),
     }
 }

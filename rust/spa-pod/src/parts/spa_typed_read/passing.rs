@@ -18,7 +18,7 @@ impl<'de> PodDeserialize<'de> for Skipped {
     ) -> Result<(Skipped, DeserializeSuccess<'de>), DeserializeError<&'de [u8]>> {
         match look_at_pod(deserializer.input) {
             Ok(pod) => Ok((Skipped, deserializer.after(pod.rest))),
-            Err(Rejected::Fault(place, why)) => Err(error_at(place, why)),
+            Err(Rejected::Fault(place, _, why)) => Err(error_at(place, why)),
             Err(Rejected::TooDeep) => match deserializer.deserialize_any() {
                 Ok((value, success)) => {
                     discard(value);

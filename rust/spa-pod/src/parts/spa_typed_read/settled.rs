@@ -43,7 +43,7 @@ impl<'de, T: FixedPod> PodDeserialize<'de> for Settled<T> {
                 Some(value) => Ok((Settled(value), deserializer.after(accepted.rest))),
                 None => Err(DeserializeError::UnsupportedType),
             },
-            Err(Rejected::Fault(place, why)) => Err(error_at(place, why)),
+            Err(Rejected::Fault(place, _, why)) => Err(error_at(place, why)),
             Err(Rejected::TooDeep) => Err(DeserializeError::UnsupportedType),
         }
     }

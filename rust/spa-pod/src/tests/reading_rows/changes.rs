@@ -111,8 +111,12 @@ fn dispute(input: &[u8]) -> Result<&'static str, AllocError> {
 fn is_seen_alike(input: &[u8], answer: &Answer<'_>) -> bool {
     match (look_at_pod(input), answer) {
         (Ok(pod), Answer::Accepted(_, left)) => pod.rest.len() == *left,
-        (Err(Rejected::Fault(place, why)), Answer::Refused(at, faults)) => {
-            place == *at && stands(*faults, error_at(place, why).kind())
+        (Err(Rejected::Fault(place, offset, why)), Answer::Refused(at, faults)) => {
+            let is_there = match input.get(offset..) {
+                Some(bytes) => bytes.starts_with(place),
+                None => false,
+            };
+            is_there && place == *at && stands(*faults, error_at(place, why).kind())
         }
         _ => false,
     }

@@ -106,8 +106,8 @@ fn is_so_in_place(
 }
 
 /// Whether a rewriting in place answered so, and left the bytes of the input so.
-pub(crate) fn is_left_so(
-    found: Result<usize, (usize, DeserializeError<()>)>,
+pub(crate) fn is_left_so<P>(
+    found: Result<usize, (usize, DeserializeError<P>)>,
     bytes: &[u8],
     input: &[u8],
     encodings: &[u8],
@@ -136,7 +136,7 @@ fn is_seen_so(input: &[u8], encodings: &[u8], answer: Answer) -> bool {
                 && first == encodings.get(..all.canonical)
                 && (all.canonical == input.len()) == (input == encodings)
         }
-        (Err((left, Rejected::Fault(place, why))), Err((name, behind))) => {
+        (Err((left, Rejected::Fault(place, _, why))), Err((name, behind))) => {
             error_at(place, why).kind() == name && left.len() == behind
         }
         _ => false,

@@ -6,7 +6,7 @@ use Rattle.spa_scan.specs.Canonical.{AreCanonical}
 use Rattle.spa_scan.proofs.Frames.{more_stretch, no_stretch, rest_bytes, stretch_front, stretch_parts}
 use Rattle.spa_scan.proofs.Made.{made_members}
 use Rattle.spa_scan.proofs.Opened.{shallow_rest}
-use Rattle.spa_rewrite.proofs.leading.canonical_pods.Goals as goal
+use Rattle.spa_rewrite.proofs.leading.canonical_stretch.Goals as goal
 
 pub loop-rest-init : goal.loop-rest-init
 loop-rest-init c = (omega arith, λ r s. s, λ i. omega (arith, c.type_inv.input i), λ s. s)

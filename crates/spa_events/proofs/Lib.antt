@@ -1,3 +1,4 @@
+pub mod Firsts
 pub mod Open
 pub mod Places
 pub mod Steps

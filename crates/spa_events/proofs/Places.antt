@@ -1,16 +1,19 @@
 -- The offsets of the pods in a pod.
-use Rattle.std.proofs.Common.{◌≡◌, ℕ, ◌+◌, ◌-◌, ◌≤◌, inl, inr, List, [], length, take, drop, refl, sym, ap, ◌∙◌, arith, length-take}
+use Rattle.std.proofs.Common.{◌≡◌, ℕ, ◌+◌, ◌-◌, ◌<◌, ◌≤◌, inl, inr, List, [], length, take, drop, refl, sym, ap, subst, ◌∙◌, arith, length-take}
 use Rattle.std.specs.Prelude.{Bool, true, false, if◌then◌else◌, cond, nat_eq, nat_le}
-use Rattle.std.proofs.lemmas.Bool.Decides.{leb_tells}
-use Rattle.std.proofs.lemmas.Bool.{eqb-true}
+use Rattle.std.proofs.lemmas.Bool.Decides.{eqb_tells, leb_tells}
+use Rattle.std.proofs.lemmas.Bool.{cases_lt, eqb-true, le-leb, ne_eqb}
 use Rattle.std.proofs.lemmas.List.{drop-drop, drop-take, take-take}
+use Rattle.spa_format.specs.Tree.{object_type}
 use Rattle.spa_format.specs.Words.{word_at, body_of}
 use Rattle.spa_format.specs.Walk.{extent_behind, properties_of, property_walk, walk, walk_behind}
 use Rattle.spa_format.proofs.WalkLemmas.{walk_behind-end}
 use Rattle.spa_format.proofs.WordLemmas.{word_at-drop, word_at-take}
 use Rattle.spa_events.specs.Events.{bytes_before, is_object, is_struct, pods_inside, event_of}
-use Rattle.spa_events.specs.Levels.{bytes_held}
+use Rattle.spa_events.specs.Inside.{HoldsPods, key_size}
+use Rattle.spa_events.specs.Levels.{bytes_held, holds_pods, level_inside}
 use Rattle.spa_events.specs.declared.event.Event.{Event}
+use Rattle.spa_events.specs.declared.level.Level.{Level}
 
 -- the words of a pod that stands behind k bytes
 pub word_behind : (k : ℕ) (b : List ℕ) → extent_behind k b ≤ length b → word_at (drop k (take (extent_behind k b) b)) 4 ≡ word_at b (k + 4)
@@ -80,6 +83,46 @@ inside_placed false true s a body input one room e =
 inside_placed false false s a body input one room e =
     let d : 0 ≡ (a + 0) - (a + 0) = omega arith in
     sym (ap (λ n. walk_behind 0 (take n (drop (a + 0) input))) (sym d) ∙ walk_behind-end 0 [] (omega arith))
+
+-- a pod that holds pods, and one that doesn't
+pub holds_some : (type size : ℕ) (keyed : Bool) → HoldsPods type size keyed →
+    (holds_pods type size ≡ true) × (bytes_before type size ≡ key_size keyed) × (bytes_held type size ≡ size)
+holds_some type size false t =
+    subst (λ n. (holds_pods n size ≡ true) × (bytes_before n size ≡ 0) × (bytes_held n size ≡ size)) (sym t) (refl, refl, refl)
+holds_some type size true o =
+    let e : is_object 15 size ≡ true = le-leb 8 size o.1 in
+    subst (λ n. (holds_pods n size ≡ true) × (bytes_before n size ≡ 8) × (bytes_held n size ≡ size)) (sym o.0)
+    (e, ap (λ b. let n : ℕ = if b then 8 else 0 in n) e, ap (λ b. let n : ℕ = if b then size else 0 in n) e)
+
+pub not_object : (type size : ℕ) → (type ≡ object_type → size < 8) → is_object type size ≡ false
+not_object type size f = elim (eqb_tells type 15) [
+  | inl t ↦ elim (leb_tells 8 size) [
+    | inl l ↦ absurd (let a = f t.1 in let b = l.1 in omega arith)
+    | inr l ↦ ap (λ b. cond b (nat_le 8 size) false) t.0 ∙ l.0
+  ]
+  | inr t ↦ ap (λ b. cond b (nat_le 8 size) false) t.0
+]
+
+pub holds_none : (type size : ℕ) → ((keyed : Bool) → ¬ (HoldsPods type size keyed)) →
+    (holds_pods type size ≡ false) × (bytes_before type size ≡ 0) × (bytes_held type size ≡ 0)
+holds_none type size n =
+    let s : is_struct type ≡ false = ne_eqb type 14 (n false) in
+    let o : is_object type size ≡ false =
+    not_object type size (λ t. elim (cases_lt size 8) [
+      | inl l ↦ l
+      | inr l ↦ absurd (n true (t, l))
+    ]) in (
+      ap (λ b. cond b true (is_object type size)) s ∙ o,
+      ap (λ b. let n : ℕ = if b then 8 else 0 in n) o,
+      ap (λ b. let n : ℕ = if b then size else (if is_object type size then size else 0) in n) s ∙ ap (λ b. let n : ℕ = if b then size else 0 in n) o,
+    )
+
+-- the level inside a pod, by how many bytes are before each and how many are those of pods
+pub level_is : (index before held : ℕ) (e : Event) → before ≡ bytes_before e.type_ e.size → held ≡ bytes_held e.type_ e.size →
+    (let l : Level = record { at = e.at + 8 + before; end = e.at + 8 + held; before = before; depth = e.depth + 1; parent = index } in l) ≡ level_inside index e
+level_is index before held e b h =
+    ap (λ n. let l : Level = record { at = e.at + 8 + n; end = e.at + 8 + held; before = n; depth = e.depth + 1; parent = index } in l) b
+    ∙ ap (λ n. let l : Level = record { at = e.at + 8 + bytes_before e.type_ e.size; end = e.at + 8 + n; before = bytes_before e.type_ e.size; depth = e.depth + 1; parent = index } in l) h
 
 -- no pod is a struct and an object, and an object has room for its type and id
 pub not_both : (t s : ℕ) → is_struct t ≡ true → is_object t s ≡ false

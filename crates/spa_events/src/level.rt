@@ -1,11 +1,11 @@
 //! Pods one after another that are still to come: those of the input, or those inside a struct or an object.
 ghost use Rattle.std.specs.Prelude.{◌≡◌, ◌+◌, ◌<◌, ◌≤◌, ◌^◌, IfNone, IfSome, length};
 ghost use Rattle.spa_format.specs.Words.{extent};
-ghost use Rattle.spa_events.specs.Levels.{CanLeave, HasNext, HasNoNext, holds_pods, level_around, level_following, level_inside};
+ghost use Rattle.spa_events.specs.Levels.{CanLeave, HasNext, HasNoNext, level_around, level_following, level_inside};
 
 use crate::event::{Event, NO_PARENT};
+use crate::inside::{key_len, keyed_inside};
 use spa_bytes::{HEADER_LEN, SECOND_WORD, extent_of, u32_at};
-use spa_utils::SpaTypes;
 
 /// Pods one after another that are still to come.
 #[derive(Clone, Copy)]
@@ -53,10 +53,10 @@ fn inside(event: Event, index: usize) -> Level
     ensures { result ≡ level_inside index event }
 {
     let first = event.at + HEADER_LEN;
-    let (before, size) = match SpaTypes(event.type_) {
-        SpaTypes::Struct => (0, event.size as usize),
-        SpaTypes::Object if event.size as usize >= HEADER_LEN => (HEADER_LEN, event.size as usize),
-        _ => (0, 0),
+    let size = event.size as usize;
+    let (before, size) = match keyed_inside(event.type_, size) {
+        Some(keyed) => (key_len(keyed), size),
+        None => (0, 0),
     };
     Level {
         at: first + before,
@@ -67,29 +67,18 @@ fn inside(event: Event, index: usize) -> Level
     }
 }
 
-/// Whether the pod holds pods: it is a struct, or an object whose size has room for its type and id.
-fn holds_pods(event: Event) -> bool
-    ensures { result ≡ holds_pods event.type_ event.size }
-{
-    match SpaTypes(event.type_) {
-        SpaTypes::Struct => true,
-        SpaTypes::Object => event.size as usize >= HEADER_LEN,
-        _ => false,
-    }
-}
-
 /// The pods to go on with once the event of the first of these is in the list at this index: those inside it, or else those that follow it.
 pub(crate) fn following(level: Level, event: Event, index: usize) -> Level
     requires whole { event.at + extent event.size < 2 ^ 64 }
     requires deep { event.depth + 1 < 2 ^ 64 }
     ensures { result ≡ level_following index level event }
 {
-    if holds_pods(event) {
-        return inside(event, index);
-    }
-    Level {
-        at: event.at + extent_of(event.size),
-        ..level
+    match keyed_inside(event.type_, event.size as usize) {
+        Some(_) => inside(event, index),
+        None => Level {
+            at: event.at + extent_of(event.size),
+            ..level
+        },
     }
 }
 

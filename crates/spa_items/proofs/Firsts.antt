@@ -1,23 +1,15 @@
 -- The first pod of those that stand one after another, opened.
-use Rattle.std.proofs.Common.{◌≡◌, ℕ, ◌+◌, ◌<◌, ◌≤◌, inl, inr, List, length, take, drop, refl, sym, ap, subst, ◌∙◌, arith, length-drop, length-take}
+use Rattle.std.proofs.Common.{◌≡◌, ℕ, ◌≤◌, List, length, take, drop, refl, sym, ap, ◌∙◌, arith, length-drop, length-take}
 use Rattle.std.specs.Prelude.{Bool, true, false, if◌then◌else◌}
-use Rattle.std.proofs.lemmas.Bool.{cases_lt}
 use Rattle.std.proofs.lemmas.List.{drop-drop, drop-take, take-take}
-use Rattle.spa_bytes.specs.Opening.{Opens}
-use Rattle.spa_format.specs.Front.{HasFront, front_of}
+use Rattle.spa_events.specs.Inside.{OpensFirst, key_size}
+use Rattle.spa_events.proofs.Firsts.{behind_word, pod_behind}
+use Rattle.spa_format.specs.Front.{front_of}
 use Rattle.spa_format.specs.Walk.{extent_behind}
 use Rattle.spa_format.specs.Words.{body_of, extent, padded_size, word_at}
-use Rattle.spa_format.proofs.WordLemmas.{word_at-drop, word_at-take}
-use Rattle.spa_items.specs.Items.{before}
+use Rattle.spa_format.proofs.WordLemmas.{word_at-take}
 use Rattle.spa_items.specs.Puts.{IsFirst, first_of}
 use Rattle.spa_items.specs.declared.listing.First.{First}
-
--- the words before and in the first pod
-behind_word : (k : ℕ) (b : List ℕ) → word_at (drop k b) 0 ≡ word_at b k
-behind_word k b = let e : k + 0 ≡ k = omega arith in word_at-drop k 0 b ∙ ap (word_at b) e
-
-pod_there : (k : ℕ) (b : List ℕ) → drop k (take (extent_behind k b) b) ≡ front_of (drop k b)
-pod_there k b = drop-take k (extent (word_at b k)) b ∙ ap (λ n. take (extent n) (drop k b)) (sym (behind_word k b))
 
 front_word : (b : List ℕ) (i : ℕ) → i ≤ 4 → word_at (front_of b) i ≡ word_at b i
 front_word b i h = word_at-take (extent (word_at b 0)) i b (omega arith)
@@ -33,38 +25,26 @@ key_word : (keyed : Bool) (b : List ℕ) (i : ℕ) → i ≤ 4 → (if keyed the
 key_word false b i h = refl
 key_word true b i h = sym (word_at-take (extent_behind 8 b) i b (omega arith))
 
-pub stands_first : (keyed : Bool) (b c body rest : List ℕ) (type key flags : ℕ) → (f : First) → let k = before keyed in k ≤ length b → c ≡ drop k b → Opens c type body rest →
-    f.type_ ≡ type → f.body.now ≡ body → f.rest.now ≡ rest → f.key ≡ (if keyed then word_at b 0 else 0) → f.flags ≡ (if keyed then word_at b 4 else 0) → IsFirst keyed b f
-stands_first keyed b c body rest type key flags f l ec p et eb er ek ef =
-    let k = before keyed in
-    let o = subst (λ z. Opens z type body rest) ec p in
+pub stands_first : (keyed : Bool) (b : List ℕ) (f : First) → OpensFirst keyed b f.type_ f.body.now f.rest.now →
+    f.key ≡ (if keyed then word_at b 0 else 0) → f.flags ≡ (if keyed then word_at b 4 else 0) → IsFirst keyed b f
+stands_first keyed b f i ek ef =
+    let k = key_size keyed in
+    let o = i.opens in
+    let l = i.key in
     let d = length-drop k b in
     let w = o.there.whole in
-    let hh = o.there.header in
     let z = behind_word k b in
     let es = ap extent z in
-    let lb = ap length (eb ∙ o.its_body) in
+    let lb = ap length o.its_body in
     let lt = length-take (word_at (drop k b) 0) (drop 8 (drop k b)) in
-    let lr = ap length (er ∙ o.its_rest) in
+    let lr = ap length o.its_rest in
     let ld = length-drop (extent (word_at (drop k b) 0)) (drop k b) in
     record {
       there = omega arith;
       its_key = ek ∙ key_word keyed b 0 (omega arith);
       its_flags = ef ∙ key_word keyed b 4 (omega arith);
-      its_type = et ∙ o.its_type ∙ sym (front_word (drop k b) 4 (omega arith)) ∙ ap (λ q. word_at q 4) (sym (pod_there k b));
-      its_body = eb ∙ o.its_body ∙ sym (front_body (drop k b)) ∙ ap body_of (sym (pod_there k b));
-      its_rest = er ∙ o.its_rest ∙ ap (λ n. drop (extent n) (drop k b)) z ∙ drop-drop (extent (word_at b k)) k b;
+      its_type = o.its_type ∙ sym (front_word (drop k b) 4 (omega arith)) ∙ ap (λ q. word_at q 4) (sym (pod_behind k b));
+      its_body = o.its_body ∙ sym (front_body (drop k b)) ∙ ap body_of (sym (pod_behind k b));
+      its_rest = o.its_rest ∙ ap (λ n. drop (extent n) (drop k b)) z ∙ drop-drop (extent (word_at b k)) k b;
       fits = omega arith;
     }
-
--- none is there
-pub none_first : (keyed : Bool) (b : List ℕ) → let k = before keyed in k ≤ length b → ¬ (HasFront (drop k b)) → length b < extent_behind k b
-none_first keyed b l n =
-    let k = before keyed in
-    let z = behind_word k b in
-    let es = ap extent z in
-    let d = length-drop k b in
-    elim (cases_lt (length b) (extent_behind k b)) [
-      | inl h ↦ h
-      | inr h ↦ absurd (n (record { header = omega arith; whole = omega arith }))
-    ]

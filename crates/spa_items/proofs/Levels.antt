@@ -1,20 +1,20 @@
 -- Pods that nest in few levels have the same items, however many more levels are listed.
 use Rattle.std.proofs.Common.{◌≡◌, ◌≢◌, ℕ, zero, suc, ◌+◌, ◌<◌, ◌≤◌, inl, inr, List, [], ◌∷◌, ◌++◌, length, take, drop, refl, sym, ap, subst, ◌∙◌, arith, true≢false, length-drop}
 use Rattle.std.specs.Prelude.{Bool, true, false, cond, if◌then◌else◌, min, nat_le}
-use Rattle.std.proofs.lemmas.Bool.{cases_lt, ne_eqb}
+use Rattle.std.proofs.lemmas.Bool.{cases_lt}
 use Rattle.std.proofs.lemmas.Bool.Decides.{eqb_tells, leb_tells}
+use Rattle.spa_events.specs.Inside.{key_size}
 use Rattle.spa_events.specs.Events.{is_object}
-use Rattle.spa_bytes.specs.Opening.{Opens}
-use Rattle.spa_format.specs.Front.{Begins, HasFront}
-use Rattle.spa_format.specs.Pod.{IsBody}
-use Rattle.spa_format.specs.Tree.{Tree, object_type, type_of}
+use Rattle.spa_events.proofs.Places.{not_object, object_room}
+use Rattle.spa_format.specs.Front.{HasFront}
+use Rattle.spa_format.specs.Tree.{object_type}
 use Rattle.spa_format.specs.Walk.{extent_behind, walk, walk_at_most, walk_behind}
 use Rattle.spa_format.specs.Words.{body_of, word_at}
-use Rattle.spa_format.proofs.Fronts.{whole_front}
 use Rattle.spa_format.proofs.WalkLemmas.{length-take_extent}
 use Rattle.spa_format.proofs.WordLemmas.{word_at-drop}
 use Rattle.spa_scan.specs.Depth.{IsDeepBody, NestsDeeper, SomeOf, levels_looked_into}
-use Rattle.spa_items.specs.Items.{before, head, items_along, items_in, items_inside, items_of, items_within, overlaid}
+use Rattle.spa_scan.proofs.Deeper.{of_body}
+use Rattle.spa_items.specs.Items.{head, items_along, items_in, items_inside, items_of, items_within, overlaid}
 use Rattle.spa_items.specs.Puts.{ArePut}
 use Rattle.spa_items.specs.declared.item.Item.{Item}
 use Rattle.spa_items.proofs.Listed.{in_object, in_other, in_struct, one_within}
@@ -59,12 +59,6 @@ unfolded : (k : ℕ) (b : List ℕ) → EachOf (λ p. HasFront (drop k p)) (walk
 unfolding walk_behind
 unfolded k b = each_whole (length b) k b
 
--- a body of a pod that doesn't nest deeper
-of_body : (n : ℕ) (b : List ℕ) → HasFront b → IsDeepBody n (word_at b 4) (body_of b) → NestsDeeper n b
-unfolding NestsDeeper
-of_body zero b h d = (h, d)
-of_body (suc n) b h d = (h, d)
-
 object_there : (type size : ℕ) → is_object type size ≡ true → type ≡ object_type
 object_there type size e =
     elim (eqb_tells type 15) [
@@ -72,26 +66,23 @@ object_there type size e =
       | inr p ↦ absurd (true≢false (sym e ∙ ap (λ x. cond x (nat_le 8 size) false) p.0))
     ]
 
-no_object : (type size : ℕ) → type ≢ object_type → is_object type size ≡ false
-no_object type size ne = ap (λ x. cond x (nat_le 8 size) false) (ne_eqb type 15 ne)
-
 -- the items inside a body, where those of what it holds are the same
 abbrev pub Alike : (n m j depth : ℕ) → Type 0
-Alike n m j depth = (keyed : Bool) (at : ℕ) (b : List ℕ) → ¬ (SomeOf (λ p. NestsDeeper n (drop (before keyed) p)) (walk_behind (before keyed) b)) →
+Alike n m j depth = (keyed : Bool) (at : ℕ) (b : List ℕ) → ¬ (SomeOf (λ p. NestsDeeper n (drop (key_size keyed) p)) (walk_behind (key_size keyed) b)) →
     items_in m depth keyed at b ≡ items_in j depth keyed at b
 
 inside_leaf : (m j depth type at : ℕ) (b : List ℕ) → ¬ (IsDeepBody zero type b) →
     items_inside (items_within m depth) type depth at b ≡ items_inside (items_within j depth) type depth at b
 inside_leaf m j depth type at b n =
     let s : type ≢ 14 = λ e. n (inl e) in
-    let o = no_object type (length b) (λ e. n (inr e)) in
+    let o = not_object type (length b) (λ e. absurd (n (inr e))) in
     sym (in_other m depth at type b s o) ∙ in_other j depth at type b s o
 
 inside_others : (n m j depth type at : ℕ) (b : List ℕ) → Alike n m j depth → ¬ (IsDeepBody (suc n) type b) →
     items_inside (items_within m depth) type depth at b ≡ items_inside (items_within j depth) type depth at b
 inside_others n m j depth type at b a d =
     elim (eqb_tells type 14) [
-      | inl p ↦ sym (in_struct m depth at type b p.1) ∙ a false at b (λ s. d (inl (p.1, s))) ∙ in_struct j depth at type b p.1
+      | inl p ↦ sym (in_struct m depth at type b p.1) ∙ a false at b (λ s. d (false, b, (p.1, refl), s)) ∙ in_struct j depth at type b p.1
       | inr p ↦ by_object (is_object type (length b)) refl p.1
     ]
   where
@@ -99,14 +90,14 @@ inside_others n m j depth type at b a d =
         items_inside (items_within m depth) type depth at b ≡ items_inside (items_within j depth) type depth at b
     by_object true e s =
         let o = object_there type (length b) e in
-        sym (in_object m depth at type b (drop 8 b) s e refl) ∙ a true (at + 8) (drop 8 b) (λ q. d (inr (o, q))) ∙ in_object j depth at type b (drop 8 b) s e refl
+        sym (in_object m depth at type b (drop 8 b) s e refl) ∙ a true (at + 8) (drop 8 b) (λ q. d (true, drop 8 b, (o, object_room type (length b) e, refl), q)) ∙ in_object j depth at type b (drop 8 b) s e refl
     by_object false e s = sym (in_other m depth at type b s e) ∙ in_other j depth at type b s e
 
 -- the items of a pod
 pod_alike : (m j depth : ℕ) (keyed : Bool) (at : ℕ) (p : List ℕ) →
-    (let pod = drop (before keyed) p in
-    items_inside (items_within m (depth + 1)) (word_at pod 4) (depth + 1) (at + before keyed + 8) (body_of pod)
-    ≡ items_inside (items_within j (depth + 1)) (word_at pod 4) (depth + 1) (at + before keyed + 8) (body_of pod)) →
+    (let pod = drop (key_size keyed) p in
+    items_inside (items_within m (depth + 1)) (word_at pod 4) (depth + 1) (at + key_size keyed + 8) (body_of pod)
+    ≡ items_inside (items_within j (depth + 1)) (word_at pod 4) (depth + 1) (at + key_size keyed + 8) (body_of pod)) →
     items_within (suc m) depth keyed at p ≡ items_within (suc j) depth keyed at p
 pod_alike m j depth keyed at p e =
     one_within m depth keyed at p ∙ ap (λ xs. head keyed depth at p ∷ xs) e ∙ sym (one_within j depth keyed at p)
@@ -116,19 +107,19 @@ pub enough_levels : (n m j depth : ℕ) → n < m → n < j → Alike n m j dept
 enough_levels n zero j depth l r = absurd (omega arith)
 enough_levels n (suc m) zero depth l r = absurd (omega arith)
 enough_levels zero (suc m) (suc j) depth l r = λ keyed at b s.
-    along_alike (items_within (suc m) depth keyed) (items_within (suc j) depth keyed) (λ p. HasFront (drop (before keyed) p)) (λ p. NestsDeeper zero (drop (before keyed) p))
+    along_alike (items_within (suc m) depth keyed) (items_within (suc j) depth keyed) (λ p. HasFront (drop (key_size keyed) p)) (λ p. NestsDeeper zero (drop (key_size keyed) p))
     (λ x p f d.
-    let pod = drop (before keyed) p in
-    pod_alike m j depth keyed x p (inside_leaf m j (depth + 1) (word_at pod 4) (x + before keyed + 8) (body_of pod) (λ i. d (of_body zero pod f i))))
-    (walk_behind (before keyed) b) at (unfolded (before keyed) b) s
+    let pod = drop (key_size keyed) p in
+    pod_alike m j depth keyed x p (inside_leaf m j (depth + 1) (word_at pod 4) (x + key_size keyed + 8) (body_of pod) (λ i. d (of_body zero pod f i))))
+    (walk_behind (key_size keyed) b) at (unfolded (key_size keyed) b) s
 enough_levels (suc n) (suc m) (suc j) depth l r = λ keyed at b s.
-    along_alike (items_within (suc m) depth keyed) (items_within (suc j) depth keyed) (λ p. HasFront (drop (before keyed) p)) (λ p. NestsDeeper (suc n) (drop (before keyed) p))
+    along_alike (items_within (suc m) depth keyed) (items_within (suc j) depth keyed) (λ p. HasFront (drop (key_size keyed) p)) (λ p. NestsDeeper (suc n) (drop (key_size keyed) p))
     (λ x p f d.
-    let pod = drop (before keyed) p in
+    let pod = drop (key_size keyed) p in
     pod_alike m j depth keyed x p
-    (inside_others n m j (depth + 1) (word_at pod 4) (x + before keyed + 8) (body_of pod) (enough_levels n m j (depth + 1) (omega arith) (omega arith))
+    (inside_others n m j (depth + 1) (word_at pod 4) (x + key_size keyed + 8) (body_of pod) (enough_levels n m j (depth + 1) (omega arith) (omega arith))
     (λ i. d (of_body (suc n) pod f i))))
-    (walk_behind (before keyed) b) at (unfolded (before keyed) b) s
+    (walk_behind (key_size keyed) b) at (unfolded (key_size keyed) b) s
 
 -- the items of an input, no pod of which nests deeper
 listed_levels : (b : List ℕ) (k : ℕ) → k ≡ min (length b) (1 + levels_looked_into) → ¬ (SomeOf (NestsDeeper levels_looked_into) (walk b)) →
@@ -148,8 +139,3 @@ all_listed input levels old new m e n a =
     let l = ap length same in
     let c = a.counted in
     (omega arith, a.written ∙ ap (λ xs. overlaid xs old) same)
-
--- a front that is opened, and a value that its body says
-pub begins_opened : (left body rest : List ℕ) (type : ℕ) (v : Tree) → Opens left type body rest → type_of v ≡ type → IsBody v body → Begins left v
-begins_opened left body rest type v o k b =
-    record { there = o.there; pod = whole_front left (type_of v) (IsBody v) o.there (sym o.its_type ∙ sym k) (subst (IsBody v) o.its_body b) }

@@ -2,27 +2,30 @@
 use Rattle.std.proofs.Common.{◌≡◌, ◌≢◌, ℕ, suc, ◌+◌, ◌-◌, ◌*◌, ◌<◌, ◌≤◌, List, [], ◌∷◌, ◌++◌, length, take, drop, map, refl, sym, ap, subst, ◌∙◌, arith, length-take, length-drop}
 use Rattle.std.specs.Prelude.{Bool, true, false, if◌then◌else◌}
 use Rattle.std.specs.Simd.{first_chunks}
-use Rattle.std.proofs.lemmas.Bool.{ne_eqb}
+use Rattle.std.proofs.lemmas.Bool.{le-leb, ne_eqb}
+use Rattle.spa_events.specs.Inside.{IsInside, key_size}
 use Rattle.spa_events.specs.Events.{is_object, is_struct}
 use Rattle.spa_format.specs.Front.{HasFront, front_of}
 use Rattle.spa_format.specs.Walk.{extent_behind, walk_behind}
-use Rattle.spa_format.specs.Words.{body_of, extent, word_at}
+use Rattle.spa_format.specs.Tree.{object_type, struct_type}
+use Rattle.spa_format.specs.Words.{body_of, extent, header_size, word_at}
 use Rattle.spa_format.proofs.WalkLemmas.{walk_behind-end, walk_behind-there}
 use Rattle.spa_items.specs.Contents.{content, element, element_count, elements, values_of, word_or}
-use Rattle.spa_items.specs.Items.{before, head, items_along, items_in, items_inside, items_within}
+use Rattle.spa_items.specs.Items.{head, items_along, items_in, items_inside, items_within}
 use Rattle.spa_items.specs.Puts.{AreElements, ArePut, IsFirst, first_of, item_of}
 use Rattle.spa_items.specs.declared.elements.Elements.{Elements}
 use Rattle.spa_items.specs.declared.item.Item.{Item}
 use Rattle.spa_items.specs.declared.listing.First.{First}
+use Rattle.spa_events.proofs.Places.{not_object}
 use Rattle.spa_items.proofs.Overlays.{ArePutOf, all_put, begun, both_put, more_put, none_put}
 
 none_within : (depth : ℕ) (keyed : Bool) (at : ℕ) (p : List ℕ) → items_within 0 depth keyed at p ≡ []
 unfolding items_within
 none_within depth keyed at p = refl
 
-pub one_within : (n depth : ℕ) (keyed : Bool) (at : ℕ) (p : List ℕ) → let pod = drop (before keyed) p in
+pub one_within : (n depth : ℕ) (keyed : Bool) (at : ℕ) (p : List ℕ) → let pod = drop (key_size keyed) p in
     items_within (suc n) depth keyed at p
-    ≡ head keyed depth at p ∷ items_inside (items_within n (depth + 1)) (word_at pod 4) (depth + 1) (at + before keyed + 8) (body_of pod)
+    ≡ head keyed depth at p ∷ items_inside (items_within n (depth + 1)) (word_at pod 4) (depth + 1) (at + key_size keyed + 8) (body_of pod)
 unfolding items_within
 one_within n depth keyed at p = refl
 
@@ -33,18 +36,18 @@ nothing_listed levels depth keyed at p place old e =
     subst (λ xs. ArePut place xs old place old) (sym (ap (λ n. items_within n depth keyed at p) e ∙ none_within depth keyed at p)) (none_put place old)
 
 -- the item of the first pod is that of its parts
-its_head : (keyed : Bool) (depth at body_at : ℕ) (b : List ℕ) (f : First) → IsFirst keyed b f → body_at ≡ at + before keyed + 8 →
+its_head : (keyed : Bool) (depth at body_at : ℕ) (b : List ℕ) (f : First) → IsFirst keyed b f → body_at ≡ at + key_size keyed + 8 →
     item_of depth body_at f ≡ head keyed depth at (first_of keyed b)
 its_head keyed depth at body_at b f i e =
     let p = first_of keyed b in
-    let t = word_at (drop (before keyed) p) 4 in
+    let t = word_at (drop (key_size keyed) p) 4 in
     let make : ℕ → ℕ → ℕ → ℕ → List ℕ → Item = λ k l y x c.
     let w = content y x c in record { type_ = y; key = k; flags = l; child = word_or (values_of y c) 4; depth = depth; first = w.first; second = w.second } in
     ap (λ k. make k f.flags f.type_ body_at f.body.now) i.its_key
     ∙ ap (λ l. make (if keyed then word_at p 0 else 0) l f.type_ body_at f.body.now) i.its_flags
     ∙ ap (λ y. make (if keyed then word_at p 0 else 0) (if keyed then word_at p 4 else 0) y body_at f.body.now) i.its_type
     ∙ ap (λ x. make (if keyed then word_at p 0 else 0) (if keyed then word_at p 4 else 0) t x f.body.now) e
-    ∙ ap (λ c. make (if keyed then word_at p 0 else 0) (if keyed then word_at p 4 else 0) t (at + before keyed + 8) c) i.its_body
+    ∙ ap (λ c. make (if keyed then word_at p 0 else 0) (if keyed then word_at p 4 else 0) t (at + key_size keyed + 8) c) i.its_body
 
 -- the item of the pod at the front
 pub front_head : (at : ℕ) (b : List ℕ) (f : First) → IsFirst false b f → item_of 0 (at + 8) f ≡ head false 0 at (front_of b)
@@ -60,20 +63,20 @@ pub none_there : (b : List ℕ) → length b < extent_behind 0 b → ¬ (HasFron
 none_there b h f = let w = f.whole in absurd (omega arith)
 
 -- a pod's item is put, and those inside it
-pub listed : (levels n depth : ℕ) (keyed : Bool) (at k body_at : ℕ) (b : List ℕ) (f : First) (x : Item) (xs : List Item) (place m : ℕ) (old mid new : List Item) → levels ≡ suc n → IsFirst keyed b f → k ≡ before keyed → body_at ≡ at + k + 8 →
+pub listed : (levels n depth : ℕ) (keyed : Bool) (at k body_at : ℕ) (b : List ℕ) (f : First) (x : Item) (xs : List Item) (place m : ℕ) (old mid new : List Item) → levels ≡ suc n → IsFirst keyed b f → k ≡ key_size keyed → body_at ≡ at + k + 8 →
     x ≡ item_of depth body_at f → xs ≡ items_inside (items_within n (depth + 1)) f.type_ (depth + 1) body_at f.body.now →
     ArePut place (x ∷ []) old (place + 1) mid →
     ArePut (place + 1) xs mid m new →
     ArePut place (items_within levels depth keyed at (first_of keyed b)) old m new
 listed levels n depth keyed at k body_at b f x xs place m old mid new el i ek eb ex exs a c =
-    let e : body_at ≡ at + before keyed + 8 = eb ∙ ap (λ j. at + j + 8) ek in
+    let e : body_at ≡ at + key_size keyed + 8 = eb ∙ ap (λ j. at + j + 8) ek in
     let inside : ℕ → ℕ → List ℕ → List Item = λ t x y. items_inside (items_within n (depth + 1)) t (depth + 1) x y in
     let same =
     ap (λ y. y ∷ xs) (ex ∙ its_head keyed depth at body_at b f i e)
     ∙ ap (λ ys. head keyed depth at (first_of keyed b) ∷ ys) exs
     ∙ ap (λ t. head keyed depth at (first_of keyed b) ∷ inside t body_at f.body.now) i.its_type
-    ∙ ap (λ x. head keyed depth at (first_of keyed b) ∷ inside (word_at (drop (before keyed) (first_of keyed b)) 4) x f.body.now) e
-    ∙ ap (λ y. head keyed depth at (first_of keyed b) ∷ inside (word_at (drop (before keyed) (first_of keyed b)) 4) (at + before keyed + 8) y) i.its_body
+    ∙ ap (λ x. head keyed depth at (first_of keyed b) ∷ inside (word_at (drop (key_size keyed) (first_of keyed b)) 4) x f.body.now) e
+    ∙ ap (λ y. head keyed depth at (first_of keyed b) ∷ inside (word_at (drop (key_size keyed) (first_of keyed b)) 4) (at + key_size keyed + 8) y) i.its_body
     ∙ sym (one_within n depth keyed at (first_of keyed b))
     ∙ ap (λ l. items_within l depth keyed at (first_of keyed b)) (sym el) in
     subst (λ ys. ArePut place ys old m new) same (both_put place (place + 1) m (x ∷ []) xs old mid new a c)
@@ -83,19 +86,19 @@ pub next_listed : (levels depth : ℕ) (keyed : Bool) (at : ℕ) (b : List ℕ) 
     items_in levels depth keyed at b
     ≡ items_within levels depth keyed at (first_of keyed b) ++ items_in levels depth keyed (at + (length b - length f.rest.now)) f.rest.now
 next_listed levels depth keyed at b f i =
-    let n = extent_behind (before keyed) b in
+    let n = extent_behind (key_size keyed) b in
     let read = items_within levels depth keyed in
     let h = i.there in
     let lt = length-take n b in
     let ld = length-drop n b in
     let lr = ap length i.its_rest in
     let e : at + length (take n b) ≡ at + (length b - length f.rest.now) = omega arith in
-    ap (items_along read at) (walk_behind-there (before keyed) b h)
-    ∙ ap (λ x. read at (take n b) ++ items_along read x (walk_behind (before keyed) (drop n b))) e
-    ∙ ap (λ r. read at (take n b) ++ items_along read (at + (length b - length f.rest.now)) (walk_behind (before keyed) r)) (sym i.its_rest)
+    ap (items_along read at) (walk_behind-there (key_size keyed) b h)
+    ∙ ap (λ x. read at (take n b) ++ items_along read x (walk_behind (key_size keyed) (drop n b))) e
+    ∙ ap (λ r. read at (take n b) ++ items_along read (at + (length b - length f.rest.now)) (walk_behind (key_size keyed) r)) (sym i.its_rest)
 
-pub none_listed : (levels depth : ℕ) (keyed : Bool) (at : ℕ) (b : List ℕ) → length b < extent_behind (before keyed) b → items_in levels depth keyed at b ≡ []
-none_listed levels depth keyed at b h = ap (items_along (items_within levels depth keyed) at) (walk_behind-end (before keyed) b h)
+pub none_listed : (levels depth : ℕ) (keyed : Bool) (at : ℕ) (b : List ℕ) → length b < extent_behind (key_size keyed) b → items_in levels depth keyed at b ≡ []
+none_listed levels depth keyed at b h = ap (items_along (items_within levels depth keyed) at) (walk_behind-end (key_size keyed) b h)
 
 -- The elements that are still to be listed.
 
@@ -171,3 +174,16 @@ pub in_other : (n depth at type : ℕ) (b : List ℕ) → type ≢ 14 → is_obj
     elements type depth b ≡ items_inside (items_within n depth) type depth at b
 in_other n depth at type b ne e =
     neither (is_struct type) (is_object type (length b)) (items_in n depth false at b) (items_in n depth true (at + 8) (drop 8 b)) (elements type depth b) (ne_eqb type 14 ne) e
+
+pub in_pods : (n depth at type : ℕ) (b pods : List ℕ) (keyed : Bool) → IsInside type b keyed pods →
+    items_in n depth keyed (at + key_size keyed) pods ≡ items_inside (items_within n depth) type depth at b
+in_pods n depth at type b pods false i =
+    let e : at + 0 ≡ at = omega arith in
+    ap (λ x. items_in n depth false x pods) e ∙ ap (items_in n depth false at) i.1 ∙ in_struct n depth at type b i.0
+in_pods n depth at type b pods true i =
+    let ne : type ≢ 14 = λ s. let o = i.0 in absurd (omega arith) in
+    in_object n depth at type b pods ne (subst (λ t. is_object t (length b) ≡ true) (sym i.0) (le-leb 8 (length b) i.1)) i.2
+
+pub in_none : (n depth at type : ℕ) (b : List ℕ) → type ≢ struct_type → (type ≡ object_type → length b < header_size) →
+    elements type depth b ≡ items_inside (items_within n depth) type depth at b
+in_none n depth at type b s o = in_other n depth at type b s (not_object type (length b) o)

@@ -3,9 +3,9 @@ use Rattle.std.proofs.Common.{◌≡◌, ◌≢◌, ℕ, zero, suc, ◌+◌, ◌
 use Rattle.std.specs.Prelude.{Bool, true, false, if◌then◌else◌, nat_eq}
 use Rattle.std.specs.Option.{option_map}
 use Rattle.std.proofs.lemmas.Bool.{eq-eqb, ne_eqb}
+use Rattle.spa_events.specs.Inside.{key_size}
 use Rattle.spa_format.specs.Walk.{extent_behind, walk_behind}
 use Rattle.spa_format.proofs.WalkLemmas.{walk_behind-end, walk_behind-there}
-use Rattle.spa_items.specs.Items.{before}
 use Rattle.spa_items.specs.Places.{place_of_key, place_of_number}
 use Rattle.spa_items.specs.Puts.{IsFirst, first_of}
 use Rattle.spa_items.specs.declared.listing.First.{First}
@@ -35,7 +35,7 @@ passed_none all whole =
 passed_more : (keyed : Bool) (all left : List ℕ) (f : First) (whole here there : Option ℕ) → IsFirst keyed left f → Passed all left whole here →
     here ≡ behind (length (first_of keyed left)) there → Passed all f.rest.now whole there
 passed_more keyed all left f whole here there i p e =
-    let n = extent_behind (before keyed) left in
+    let n = extent_behind (key_size keyed) left in
     let s = p.shorter in
     let w = i.there in
     let lt = length-take n left in
@@ -56,9 +56,9 @@ pub found_none : (all left : List ℕ) (whole here : Option ℕ) → Passed all 
 found_none all left whole here p e = sym (p.place ∙ ap (behind (length all - length left)) e)
 
 walk_first : (keyed : Bool) (b : List ℕ) (f : First) → IsFirst keyed b f →
-    walk_behind (before keyed) b ≡ first_of keyed b ∷ walk_behind (before keyed) f.rest.now
+    walk_behind (key_size keyed) b ≡ first_of keyed b ∷ walk_behind (key_size keyed) f.rest.now
 walk_first keyed b f i =
-    walk_behind-there (before keyed) b i.there ∙ ap (λ r. first_of keyed b ∷ walk_behind (before keyed) r) (sym i.its_rest)
+    walk_behind-there (key_size keyed) b i.there ∙ ap (λ r. first_of keyed b ∷ walk_behind (key_size keyed) r) (sym i.its_rest)
 
 -- properties
 

@@ -1,21 +1,18 @@
 -- The items of pods one after another, and of all pods and elements in them: docs/FORMAT.md, "Items".
 use Rattle.std.specs.Prelude.{ℕ, zero, suc, ◌+◌, Bool, true, false, List, [], ◌∷◌, ◌++◌, length, drop, if◌then◌else◌}
+use Rattle.spa_events.specs.Inside.{key_size}
 use Rattle.spa_events.specs.Events.{is_object, is_struct}
 use Rattle.spa_format.specs.Walk.{walk_behind}
 use Rattle.spa_format.specs.Words.{body_of, header_size, word_at}
 use Rattle.spa_items.specs.Contents.{content, elements, values_of, word_or}
 use Rattle.spa_items.specs.declared.item.Item.{Item}
 
--- how many bytes are before a pod: 8 of a property's key and flags, or none
-abbrev pub before : Bool → ℕ
-before keyed = if keyed then header_size else 0
-
--- the item of a pod with those bytes, which begin at the byte `at`
+-- the item of a pod with the key and flags before it, if there are any, which begin at the byte `at`
 abbrev pub head : (keyed : Bool) → (depth at : ℕ) → List ℕ → Item
 head keyed depth at p =
-    let pod = drop (before keyed) p in
+    let pod = drop (key_size keyed) p in
     let type = word_at pod 4 in
-    let c = content type (at + before keyed + header_size) (body_of pod) in record {
+    let c = content type (at + key_size keyed + header_size) (body_of pod) in record {
       type_ = type;
       key = if keyed then word_at p 0 else 0;
       flags = if keyed then word_at p 4 else 0;
@@ -42,13 +39,13 @@ items_inside read type depth at b =
 unfoldable pub items_within : (levels depth : ℕ) → Bool → ℕ → List ℕ → List Item
 items_within zero depth keyed at p = []
 items_within (suc n) depth keyed at p =
-    let pod = drop (before keyed) p in
+    let pod = drop (key_size keyed) p in
     head keyed depth at p
-    ∷ items_inside (items_within n (depth + 1)) (word_at pod 4) (depth + 1) (at + before keyed + header_size) (body_of pod)
+    ∷ items_inside (items_within n (depth + 1)) (word_at pod 4) (depth + 1) (at + key_size keyed + header_size) (body_of pod)
 
 -- the items of the pods one after another in these bytes
 abbrev pub items_in : (levels depth : ℕ) → Bool → ℕ → List ℕ → List Item
-items_in levels depth keyed at b = items_along (items_within levels depth keyed) at (walk_behind (before keyed) b)
+items_in levels depth keyed at b = items_along (items_within levels depth keyed) at (walk_behind (key_size keyed) b)
 
 -- The items of an input: of the pods of which it consists, each before those of the pods in it. There are no more levels than bytes.
 unfoldable pub items_of : List ℕ → List Item

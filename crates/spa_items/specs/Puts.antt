@@ -1,9 +1,10 @@
 -- Items that are written from an index of an output on.
 use Rattle.std.specs.Prelude.{◌≡◌, ℕ, zero, suc, ◌+◌, ◌≤◌, Bool, List, [], ◌∷◌, length, take, drop, if◌then◌else◌}
+use Rattle.spa_events.specs.Inside.{key_size}
 use Rattle.spa_format.specs.Words.{body_of, header_size, word_at}
 use Rattle.spa_format.specs.Walk.{extent_behind}
 use Rattle.spa_items.specs.Contents.{content, element_count, values_of, word_or}
-use Rattle.spa_items.specs.Items.{before, overlaid}
+use Rattle.spa_items.specs.Items.{overlaid}
 use Rattle.spa_items.specs.declared.elements.Elements.{Elements}
 use Rattle.spa_items.specs.declared.item.Item.{Item}
 use Rattle.spa_items.specs.declared.listing.First.{First}
@@ -21,17 +22,17 @@ pub record ArePut (place : ℕ) (xs old : List Item) (behind : ℕ) (new : List 
 
 -- the first pod of these bytes, with the key and the flags before it
 abbrev pub first_of : Bool → List ℕ → List ℕ
-first_of keyed b = take (extent_behind (before keyed) b) b
+first_of keyed b = take (extent_behind (key_size keyed) b) b
 
 -- the first pod is there, and these are its parts
 pub record IsFirst (keyed : Bool) (b : List ℕ) (first : First) : Type 0 where
-  pub there : extent_behind (before keyed) b ≤ length b
+  pub there : extent_behind (key_size keyed) b ≤ length b
   pub its_key : first.key ≡ if keyed then word_at (first_of keyed b) 0 else 0
   pub its_flags : first.flags ≡ if keyed then word_at (first_of keyed b) 4 else 0
-  pub its_type : first.type_ ≡ word_at (drop (before keyed) (first_of keyed b)) 4
-  pub its_body : first.body.now ≡ body_of (drop (before keyed) (first_of keyed b))
-  pub its_rest : first.rest.now ≡ drop (extent_behind (before keyed) b) b
-  pub fits : length first.body.now + before keyed + header_size + length first.rest.now ≤ length b
+  pub its_type : first.type_ ≡ word_at (drop (key_size keyed) (first_of keyed b)) 4
+  pub its_body : first.body.now ≡ body_of (drop (key_size keyed) (first_of keyed b))
+  pub its_rest : first.rest.now ≡ drop (extent_behind (key_size keyed) b) b
+  pub fits : length first.body.now + key_size keyed + header_size + length first.rest.now ≤ length b
 
 -- these are the elements of an array, or the values that a choice takes
 pub record AreElements (type : ℕ) (b : List ℕ) (them : Elements) : Type 0 where

@@ -6,16 +6,17 @@ ghost use Rattle.spa_format.specs.Pod.{AreMembers};
 ghost use Rattle.spa_format.specs.Tree.{Trees};
 ghost use Rattle.spa_format.specs.Walk.{extent_behind, walk};
 ghost use Rattle.spa_format.specs.Words.{header_size, word_at};
-ghost use Rattle.spa_items.specs.Items.{before, head, items_in, items_of, items_within, overlaid};
+ghost use Rattle.spa_events.specs.Inside.{key_size};
+ghost use Rattle.spa_items.specs.Items.{head, items_in, items_of, items_within, overlaid};
 ghost use Rattle.spa_items.specs.Puts.{ArePut, IsFirst, first_of, item_of};
 ghost use Rattle.spa_scan.specs.Depth.{NestsDeeper, SomeOf, levels_looked_into, member_depth};
 
 use crate::contents::{content, word_or};
 use crate::elements::{put, put_elements, values_of};
 use crate::item::Item;
-use spa_bytes::{HEADER_LEN, SECOND_WORD, open, u32_at};
-use spa_scan::{LEVELS, nests_within};
-use spa_utils::SpaTypes;
+use spa_bytes::{HEADER_LEN, SECOND_WORD, u32_at};
+use spa_events::{inside_of, key_len, open_first};
+use spa_scan::{LEVELS, all_nest_within};
 
 /// The greatest number of levels of items: the innermost containers may have pods in them.
 const ITEM_LEVELS: usize = 1 + LEVELS as usize;
@@ -56,7 +57,7 @@ pub fn list_items(input: &[u8], out: &mut [Item]) -> Option<usize>
     ensures deep { IfNone result (SomeOf (NestsDeeper levels_looked_into) (walk input.now)) }
     ensures unchanged { IfNone result (out.new ≡ out.old) }
 {
-    if !nest_within_levels(input) {
+    if !all_nest_within(input, LEVELS) {
         return None;
     }
     let level = Level {
@@ -66,23 +67,6 @@ pub fn list_items(input: &[u8], out: &mut [Item]) -> Option<usize>
         at: 0,
     };
     Some(list_pods(out, 0, level, input))
-}
-
-/// Whether the nesting depth of each of the pods is at most 1000.
-fn nest_within_levels(pods: &[u8]) -> bool
-    ensures exactly { (values : Trees) → AreMembers values pods.now
-        → Decides result (member_depth values ≤ levels_looked_into) }
-    ensures deeper { result ≡ false → SomeOf (NestsDeeper levels_looked_into) (walk pods.now) }
-    ensures within { SomeOf (NestsDeeper levels_looked_into) (walk pods.now) → result ≡ false }
-{
-    let mut left = pods;
-    while let Some(front) = open(left) {
-        if !nests_within(left, LEVELS) {
-            return false;
-        }
-        left = front.rest;
-    }
-    true
 }
 
 /// The item of the pod at the front alone, which begins at the byte `at` of a larger input. None: the front isn't there.
@@ -123,7 +107,7 @@ fn list_pods(out: &mut [Item], start: usize, level: Level, pods: &[u8]) -> usize
 #[cycle(listing)]
 fn list_pod(out: &mut [Item], place: usize, level: Level, first: First<'_>) -> usize
     requires room { place + length first.body.now + 1 < 2 ^ 64 }
-    requires within { level.at + before level.keyed + header_size + length first.body.now < 2 ^ 63 }
+    requires within { level.at + key_size level.keyed + header_size + length first.body.now < 2 ^ 63 }
     requires deep { level.depth + level.levels < 2 ^ 64 }
     ensures put { (b : List ℕ) → IsFirst level.keyed b first.entry →
         ArePut place (items_within level.levels level.depth level.keyed level.at (first_of level.keyed b)) out.old result out.new }
@@ -132,44 +116,19 @@ fn list_pod(out: &mut [Item], place: usize, level: Level, first: First<'_>) -> u
     if level.levels == 0 {
         return place;
     }
-    let body_at = level.at + len_before(level.keyed) + HEADER_LEN;
+    let body_at = level.at + key_len(level.keyed) + HEADER_LEN;
     put(out, place, head(level.depth, body_at, first));
-    let inside = Level {
+    let depth = level.depth + 1;
+    let Some(inside) = inside_of(first.type_, first.body) else {
+        return put_elements(out, place + 1, depth, first.type_, first.body);
+    };
+    let inner = Level {
         levels: level.levels - 1,
-        depth: level.depth + 1,
-        keyed: false,
-        at: body_at,
+        depth,
+        keyed: inside.keyed,
+        at: body_at + key_len(inside.keyed),
     };
-    if first.type_ == SpaTypes::Struct.0 {
-        return list_pods(out, place + 1, inside, first.body);
-    }
-    if !holds_properties(first.type_, first.body) {
-        return put_elements(out, place + 1, inside.depth, first.type_, first.body);
-    }
-    let (_, properties) = first.body.split_at(HEADER_LEN);
-    let keyed = Level {
-        keyed: true,
-        at: body_at + HEADER_LEN,
-        ..inside
-    };
-    list_pods(out, place + 1, keyed, properties)
-}
-
-/// Whether a body of this type is an object's, long enough for its type and id.
-fn holds_properties(type_: u32, body: &[u8]) -> bool
-    ensures { result ≡ is_object type_ (length body.now) }
-{
-    match SpaTypes(type_) {
-        SpaTypes::Object => body.len() >= HEADER_LEN,
-        _ => false,
-    }
-}
-
-/// How many bytes are before a pod: 8 of a property's key and flags, or none.
-fn len_before(keyed: bool) -> usize
-    ensures { result ≡ before keyed }
-{
-    if keyed { HEADER_LEN } else { 0 }
+    list_pods(out, place + 1, inner, inside.pods)
 }
 
 /// The item of a pod whose body begins at the byte `body_at`.
@@ -192,12 +151,9 @@ fn head(depth: usize, body_at: usize, first: First<'_>) -> Item
 /// The first of the pods. None: there is no whole one.
 pub(crate) fn first_pod(keyed: bool, pods: &[u8]) -> Option<First<'_>>
     ensures first { IfSome result (IsFirst keyed pods.now) }
-    ensures none { IfNone result (length pods.now < extent_behind (before keyed) pods.now) }
+    ensures none { IfNone result (length pods.now < extent_behind (key_size keyed) pods.now) }
 {
-    let Some(pod) = behind_key(keyed, pods) else {
-        return None;
-    };
-    let Some(front) = open(pod) else {
+    let Some(front) = open_first(keyed, pods) else {
         return None;
     };
     Some(First {
@@ -209,25 +165,10 @@ pub(crate) fn first_pod(keyed: bool, pods: &[u8]) -> Option<First<'_>>
     })
 }
 
-/// The bytes behind a key and flags, where these are before a pod, and else all. None: key and flags are cut short.
-fn behind_key(keyed: bool, pods: &[u8]) -> Option<&[u8]>
-    ensures there { IfSome result (λ pod. before keyed ≤ length pods.now) }
-    ensures behind { IfSome result (λ pod. pod.now ≡ drop (before keyed) pods.now) }
-    ensures none { IfNone result (length pods.now < before keyed) }
-{
-    if !keyed {
-        return Some(pods);
-    }
-    if pods.len() < HEADER_LEN {
-        return None;
-    }
-    Some(&pods[HEADER_LEN..])
-}
-
 /// A word of the key and flags, or 0 where there are none before a pod.
 fn word_before(keyed: bool, pods: &[u8], at: usize) -> u32
     requires order { at ≤ 4 }
-    requires there { before keyed ≤ length pods.now }
+    requires there { key_size keyed ≤ length pods.now }
     ensures { result ≡ if keyed then word_at pods.now at else 0 }
 {
     if !keyed {

@@ -18,7 +18,7 @@ use Rattle.spa_bodies.specs.Reading.{TakesMemory}
 use Rattle.spa_scan.specs.Canonical.{BeginsCanonical}
 use Rattle.spa_rewrite.specs.Look.{IsRejected, IsTooDeep}
 use Rattle.spa_rewrite.specs.Rewriting.{IsRewriting}
-use Rattle.spa_rewrite.specs.Inside.{IsInside}
+use Rattle.spa_events.specs.Inside.{IsInside}
 use Rattle.spa_rewrite.specs.declared.look.Rejected.{Rejected}
 use Rattle.spa_rewrite.specs.declared.look.Rejected.TheVariants as rejected
 use Rattle.spa_rewrite.proofs.Accepted.{at_place, fault_refuses}

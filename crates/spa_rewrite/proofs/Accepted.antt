@@ -27,13 +27,13 @@ use Rattle.spa_scan.proofs.Frames.{no_stretch, stretch_parts}
 use Rattle.spa_rewrite.specs.Look.{AreAccepted, IsAccepted, IsAcceptedAsked, IsRejected, Passes, StopsAt}
 use Rattle.spa_rewrite.specs.Rewriting.{IsLeft, RefusesFront, RefusesList}
 use Rattle.spa_rewrite.specs.Shorter.{ArePodsWithin, BeginsShorter, IsShorterBody}
-use Rattle.spa_rewrite.specs.Inside.{IsBehindKey, IsInside, key_size}
+use Rattle.spa_events.specs.Inside.{IsBehindKey, IsInside, key_size}
 use Rattle.spa_rewrite.specs.Offsets.{IsFaultAt, StandsAt, at_pod, from_pod, scope_of}
 use Rattle.spa_rewrite.specs.declared.look.AcceptedPod.{AcceptedPod}
 use Rattle.spa_rewrite.specs.declared.look.Rejected.{Rejected}
 use Rattle.spa_rewrite.specs.declared.look.Rejected.TheVariants as rejected
 use Rattle.spa_rewrite.proofs.FirstPods.{accepted_behind, left_behind_pods}
-use Rattle.spa_rewrite.proofs.Levels.{deep_begun}
+use Rattle.spa_scan.proofs.Depths.{deep_begun}
 use Rattle.spa_rewrite.proofs.Looks.{passes_pod, some_left, stands_opened}
 use Rattle.spa_rewrite.proofs.Offsets.{body_long, offset_opened, offset_within}
 use Rattle.spa_rewrite.proofs.Refusals.{front_refused}

@@ -11,8 +11,8 @@ use Rattle.spa_scan.specs.Canonical.{BeginsCanonical, MissesOnly}
 use Rattle.spa_scan.specs.Depth.{depth_of}
 use Rattle.spa_scan.proofs.Frames.{body_bytes}
 use Rattle.spa_rewrite.specs.Look.{AreCanonicalInside, NestMore, OpensInside, Passes, nest_inside, nest_last}
-use Rattle.spa_rewrite.specs.Inside.{IsBehindKey}
-use Rattle.spa_rewrite.specs.declared.inside.Inside.{Inside}
+use Rattle.spa_events.specs.Inside.{IsBehindKey}
+use Rattle.spa_events.specs.declared.inside.Inside.{Inside}
 use Rattle.spa_rewrite.proofs.Accepted.{leaf_differs}
 use Rattle.spa_rewrite.proofs.LeafBodies.{never, some_key}
 use Rattle.spa_rewrite.proofs.SameLength.{left_shorter}

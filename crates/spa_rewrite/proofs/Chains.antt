@@ -19,7 +19,7 @@ use Rattle.spa_bytes.specs.Opening.{Opens}
 use Rattle.spa_rewrite.specs.Shorter.{AreShorter, AreShorterInside, IsShorterBody}
 use Rattle.spa_rewrite.specs.Placed.{ArePlaced, HoldsWhole, IsInner, IsPlaced, PutsHeader, PutsKey, WritesOn, WritesPod, type_inside}
 use Rattle.spa_rewrite.specs.Sources.{StaysBehind}
-use Rattle.spa_rewrite.specs.Inside.{IsBehindKey, key_size}
+use Rattle.spa_events.specs.Inside.{IsBehindKey, key_size}
 use Rattle.spa_rewrite.specs.Patched.{IsPodOf}
 use Rattle.spa_rewrite.proofs.Places.{few_placed, inner_placed, pods_placed}
 use Rattle.spa_rewrite.proofs.ShorterLemmas.{whole_keyed, whole_list}

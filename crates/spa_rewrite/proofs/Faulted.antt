@@ -24,7 +24,7 @@ use Rattle.spa_bodies.proofs.Refusals.{at_front_of, says_through}
 use Rattle.spa_bodies.proofs.Steps.{pod_read}
 use Rattle.spa_scan.specs.Depth.{depth_of}
 use Rattle.spa_rewrite.specs.Look.{AreCanonicalInside, StopsAt}
-use Rattle.spa_rewrite.specs.Inside.{IsBehindKey, key_size}
+use Rattle.spa_events.specs.Inside.{IsBehindKey, key_size}
 use Rattle.spa_rewrite.specs.Offsets.{StandsAt, at_key, at_pod, from_properties, scope_of}
 use Rattle.spa_rewrite.proofs.Bodies.{fewer, listed}
 use Rattle.spa_rewrite.proofs.Looks.{Awaits, first_own, stands_first}

@@ -22,7 +22,7 @@ use Rattle.spa_scan.proofs.Opened.{object_inside, struct_inside}
 use Rattle.spa_rewrite.specs.Look.{NestMore, OpensInside, Passes, StandsInside, StopsAt, Surround, nest_behind, nest_inside, nest_last}
 use Rattle.spa_rewrite.specs.Look.{AreCanonicalInside}
 use Rattle.spa_rewrite.specs.Shorter.{AreShorterInside, BeginsShorter}
-use Rattle.spa_rewrite.specs.Inside.{IsBehindKey, IsInside, key_size}
+use Rattle.spa_events.specs.Inside.{IsBehindKey, IsInside, key_size}
 use Rattle.spa_rewrite.specs.Offsets.{StandsAt, scope_of}
 use Rattle.spa_rewrite.specs.declared.look.Waiting.{Waiting}
 use Rattle.spa_rewrite.proofs.Offsets.{body_long, key_long, offset_behind, offset_first, offset_opened}

@@ -9,7 +9,7 @@ use Rattle.spa_format.proofs.Fronts.{length-body_of}
 use Rattle.spa_format.proofs.Short.{padded_above}
 use Rattle.spa_bytes.specs.Opening.{Opens}
 use Rattle.spa_bodies.specs.Reading.{BeginsWith}
-use Rattle.spa_rewrite.specs.Inside.{IsBehindKey, IsInside, key_size}
+use Rattle.spa_events.specs.Inside.{IsBehindKey, IsInside, key_size}
 use Rattle.spa_rewrite.specs.Offsets.{Scope, StandsAt, at_key, at_pod, first_member, first_value, from_members, from_pod, from_properties, in_object, in_struct, next_member, next_property, scope_of}
 
 pub key_long : (keyed : Bool) (left here : List ℕ) → IsBehindKey keyed left here → length left ≡ key_size keyed + length here

@@ -12,7 +12,7 @@ use Rattle.spa_format.specs.Typed.{IsBytes}
 use Rattle.spa_format.proofs.Fronts.{length-body_of, size_of_front, type_of_front}
 use Rattle.spa_format.proofs.WordLemmas.{IsBytes-drop, IsBytes-take}
 use Rattle.spa_bytes.specs.Opening.{Opens}
-use Rattle.spa_rewrite.specs.Inside.{HoldsPods, key_size}
+use Rattle.spa_events.specs.Inside.{HoldsPods, key_size}
 use Rattle.spa_rewrite.specs.Patched.{ArePatched, BeginsWord, IsPatched, IsPodOf, PatchesOn}
 use Rattle.spa_rewrite.proofs.PatchedBodies.{IsUnpatchedType, unpatched_body}
 use Rattle.spa_rewrite.proofs.Patches.{length_put, no_pods, object_patched, pods_patched, struct_patched, too_few}

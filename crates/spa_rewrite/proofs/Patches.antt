@@ -16,7 +16,7 @@ use Rattle.spa_format.proofs.Shapes.{object_only, struct_only}
 use Rattle.spa_format.proofs.Short.{length-framed, padded_above, short_members, short_props, shortest}
 use Rattle.spa_format.proofs.WordLemmas.{IsBytes-drop, IsBytes-take, word_at-take}
 use Rattle.spa_scan.proofs.Words.{two_words_back}
-use Rattle.spa_rewrite.specs.Inside.{key_size}
+use Rattle.spa_events.specs.Inside.{key_size}
 use Rattle.spa_rewrite.specs.Patched.{ArePatched, IsPatched, IsPodOf}
 
 -- the two words at the front

@@ -13,7 +13,7 @@ use Rattle.spa_format.proofs.Fronts.{front_of_whole}
 use Rattle.spa_format.proofs.Shapes.{object_only, struct_only}
 use Rattle.spa_format.proofs.WordLemmas.{IsBytes-drop, IsBytes-take}
 use Rattle.spa_rewrite.specs.Placed.{ArePlaced, HoldsWhole, IsInner, IsPlaced, type_inside}
-use Rattle.spa_rewrite.specs.Inside.{key_size}
+use Rattle.spa_events.specs.Inside.{key_size}
 use Rattle.spa_rewrite.specs.Patched.{IsPodOf}
 use Rattle.spa_rewrite.proofs.Patches.{says_body, two_words_of}
 use Rattle.spa_rewrite.proofs.ShorterLemmas.{whole_keyed, whole_list}

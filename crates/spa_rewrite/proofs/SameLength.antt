@@ -16,7 +16,7 @@ use Rattle.spa_format.proofs.FixedKinds.{fixed_length, kind_of_content}
 use Rattle.spa_bytes.specs.Opening.{Opens}
 use Rattle.spa_scan.specs.Canonical.{IsCanonicalText, IsFixedLen}
 use Rattle.spa_rewrite.specs.Elements.{HasElements, HasValues}
-use Rattle.spa_rewrite.specs.Inside.{IsBehindKey}
+use Rattle.spa_events.specs.Inside.{IsBehindKey}
 use Rattle.spa_rewrite.specs.Shorter.{IsShorterBody}
 use Rattle.spa_rewrite.proofs.Bodies.{listed}
 

@@ -22,7 +22,7 @@ use Rattle.spa_scan.specs.Canonical.{AreCanonical, IsFixedLen}
 use Rattle.spa_scan.specs.Depth.{depth_of, member_depth, property_depth}
 use Rattle.spa_rewrite.specs.Elements.{HasValues}
 use Rattle.spa_rewrite.specs.Shorter.{AreInsideWithin, ArePodsWithin, ArePropertiesWithin, AreShorter, AreShorterInside, BeginsShorter, IsBodyWithin, IsShorterBody}
-use Rattle.spa_rewrite.specs.Inside.{IsBehindKey, IsInside}
+use Rattle.spa_events.specs.Inside.{IsBehindKey, IsInside}
 use Rattle.spa_format.proofs.Sequences.{members_joined, members_left}
 use Rattle.spa_rewrite.proofs.Stretches.{member_encodings-join}
 use Rattle.spa_rewrite.proofs.SameLength.{as_long, kept_length, fixed_same_length}

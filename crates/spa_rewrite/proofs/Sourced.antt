@@ -10,7 +10,7 @@ use Rattle.spa_format.proofs.WordLemmas.{IsBytes-drop, IsBytes-take}
 use Rattle.spa_bytes.specs.Opening.{Opens}
 use Rattle.spa_rewrite.specs.Placed.{ArePlaced, PutsKey, WritesOn, WritesPod, WritesPods}
 use Rattle.spa_rewrite.specs.Sources.{StaysBehind}
-use Rattle.spa_rewrite.specs.Inside.{IsBehindKey, key_size}
+use Rattle.spa_events.specs.Inside.{IsBehindKey, key_size}
 use Rattle.spa_rewrite.specs.Patched.{IsPodOf}
 use Rattle.spa_rewrite.proofs.Patches.{put_end}
 use Rattle.spa_rewrite.proofs.Written.{drop_past, further_behind, here_is, opened_here, writes_all, writes_more, writes_none}

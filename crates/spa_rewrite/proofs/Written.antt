@@ -13,7 +13,7 @@ use Rattle.spa_format.proofs.WordLemmas.{IsBytes-drop, IsBytes-take, word_at-tak
 use Rattle.spa_bytes.specs.Opening.{Opens}
 use Rattle.spa_scan.proofs.Words.{wide_back, wide_of_take, word_there}
 use Rattle.spa_rewrite.specs.Placed.{ArePlaced, IsInner, IsPlaced, PutsKey, WritesOn, WritesPod, WritesPods, type_inside}
-use Rattle.spa_rewrite.specs.Inside.{IsBehindKey, key_size}
+use Rattle.spa_events.specs.Inside.{IsBehindKey, key_size}
 use Rattle.spa_rewrite.specs.Patched.{BeginsWord, IsPodOf}
 use Rattle.spa_rewrite.proofs.PatchSteps.{opened_at, word_kind, word_opens}
 use Rattle.spa_rewrite.proofs.Patches.{put_end}

@@ -10,7 +10,7 @@ use Rattle.spa_bodies.specs.Refusing.{StandsInMembers, StandsInProperties}
 use Rattle.spa_scan.specs.Canonical.{AreCanonical, AreCanonicalProperties, BeginsCanonical}
 use Rattle.spa_scan.specs.Depth.{NestsDeeper, levels_looked_into}
 use Rattle.spa_rewrite.specs.Shorter.{AreShorter, AreShorterInside, BeginsShorter}
-use Rattle.spa_rewrite.specs.Inside.{IsBehindKey, IsInside, key_size}
+use Rattle.spa_events.specs.Inside.{IsBehindKey, IsInside, key_size}
 use Rattle.spa_rewrite.specs.Offsets.{IsFaultAt, StandsAt, scope_of}
 use Rattle.spa_rewrite.specs.declared.leading.CanonicalLook.{CanonicalLook}
 use Rattle.spa_rewrite.specs.declared.leading.CanonicalLook.TheVariants as look

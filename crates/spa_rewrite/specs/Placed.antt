@@ -6,7 +6,7 @@ use Rattle.spa_format.specs.Pod.{AreMembers, AreProperties, IsPod}
 use Rattle.spa_format.specs.Encoding.{encoding_of, member_encodings, property_encodings}
 use Rattle.spa_format.specs.Typed.{IsBytes}
 use Rattle.spa_rewrite.specs.Look.{AreCanonicalInside}
-use Rattle.spa_rewrite.specs.Inside.{HoldsPods, key_size}
+use Rattle.spa_events.specs.Inside.{HoldsPods, key_size}
 use Rattle.spa_rewrite.specs.Patched.{IsPodOf}
 
 -- this is the rewriting of a pod

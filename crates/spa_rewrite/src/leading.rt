@@ -6,9 +6,9 @@ ghost use Rattle.spa_rewrite.specs.Look.{IsCanonicalLook, IsFirst, Passes};
 ghost use Rattle.spa_scan.specs.Canonical.{AreCanonical, BeginsCanonical, MissesOnly};
 ghost use Rattle.spa_scan.specs.Depth.{AreShallow, depth_of, levels_looked_into};
 
-use crate::inside::{Inside, behind_key, inside_of};
 use crate::look::{FEW, MANY};
 use spa_bytes::{HEADER_LEN, SECOND_WORD, open, u32_at};
+use spa_events::{Inside, behind_key, inside_of};
 use spa_scan::{fixed_front, leaf_body_front, leaf_front};
 use spa_utils::SpaTypes;
 

@@ -12,17 +12,17 @@ ghost use Rattle.spa_rewrite.specs.Look.{AreAccepted, AreChanged, IsAccepted, Is
 ghost use Rattle.spa_rewrite.specs.Memory.{AreUnwritten};
 ghost use Rattle.spa_rewrite.specs.Rewriting.{IsLeft};
 ghost use Rattle.spa_rewrite.specs.Shorter.{ArePodsWithin, AreShorter, BeginsShorter, IsShorterBody};
-ghost use Rattle.spa_rewrite.specs.Inside.{IsInside};
+ghost use Rattle.spa_events.specs.Inside.{IsInside};
 ghost use Rattle.spa_scan.specs.Canonical.{BeginsCanonical, IsStretch, MissesOnly};
 ghost use Rattle.spa_scan.specs.Depth.{depth_of, levels_looked_into};
 
-use crate::inside::{Inside, behind_key, inside_of};
 use crate::leading::{
     CanonicalLook, canonical_stretch, is_inside_first, is_leaf, look_for_canonical,
 };
 use crate::surplus::{CHOICE_HEADER, leaf_surplus, short_front};
 use spa_bodies::VALUE_TYPE_AT;
 use spa_bytes::{HEADER_LEN, SECOND_WORD, open, u32_at};
+use spa_events::{Inside, behind_key, inside_of};
 use spa_fixed_sized::{FLAGS_SHAPE, Refusal};
 use spa_scan::{LEVELS, fixed_len, nests_within};
 use spa_utils::SpaTypes;

@@ -6,7 +6,7 @@ ghost use Rattle.spa_format.specs.Tree.{Shape, array_type, choice_type, object_t
 ghost use Rattle.spa_format.specs.Kind.{bool_kind, type_number};
 ghost use Rattle.spa_rewrite.specs.Elements.{AreTruths};
 ghost use Rattle.spa_format.specs.Words.{header_size, size_limit, word_at};
-ghost use Rattle.spa_rewrite.specs.Inside.{HoldsPods, key_size};
+ghost use Rattle.spa_events.specs.Inside.{HoldsPods, key_size};
 ghost use Rattle.spa_rewrite.specs.Patched.{ArePatched, BeginsWord, IsPatched, IsPodOf, IsWordType, PatchesOn, TakesValues, TurnsWritten, bytes_taken};
 
 use crate::elements::written_flags;

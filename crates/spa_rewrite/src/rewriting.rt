@@ -20,7 +20,6 @@ ghost use Rattle.spa_scan.specs.Canonical.{AreCanonical, IsStretch};
 ghost use Rattle.spa_scan.specs.Depth.{depth_of, levels_looked_into};
 ghost use Rattle.spa_value.specs.View.{view};
 
-use crate::inside::inside_of;
 use crate::leading::canonical_stretch;
 use crate::look::{
     AcceptedPod, DEEP_BODY, Found, Rejected, look_at_front, look_at_pods, look_into, more_unasked,
@@ -31,6 +30,7 @@ use crate::surplus::{leaf_surplus, short_front};
 use crate::write::write_pods;
 use spa_bodies::error_at;
 use spa_bytes::open;
+use spa_events::{Inside, inside_of};
 use spa_fixed_sized::{DeserializeError, Refusal};
 use spa_read::{Refused, read_value};
 use spa_scan::{LEVELS, nests_within};

@@ -6,16 +6,16 @@ ghost use Rattle.spa_format.specs.Words.{header_size, size_limit};
 ghost use Rattle.spa_rewrite.specs.Look.{AreCanonicalInside};
 ghost use Rattle.spa_rewrite.specs.Placed.{BeginsRun, HoldsWhole, IsInner, PutsHeader, PutsKey, PutsRun, WritesPod, WritesPods, type_inside};
 ghost use Rattle.spa_rewrite.specs.Shorter.{AreShorter};
-ghost use Rattle.spa_rewrite.specs.Inside.{key_size};
+ghost use Rattle.spa_events.specs.Inside.{key_size};
 ghost use Rattle.spa_rewrite.specs.Patched.{BeginsWord, IsPodOf};
 
-use crate::inside::behind_key;
 use crate::leading::canonical_stretch;
 use crate::patch::{SECOND_HEADER, begins_word, patch_leaf, patch_values, place_behind, taken_len};
 use crate::source::Source;
 use spa_bytes::{
     HEADER_LEN, extent_of, joined, open, two_words, u32_at, u64_at, wide_body, word_body,
 };
+use spa_events::behind_key;
 use spa_scan::{leaf_members, leaf_properties};
 use spa_utils::SpaTypes;
 

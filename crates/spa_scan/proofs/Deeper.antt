@@ -1,48 +1,28 @@
 -- Structs and objects that stand too deep in one another, on any bytes.
-use Rattle.std.proofs.Common.{◌≡◌, ℕ, suc, zero, ◌+◌, ◌<◌, ◌≤◌, ◌-◌, inl, inr, List, [], ◌∷◌, length, take, drop, sym, ap, ◌∙◌, subst, arith, length-drop}
-use Rattle.std.proofs.lemmas.List.{drop-drop, drop-take, length-take-le}
+use Rattle.std.proofs.Common.{◌≡◌, ◌≢◌, ℕ, suc, zero, ◌<◌, ◌≤◌, ◌-◌, inl, inr, List, [], ◌∷◌, length, drop, sym, ap, ◌∙◌, subst, arith}
+use Rattle.std.specs.Prelude.{◌⊎◌, ◌↔◌, Bool, false, true}
+use Rattle.std.proofs.lemmas.List.{length-take-le}
 use Rattle.spa_format.specs.Words.{body_of, extent, header_size, word_at}
-use Rattle.spa_format.specs.Tree.{object_type}
-use Rattle.spa_format.specs.Front.{HasFront, front_of}
-use Rattle.spa_format.specs.Walk.{behind_property, property_of, property_walk, walk}
+use Rattle.spa_format.specs.Tree.{object_type, struct_type}
+use Rattle.spa_format.specs.Front.{HasFront, front_of, rest_of}
+use Rattle.spa_format.specs.Walk.{extent_behind, walk_behind}
 use Rattle.spa_format.proofs.Fronts.{body_of_front, type_of_front, size_of_front}
-use Rattle.spa_format.proofs.WalkLemmas.{property_walk-end, property_walk-there, walk-there}
-use Rattle.spa_format.proofs.WordLemmas.{word_at-drop}
+use Rattle.spa_format.proofs.WalkLemmas.{walk_behind-end}
+use Rattle.spa_events.specs.Inside.{IsInside, OpensFirst, key_size}
 use Rattle.spa_bytes.specs.Opening.{Opens}
-use Rattle.spa_scan.specs.Depth.{IsDeepBody, NestsDeeper, SomeOf}
-
--- one is so exactly where the other is
-pub record DeepAlike (P Q : Type 0) : Type 0 where
-  pub there : P → Q
-  pub back : Q → P
-
--- a list of which the first isn't so, and one of which it is
-pub alike_rest : (P : List ℕ → Type 0) (Q : Type 0) (all rest : List (List ℕ)) (first : List ℕ) → all ≡ first ∷ rest → DeepAlike (SomeOf P all) Q → ¬ (P first) → DeepAlike (SomeOf P rest) Q
-alike_rest P Q all rest first e a n = record {
-  there = λ s. a.there (subst (SomeOf P) (sym e) (inr s));
-  back = λ q.
-      elim (subst (SomeOf P) e (a.back q)) [
-        | inl d ↦ absurd (n d)
-        | inr s ↦ s
-      ];
-}
-
-pub alike_first : (P : List ℕ → Type 0) (Q : Type 0) (all rest : List (List ℕ)) (first : List ℕ) → all ≡ first ∷ rest → DeepAlike (SomeOf P all) Q → P first → Q
-alike_first P Q all rest first e a d = a.there (subst (SomeOf P) (sym e) (inl d))
-
-pub alike_none : (P : List ℕ → Type 0) (Q : Type 0) (all : List (List ℕ)) → all ≡ [] → DeepAlike (SomeOf P all) Q → ¬ Q
-alike_none P Q all e a q = subst (SomeOf P) e (a.back q)
+use Rattle.spa_events.proofs.Firsts.{pod_behind, walk_first}
+use Rattle.spa_scan.specs.Depth.{IsDeepBody, NestsDeeper, NestsDeeperInside, SomeOf}
 
 -- the front of an input that is opened
 to_body : (n : ℕ) (b : List ℕ) → NestsDeeper n b → IsDeepBody n (word_at b 4) (body_of b)
 unfolding NestsDeeper
 to_body zero b d = d.1
-to_body (suc n) b d = d.1
+to_body (suc n) b d = (d.1, d.2, d.3, d.4)
 
-of_body : (n : ℕ) (b : List ℕ) → HasFront b → IsDeepBody n (word_at b 4) (body_of b) → NestsDeeper n b
+pub of_body : (n : ℕ) (b : List ℕ) → HasFront b → IsDeepBody n (word_at b 4) (body_of b) → NestsDeeper n b
 unfolding NestsDeeper
 of_body zero b h d = (h, d)
-of_body (suc n) b h d = (h, d)
+of_body (suc n) b h d = (h, d.0, d.1, d.2, d.3)
 
 pub its_front : (n : ℕ) (b : List ℕ) → NestsDeeper n b → HasFront b
 unfolding NestsDeeper
@@ -65,55 +45,108 @@ pub input_deep : (n : ℕ) (input body rest : List ℕ) (type : ℕ) → Opens i
 input_deep n input body rest type o d =
     subst (λ t. IsDeepBody n t body) (sym o.its_type) (subst (λ c. IsDeepBody n (word_at input 4) c) (sym o.its_body) (to_body n input d))
 
-pub deep_front : (n : ℕ) (input body rest : List ℕ) (type : ℕ) → Opens input type body rest → IsDeepBody n type body → NestsDeeper n (front_of input)
-deep_front n input body rest type o d =
-    of_body n (front_of input) (front_there input o.there)
-    (subst (λ c. IsDeepBody n (word_at (front_of input) 4) c) (o.its_body ∙ sym (body_of_front input))
-    (subst (λ t. IsDeepBody n t body) (o.its_type ∙ sym (type_of_front input)) d))
+-- an input nests as its front does
+pub of_front : (n : ℕ) (b : List ℕ) → HasFront b → NestsDeeper n (front_of b) → NestsDeeper n b
+of_front n b h d =
+    of_body n b h
+    (subst (λ t. IsDeepBody n t (body_of b)) (type_of_front b)
+    (subst (λ c. IsDeepBody n (word_at (front_of b) 4) c) (body_of_front b) (to_body n (front_of b) d)))
 
-pub front_deep : (n : ℕ) (input body rest : List ℕ) (type : ℕ) → Opens input type body rest → NestsDeeper n (front_of input) → IsDeepBody n type body
-front_deep n input body rest type o d =
-    subst (λ t. IsDeepBody n t body) (type_of_front input ∙ sym o.its_type)
-    (subst (λ c. IsDeepBody n (word_at (front_of input) 4) c) (body_of_front input ∙ sym o.its_body) (to_body n (front_of input) d))
+to_front : (n : ℕ) (b : List ℕ) → NestsDeeper n b → NestsDeeper n (front_of b)
+to_front n b d =
+    of_body n (front_of b) (front_there b (its_front n b d))
+    (subst (λ c. IsDeepBody n (word_at (front_of b) 4) c) (sym (body_of_front b))
+    (subst (λ t. IsDeepBody n t (body_of b)) (sym (type_of_front b)) (to_body n b d)))
 
-pub walk_opened : (left body rest : List ℕ) (type : ℕ) → Opens left type body rest → walk left ≡ front_of left ∷ walk rest
-walk_opened left body rest type o = walk-there left o.there ∙ ap (λ r. front_of left ∷ walk r) (sym o.its_rest)
+-- one of the pods inside a container is the first, or one behind it
+pub first_or_behind : (n k : ℕ) (left : List ℕ) → k ≤ length left → HasFront (drop k left) →
+    SomeOf (λ p. NestsDeeper n (drop k p)) (walk_behind k left)
+    ↔ (NestsDeeper n (drop k left) ⊎ SomeOf (λ p. NestsDeeper n (drop k p)) (walk_behind k (rest_of (drop k left))))
+first_or_behind n k left l h =
+    let P : List ℕ → Type 0 = λ p. NestsDeeper n (drop k p) in
+    let w = walk_first k left l h in
+    let e = pod_behind k left in (
+      λ s. elim (subst (SomeOf P) w s) [
+        | inl d ↦ inl (of_front n (drop k left) h (subst (NestsDeeper n) e d))
+        | inr r ↦ inr r
+      ],
+      λ s. subst (SomeOf P) (sym w)
+          (elim s [
+            | inl d ↦ inl (subst (NestsDeeper n) (sym e) (to_front n (drop k left) d))
+            | inr r ↦ inr r
+          ]),
+    )
 
--- a property whose value is opened
-pub properties_opened : (left behind body rest : List ℕ) (type : ℕ) → header_size ≤ length left → behind ≡ drop header_size left → Opens behind type body rest → property_walk left ≡ property_of left ∷ property_walk rest
-properties_opened left behind body rest type l e o =
-    let w : word_at behind 0 ≡ word_at left 8 = ap (λ b. word_at b 0) e ∙ word_at-drop 8 0 left in
-    let here : rest ≡ behind_property left =
-    o.its_rest ∙ ap (λ b. drop (extent (word_at behind 0)) b) e ∙ drop-drop (extent (word_at behind 0)) 8 left ∙ ap (λ n. drop (8 + extent n) left) w in
-    property_walk-there left (record { header = l; value = subst HasFront e o.there })
-    ∙ ap (λ r. property_of left ∷ property_walk r) (sym here)
+pub opened_first : (n : ℕ) (keyed : Bool) (left : List ℕ) (type : ℕ) (body rest : List ℕ) → OpensFirst keyed left type body rest →
+    NestsDeeperInside n keyed left ↔ (IsDeepBody n type body ⊎ NestsDeeperInside n keyed rest)
+opened_first n keyed left type body rest o =
+    let f = first_or_behind n (key_size keyed) left o.key o.opens.there in
+    let here = drop (key_size keyed) left in (
+      λ s. elim (f.0 s) [
+        | inl d ↦ inl (input_deep n here body rest type o.opens d)
+        | inr r ↦ inr (subst (NestsDeeperInside n keyed) (sym o.opens.its_rest) r)
+      ],
+      λ s. f.1
+          (elim s [
+            | inl d ↦ inl (deep_input n here body rest type o.opens d)
+            | inr r ↦ inr (subst (NestsDeeperInside n keyed) o.opens.its_rest r)
+          ]),
+    )
 
-pub value_of_property : (left behind : List ℕ) → behind ≡ drop header_size left → drop header_size (property_of left) ≡ front_of behind
-value_of_property left behind e =
-    let w : word_at behind 0 ≡ word_at left 8 = ap (λ b. word_at b 0) e ∙ word_at-drop 8 0 left in
-    drop-take 8 (extent (word_at left 8)) left ∙ ap (λ n. take (extent n) (drop 8 left)) (sym w) ∙ ap (λ b. take (extent (word_at behind 0)) b) (sym e)
+pub none_inside : (n : ℕ) (keyed : Bool) (left : List ℕ) → length left < extent_behind (key_size keyed) left → ¬ (NestsDeeperInside n keyed left)
+none_inside n keyed left l s = subst (SomeOf (λ p. NestsDeeper n (drop (key_size keyed) p))) (walk_behind-end (key_size keyed) left l) s
 
-pub no_properties_there : (left : List ℕ) → (header_size ≤ length left → ¬ (HasFront (drop header_size left))) → property_walk left ≡ []
-no_properties_there left n = property_walk-end left (λ p. n p.header p.value)
+-- the pods inside nest in one level less than the container
+same_inside : (P : Bool → List ℕ → Type 0) (type : ℕ) (body a b : List ℕ) (k l : Bool) → IsInside type body k a → IsInside type body l b → P k a → P l b
+same_inside P type body a b true true i j p = subst (P true) (i.2 ∙ sym j.2) p
+same_inside P type body a b false false i j p = subst (P false) (i.1 ∙ sym j.1) p
+same_inside P type body a b true false i j p = absurd (let o = i.0 in let s = j.0 in omega arith)
+same_inside P type body a b false true i j p = absurd (let s = i.0 in let o = j.0 in omega arith)
 
--- objects by their levels
-pub deep_object : (n type : ℕ) (body : List ℕ) → type ≡ object_type → (0 < n → SomeOf (λ p. NestsDeeper (n - 1) (drop header_size p)) (property_walk (drop header_size body))) → IsDeepBody n type body
-deep_object zero type body t s = inr t
-deep_object (suc m) type body t s =
-    let e : suc m - 1 ≡ m = omega arith in
-    inr (t, subst (λ k. SomeOf (λ p. NestsDeeper k (drop header_size p)) (property_walk (drop header_size body))) e (s (omega arith)))
+pub one_level_less : (n type : ℕ) (body inside : List ℕ) (keyed : Bool) → 0 < n → IsInside type body keyed inside →
+    IsDeepBody n type body ↔ NestsDeeperInside (n - 1) keyed inside
+one_level_less zero type body inside keyed p i = absurd (omega arith)
+one_level_less (suc m) type body inside keyed p i =
+    let e : suc m - 1 ≡ m = omega arith in (
+      λ d. subst (λ n. NestsDeeperInside n keyed inside) (sym e) (same_inside (NestsDeeperInside m) type body d.1 inside d.0 keyed d.2 i d.3),
+      λ d. (keyed, inside, i, subst (λ n. NestsDeeperInside n keyed inside) e d),
+    )
 
-pub object_deep : (n type : ℕ) (body : List ℕ) → type ≡ object_type → 0 < n → IsDeepBody n type body → SomeOf (λ p. NestsDeeper (n - 1) (drop header_size p)) (property_walk (drop header_size body))
-object_deep zero type body t p d = absurd (omega arith)
-object_deep (suc m) type body t p d =
-    let e : m ≡ suc m - 1 = omega arith in
-    elim d [
-      | inl s ↦ absurd (let k = s.0 in omega arith)
-      | inr o ↦ subst (λ k. SomeOf (λ p. NestsDeeper k (drop header_size p)) (property_walk (drop header_size body))) e o.1
-    ]
+pub holds_none : (n type : ℕ) (body : List ℕ) → 0 < n → type ≢ struct_type → (type ≡ object_type → length body < header_size) → ¬ (IsDeepBody n type body)
+holds_none zero type body p s o d = absurd (omega arith)
+holds_none (suc m) type body p s o d = nothing d.0 d.1 d.2
+  where
+    nothing : (keyed : Bool) (inside : List ℕ) → IsInside type body keyed inside → ⊥
+    nothing true inside i = let l = o i.0 in let h = i.1 in omega arith
+    nothing false inside i = s i.0
 
-pub short_object : (n type : ℕ) (body : List ℕ) → type ≡ object_type → 0 < n → length body < 8 → ¬ (IsDeepBody n type body)
-short_object n type body t p l d =
-    let e = length-drop 8 body in
-    let none : property_walk (drop 8 body) ≡ [] = no_properties_there (drop 8 body) (λ k. absurd (omega arith)) in
-    subst (SomeOf (λ q. NestsDeeper (n - 1) (drop header_size q))) none (object_deep n type body t p d)
+-- more levels are also fewer
+some_weaker : (P Q : List ℕ → Type 0) → ((b : List ℕ) → P b → Q b) → (bs : List (List ℕ)) → SomeOf P bs → SomeOf Q bs
+some_weaker P Q f [] s = s
+some_weaker P Q f (b ∷ bs) s = elim s [
+  | inl p ↦ inl (f b p)
+  | inr q ↦ inr (some_weaker P Q f bs q)
+]
+
+pub container : (type : ℕ) (body inside : List ℕ) (keyed : Bool) → IsInside type body keyed inside → IsDeepBody zero type body
+container type body inside true i = inr i.0
+container type body inside false i = inl i.0
+
+pub deeper_than_fewer : (m n : ℕ) (b : List ℕ) → m ≤ n → NestsDeeper n b → NestsDeeper m b
+unfolding NestsDeeper
+deeper_than_fewer zero zero b l d = d
+deeper_than_fewer zero (suc n) b l d = (d.0, container (word_at b 4) (body_of b) d.2 d.1 d.3)
+deeper_than_fewer (suc m) zero b l d = absurd (omega arith)
+deeper_than_fewer (suc m) (suc n) b l d = (
+  d.0,
+  d.1,
+  d.2,
+  d.3,
+  some_weaker (λ p. NestsDeeper n (drop (key_size d.1) p)) (λ p. NestsDeeper m (drop (key_size d.1) p))
+      (λ p. deeper_than_fewer m n (drop (key_size d.1) p) (omega arith)) (walk_behind (key_size d.1) d.2) d.4,
+)
+
+pub inside_deeper_than_fewer : (m n : ℕ) (keyed : Bool) (inside : List ℕ) → m ≤ n → NestsDeeperInside n keyed inside → NestsDeeperInside m keyed inside
+inside_deeper_than_fewer m n keyed inside l d =
+    some_weaker (λ p. NestsDeeper n (drop (key_size keyed) p)) (λ p. NestsDeeper m (drop (key_size keyed) p))
+    (λ p. deeper_than_fewer m n (drop (key_size keyed) p) l) (walk_behind (key_size keyed) inside) d

@@ -1,150 +1,143 @@
--- How deep the members are that are left of a body.
-use Rattle.std.proofs.Common.{◌≡◌, ℕ, ◌≤◌, List, length, drop, refl, sym, ap, ◌∙◌, subst, arith}
-use Rattle.std.specs.Prelude.{Bool, false, true, Decides, max}
-use Rattle.spa_format.specs.Words.{header_size}
-use Rattle.spa_format.specs.Tree.{Tree, Trees, no_trees, member, Properties, no_properties, property, type_of}
-use Rattle.spa_format.specs.Pod.{AreMembers, AreProperties, IsBody, IsWhole}
-use Rattle.spa_format.specs.Front.{HasFront}
-use Rattle.spa_format.proofs.Fronts.{front_of_whole, of_whole_front}
-use Rattle.spa_bytes.specs.Opening.{Opens}
-use Rattle.spa_scan.specs.Depth.{depth_of, member_depth, property_depth}
+-- The value of a pod nests deeper than so many levels exactly where the pod does.
+use Rattle.std.proofs.Common.{◌≡◌, ℕ, suc, zero, ◌<◌, ◌≤◌, inl, inr, List, [], ◌∷◌, drop, refl, sym, ap, ◌∙◌, subst, arith}
+use Rattle.std.specs.Prelude.{◌⊎◌, ◌↔◌, Bool, false, true, Decides, max}
+use Rattle.std.proofs.lemmas.Bool.{cases_lt}
+use Rattle.spa_format.specs.Words.{body_of, header_size, word_at}
+use Rattle.spa_format.specs.Tree.{Tree, fixed, string, bytes, bitmap, array, choice, pointer, struct, object, Trees, no_trees, member, Properties, no_properties, property, type_of}
+use Rattle.spa_format.specs.Pod.{AreMembers, IsBody, IsPod}
+use Rattle.spa_format.specs.Front.{Begins, HasFront}
+use Rattle.spa_format.specs.Walk.{ArePodsOf, ArePropertiesOf, property_walk, walk}
+use Rattle.spa_format.proofs.Refused.{begun}
+use Rattle.spa_format.proofs.Shapes.{object_only, struct_only}
+use Rattle.spa_format.proofs.WalkedMembers.{members_walked, properties_walked}
+use Rattle.spa_events.specs.Inside.{IsInside}
+use Rattle.spa_scan.specs.Depth.{NestsDeeper, NestsDeeperInside, SomeOf, depth_of, member_depth, property_depth}
 
--- so many levels hold what is left, so they hold the whole; and the other way round
-pub record MembersWithin (levels : ℕ) (vs : Trees) (left : List ℕ) : Type 0 where
-  pub values : Trees
-  pub members : AreMembers values left
-  pub all : member_depth values ≤ levels → member_depth vs ≤ levels
-  pub some : member_depth vs ≤ levels → member_depth values ≤ levels
+-- a pod that nests deeper has such a value
+abbrev DeepValue : ℕ → Type 0
+DeepValue n = (b : List ℕ) (v : Tree) → NestsDeeper n b → word_at b 4 ≡ type_of v → IsBody v (body_of b) → n < depth_of v
 
-abbrev pub MembersLeft : ℕ → List ℕ → List ℕ → Type 0
-MembersLeft levels body left = (vs : Trees) → AreMembers vs body → MembersWithin levels vs left
+some_member : (n : ℕ) → DeepValue n → (vs : Trees) (bs : List (List ℕ)) → ArePodsOf vs bs → SomeOf (NestsDeeper n) bs → n < member_depth vs
+some_member n f no_trees bs m s = absurd (subst (SomeOf (NestsDeeper n)) m s)
+some_member n f (member v vs) [] m s = absurd s
+some_member n f (member v vs) (b ∷ bs) m s = elim s [
+  | inl d ↦ let e : n < depth_of v = f b v d m.0.its_type m.0.content in let g : n < max (depth_of v) (member_depth vs) = omega arith in g
+  | inr r ↦ let e = some_member n f vs bs m.1 r in let g : n < max (depth_of v) (member_depth vs) = omega arith in g
+]
 
-pub record PropertiesWithin (levels : ℕ) (ps : Properties) (left : List ℕ) : Type 0 where
-  pub values : Properties
-  pub properties : AreProperties values left
-  pub all : property_depth values ≤ levels → property_depth ps ≤ levels
-  pub some : property_depth ps ≤ levels → property_depth values ≤ levels
+some_property : (n : ℕ) → DeepValue n → (ps : Properties) (bs : List (List ℕ)) → ArePropertiesOf ps bs →
+    SomeOf (λ p. NestsDeeper n (drop header_size p)) bs → n < property_depth ps
+some_property n f no_properties bs m s = absurd (subst (SomeOf (λ p. NestsDeeper n (drop header_size p))) m s)
+some_property n f (property k l v ps) [] m s = absurd s
+some_property n f (property k l v ps) (b ∷ bs) m s = elim s [
+  | inl d ↦
+      let e : n < depth_of v = f (drop header_size b) v d m.2.its_type m.2.content in
+      let g : n < max (depth_of v) (property_depth ps) = omega arith in
+      g
+  | inr r ↦ let e = some_property n f ps bs m.3 r in let g : n < max (depth_of v) (property_depth ps) = omega arith in g
+]
 
-abbrev pub PropertiesLeft : ℕ → List ℕ → List ℕ → Type 0
-PropertiesLeft levels body left = (ps : Properties) → AreProperties ps body → PropertiesWithin levels ps left
+deep_inside : (n : ℕ) → DeepValue n → (type : ℕ) (body inside : List ℕ) (v : Tree) (keyed : Bool) → type ≡ type_of v → IsBody v body →
+    IsInside type body keyed inside → NestsDeeperInside n keyed inside → suc n < depth_of v
+deep_inside n f type body inside v false t c i s =
+    let o = struct_only v (sym t ∙ i.0) in
+    let e = ap depth_of o.1 in
+    let m : AreMembers o.0 body = subst (λ x. IsBody x body) o.1 c in
+    let k = some_member n f o.0 (walk body) (members_walked o.0 body m) (subst (λ b. SomeOf (NestsDeeper n) (walk b)) i.1 s) in
+    omega arith
+deep_inside n f type body inside v true t c i s =
+    let o = object_only v (sym t ∙ i.0) in
+    let e = ap depth_of o.3 in
+    let m = subst (λ x. IsBody x body) o.3 c in
+    let k =
+    some_property n f o.2 (property_walk (drop header_size body)) (properties_walked o.2 (drop header_size body) m.3)
+    (subst (λ b. SomeOf (λ p. NestsDeeper n (drop header_size p)) (property_walk b)) i.2 s) in
+    omega arith
 
--- the first of the members, as it was opened, and the others
-pub record FirstMember (vs : Trees) (type : ℕ) (body rest : List ℕ) : Type 0 where
-  pub first : Tree
-  pub others : Trees
-  pub both : vs ≡ member first others
-  pub its_type : type_of first ≡ type
-  pub its_body : IsBody first body
-  pub members : AreMembers others rest
+deep_value : (n : ℕ) → DeepValue n
+unfolding NestsDeeper
+deep_value zero b v d t c = elim d.1 [
+  | inl s ↦ let o = struct_only v (sym t ∙ s) in let e = ap depth_of o.1 in omega arith
+  | inr s ↦ let o = object_only v (sym t ∙ s) in let e = ap depth_of o.3 in omega arith
+]
+deep_value (suc n) b v d t c = deep_inside n (deep_value n) (word_at b 4) (body_of b) d.2 v d.1 t c d.3 d.4
 
-pub first_member : (vs : Trees) (left body rest : List ℕ) (type : ℕ) → AreMembers vs left → Opens left type body rest → FirstMember vs type body rest
-first_member no_trees left body rest type m o = absurd (let e = ap length m in let h = o.there.header in omega arith)
-first_member (member v vs) left body rest type m o =
-    let f = front_of_whole left m.0 m.1 (type_of v) (IsBody v) m.2 m.3 in
-    let w = of_whole_front left (type_of v) (IsBody v) (subst (λ b. IsWhole b (type_of v) (IsBody v)) f.1 m.3) in
-    record {
-      first = v;
-      others = vs;
-      both = refl;
-      its_type = sym w.0 ∙ sym o.its_type;
-      its_body = subst (IsBody v) (sym o.its_body) w.1;
-      members = subst (AreMembers vs) (f.2 ∙ sym o.its_rest) m.4;
-    }
+-- the pod of such a value nests deeper
+abbrev ValueDeep : ℕ → Type 0
+ValueDeep n = (b : List ℕ) (v : Tree) → HasFront b → word_at b 4 ≡ type_of v → IsBody v (body_of b) → n < depth_of v → NestsDeeper n b
 
-pub record FirstProperty (ps : Properties) (type : ℕ) (body rest : List ℕ) : Type 0 where
-  pub key : ℕ
-  pub flags : ℕ
-  pub first : Tree
-  pub others : Properties
-  pub both : ps ≡ property key flags first others
-  pub its_type : type_of first ≡ type
-  pub its_body : IsBody first body
-  pub properties : AreProperties others rest
+whole_there : (b : List ℕ) (v : Tree) → IsPod b v → HasFront b
+whole_there b v p = let w = p.whole in record { header = omega arith; whole = omega arith }
 
-pub first_property : (ps : Properties) (left behind body rest : List ℕ) (type : ℕ) → AreProperties ps left → behind ≡ drop header_size left → header_size ≤ length left → Opens behind type body rest → FirstProperty ps type body rest
-first_property no_properties left behind body rest type m d l o = absurd (let e = ap length m in omega arith)
-first_property (property key flags v ps) left behind body rest type m d l o =
-    let f = front_of_whole behind m.3 m.4 (type_of v) (IsBody v) (d ∙ m.5) m.6 in
-    let w = of_whole_front behind (type_of v) (IsBody v) (subst (λ b. IsWhole b (type_of v) (IsBody v)) f.1 m.6) in
-    record {
-      key = key;
-      flags = flags;
-      first = v;
-      others = ps;
-      both = refl;
-      its_type = sym w.0 ∙ sym o.its_type;
-      its_body = subst (IsBody v) (sym o.its_body) w.1;
-      properties = subst (AreProperties ps) (f.2 ∙ sym o.its_rest) m.7;
-    }
+member_deep : (n : ℕ) → ValueDeep n → (vs : Trees) (bs : List (List ℕ)) → ArePodsOf vs bs → n < member_depth vs → SomeOf (NestsDeeper n) bs
+member_deep n f no_trees bs m l = absurd (omega arith)
+member_deep n f (member v vs) [] m l = absurd m
+member_deep n f (member v vs) (b ∷ bs) m l = elim (cases_lt n (depth_of v)) [
+  | inl d ↦ inl (f b v (whole_there b v m.0) m.0.its_type m.0.content d)
+  | inr d ↦ let g : n < max (depth_of v) (member_depth vs) = l in inr (member_deep n f vs bs m.1 (omega arith))
+]
 
--- one more member that nests within the levels
-pub members_step : (levels : ℕ) (whole left body rest : List ℕ) (type : ℕ) → MembersLeft levels whole left → Opens left type body rest → ((v : Tree) → type_of v ≡ type → IsBody v body → depth_of v ≤ levels) → MembersLeft levels whole rest
-members_step levels whole left body rest type before o shallow = λ vs m.
-    let w = before vs m in
-    let f = first_member w.values left body rest type w.members o in
-    let d = shallow f.first f.its_type f.its_body in
-    let depth : member_depth w.values ≡ max (depth_of f.first) (member_depth f.others) = ap member_depth f.both in
-    record {
-      values = f.others;
-      members = f.members;
-      all = λ h. w.all (omega arith);
-      some = λ h. let k = w.some h in omega arith;
-    }
+property_deep : (n : ℕ) → ValueDeep n → (ps : Properties) (bs : List (List ℕ)) → ArePropertiesOf ps bs → n < property_depth ps →
+    SomeOf (λ p. NestsDeeper n (drop header_size p)) bs
+property_deep n f no_properties bs m l = absurd (omega arith)
+property_deep n f (property k w v ps) [] m l = absurd m
+property_deep n f (property k w v ps) (b ∷ bs) m l = elim (cases_lt n (depth_of v)) [
+  | inl d ↦ inl (f (drop header_size b) v (whole_there (drop header_size b) v m.2) m.2.its_type m.2.content d)
+  | inr d ↦ let g : n < max (depth_of v) (property_depth ps) = l in inr (property_deep n f ps bs m.3 (omega arith))
+]
 
--- a member that is deeper
-pub member_deeper : (levels : ℕ) (whole left body rest : List ℕ) (type : ℕ) → MembersLeft levels whole left → Opens left type body rest → ((v : Tree) → type_of v ≡ type → IsBody v body → ¬ (depth_of v ≤ levels)) → (vs : Trees) → AreMembers vs whole → ¬ (member_depth vs ≤ levels)
-member_deeper levels whole left body rest type before o deep vs m = λ h.
-    let w = before vs m in
-    let f = first_member w.values left body rest type w.members o in
-    let d = deep f.first f.its_type f.its_body in
-    let depth : member_depth w.values ≡ max (depth_of f.first) (member_depth f.others) = ap member_depth f.both in
-    let k = w.some h in
-    d (omega arith)
+holder : (v : Tree) → 0 < depth_of v → ((vs : Trees) × (v ≡ struct vs)) ⊎ ((t : ℕ) × (i : ℕ) × (ps : Properties) × (v ≡ object t i ps))
+holder (fixed x) h = absurd (omega arith)
+holder (string s) h = absurd (omega arith)
+holder (bytes s) h = absurd (omega arith)
+holder (bitmap s) h = absurd (omega arith)
+holder (array k xs) h = absurd (omega arith)
+holder (choice s f k x xs) h = absurd (omega arith)
+holder (pointer t a) h = absurd (omega arith)
+holder (struct vs) h = inl (vs, refl)
+holder (object t i ps) h = inr (t, i, ps, refl)
 
--- none is left
-pub members_end : (levels : ℕ) (whole left : List ℕ) → MembersLeft levels whole left → ¬ (HasFront left) → (vs : Trees) → AreMembers vs whole → member_depth vs ≤ levels
-members_end levels whole left before ended vs m = let w = before vs m in w.all (empty w.values w.members)
-  where
-    empty : (ws : Trees) → AreMembers ws left → member_depth ws ≤ levels
-    empty no_trees k = omega arith
-    empty (member v ws) k = absurd (ended (front_of_whole left k.0 k.1 (type_of v) (IsBody v) k.2 k.3).0)
+value_deep : (n : ℕ) → ValueDeep n
+unfolding NestsDeeper
+value_deep zero b v h t c l = elim (holder v l) [
+  | inl s ↦ (h, inl (t ∙ ap type_of s.1))
+  | inr o ↦ (h, inr (t ∙ ap type_of o.3))
+]
+value_deep (suc n) b v h t c l = elim (holder v (omega arith)) [
+  | inl s ↦
+      let e = ap depth_of s.1 in
+      let m : AreMembers s.0 (body_of b) = subst (λ x. IsBody x (body_of b)) s.1 c in
+      let d = member_deep n (value_deep n) s.0 (walk (body_of b)) (members_walked s.0 (body_of b) m) (omega arith) in
+      (h, false, body_of b, (t ∙ ap type_of s.1, refl), d)
+  | inr o ↦
+      let e = ap depth_of o.3 in
+      let m = subst (λ x. IsBody x (body_of b)) o.3 c in
+      let inside = drop header_size (body_of b) in
+      let d = property_deep n (value_deep n) o.2 (property_walk inside) (properties_walked o.2 inside m.3) (omega arith) in
+      (h, true, inside, (t ∙ ap type_of o.3, m.0, refl), d)
+]
 
-pub properties_step : (levels : ℕ) (whole left behind body rest : List ℕ) (type : ℕ) → PropertiesLeft levels whole left → behind ≡ drop header_size left → header_size ≤ length left → Opens behind type body rest → ((v : Tree) → type_of v ≡ type → IsBody v body → depth_of v ≤ levels) → PropertiesLeft levels whole rest
-properties_step levels whole left behind body rest type before e l o shallow = λ ps m.
-    let w = before ps m in
-    let f = first_property w.values left behind body rest type w.properties e l o in
-    let d = shallow f.first f.its_type f.its_body in
-    let depth : property_depth w.values ≡ max (depth_of f.first) (property_depth f.others) = ap property_depth f.both in
-    record {
-      values = f.others;
-      properties = f.properties;
-      all = λ h. w.all (omega arith);
-      some = λ h. let k = w.some h in omega arith;
-    }
+pub deep_begun : (n : ℕ) (input : List ℕ) (v : Tree) → NestsDeeper n input → Begins input v → n < depth_of v
+deep_begun n input v d b = let q = begun input v b in deep_value n input v d q.0 q.1
 
-pub property_deeper : (levels : ℕ) (whole left behind body rest : List ℕ) (type : ℕ) → PropertiesLeft levels whole left → behind ≡ drop header_size left → header_size ≤ length left → Opens behind type body rest → ((v : Tree) → type_of v ≡ type → IsBody v body → ¬ (depth_of v ≤ levels)) → (ps : Properties) → AreProperties ps whole → ¬ (property_depth ps ≤ levels)
-property_deeper levels whole left behind body rest type before e l o deep ps m = λ h.
-    let w = before ps m in
-    let f = first_property w.values left behind body rest type w.properties e l o in
-    let d = deep f.first f.its_type f.its_body in
-    let depth : property_depth w.values ≡ max (depth_of f.first) (property_depth f.others) = ap property_depth f.both in
-    let k = w.some h in
-    d (omega arith)
+pub begun_deep : (n : ℕ) (input : List ℕ) (v : Tree) → Begins input v → n < depth_of v → NestsDeeper n input
+begun_deep n input v b l = let q = begun input v b in value_deep n input v b.there q.0 q.1 l
 
--- where no further property stands whole, none is left
-pub properties_end : (levels : ℕ) (whole left : List ℕ) → PropertiesLeft levels whole left → (header_size ≤ length left → ¬ (HasFront (drop header_size left))) → (ps : Properties) → AreProperties ps whole → property_depth ps ≤ levels
-properties_end levels whole left before ended ps m = let w = before ps m in w.all (empty w.values w.properties)
-  where
-    empty : (qs : Properties) → AreProperties qs left → property_depth qs ≤ levels
-    empty no_properties k = omega arith
-    empty (property key flags v qs) k = absurd (ended k.0 (front_of_whole (drop header_size left) k.3 k.4 (type_of v) (IsBody v) k.5 k.6).0)
+pub members_deep : (n : ℕ) (vs : Trees) (b : List ℕ) → AreMembers vs b → NestsDeeperInside n false b ↔ (n < member_depth vs)
+members_deep n vs b m =
+    let w = members_walked vs b m in
+    (some_member n (deep_value n) vs (walk b) w, member_deep n (value_deep n) vs (walk b) w)
 
 pub not_both : (b : Bool) → b ≡ false → b ≡ true → ⊥
 not_both b e f = let g = sym e ∙ f in grind arith
 
--- an answer that levels are too few, and one that they are enough
-pub decides_no : (P : Type 0) → ¬ P → Decides false P
-decides_no P n = (λ e. absurd (not_both false refl e), λ p. absurd (n p))
-
-pub decides_yes : (P : Type 0) → P → Decides true P
-decides_yes P p = (λ _. p, λ _. refl)
+-- an answer whether levels are enough
+pub decided : (b : Bool) (n depth : ℕ) → (b ≡ false → n < depth) → (n < depth → b ≡ false) → Decides b (depth ≤ n)
+decided true n depth f g = (
+  λ _. elim (cases_lt n depth) [
+    | inl l ↦ absurd (not_both true (g l) refl)
+    | inr l ↦ l
+  ],
+  λ _. refl,
+)
+decided false n depth f g = (λ e. absurd (not_both false refl e), λ l. absurd (let h = f refl in omega arith))

@@ -1,9 +1,10 @@
 -- How deep structs and objects stand in one another, in a value and in any bytes: docs/FORMAT.md, "Values", "Walks over views".
-use Rattle.std.specs.Prelude.{Bool, true, ◌≡◌, ℕ, suc, zero, ◌+◌, ◌≤◌, ◌⊎◌, List, [], ◌∷◌, drop, max}
-use Rattle.spa_format.specs.Words.{body_of, header_size, word_at}
+use Rattle.std.specs.Prelude.{◌≡◌, ℕ, suc, zero, ◌+◌, ◌≤◌, ◌⊎◌, Bool, true, List, [], ◌∷◌, drop, max}
+use Rattle.spa_format.specs.Words.{body_of, word_at}
 use Rattle.spa_format.specs.Front.{HasFront}
-use Rattle.spa_format.specs.Walk.{property_walk, walk}
-use Rattle.spa_format.specs.Tree.{Tree, fixed, string, bytes, bitmap, array, choice, pointer, struct, object, struct_type, object_type, Trees, no_trees, member, Properties, no_properties, property}
+use Rattle.spa_format.specs.Walk.{walk_behind}
+use Rattle.spa_format.specs.Tree.{Tree, fixed, string, bytes, bitmap, array, choice, pointer, struct, object, Trees, no_trees, member, Properties, no_properties, property}
+use Rattle.spa_events.specs.Inside.{IsContainer, IsInside, key_size}
 use Rattle.spa_scan.specs.Canonical.{AreCanonical, IsCanonicalBody, IsSized}
 
 -- One for a struct or an object, and what its deepest member or property has. No other value holds pods.
@@ -32,20 +33,22 @@ abbrev pub SomeOf : (List ℕ → Type 0) → List (List ℕ) → Type 0
 SomeOf P [] = ⊥
 SomeOf P (b ∷ bs) = P b ⊎ SomeOf P bs
 
--- More than so many structs and objects stand in one another at the front of any bytes: the walk over one finds the next in it.
+-- More than so many structs and objects stand in one another at the front of any bytes: the walk inside one finds the next.
 unfoldable pub NestsDeeper : ℕ → List ℕ → Type 0
-NestsDeeper zero b = HasFront b × ((word_at b 4 ≡ struct_type) ⊎ (word_at b 4 ≡ object_type))
+NestsDeeper zero b = HasFront b × IsContainer (word_at b 4)
 NestsDeeper (suc n) b =
     HasFront b
-    × (((word_at b 4 ≡ struct_type) × SomeOf (NestsDeeper n) (walk (body_of b)))
-    ⊎ ((word_at b 4 ≡ object_type) × SomeOf (λ p. NestsDeeper n (drop header_size p)) (property_walk (drop header_size (body_of b)))))
+    × (keyed : Bool) × (inside : List ℕ) × IsInside (word_at b 4) (body_of b) keyed inside
+    × SomeOf (λ p. NestsDeeper n (drop (key_size keyed) p)) (walk_behind (key_size keyed) inside)
 
--- the structs and objects in a body of this type nest deeper than so many levels
-abbrev pub IsDeepBody : ℕ → ℕ → List ℕ → Type 0
-IsDeepBody zero type body = (type ≡ struct_type) ⊎ (type ≡ object_type)
-IsDeepBody (suc n) type body =
-    ((type ≡ struct_type) × SomeOf (NestsDeeper n) (walk body))
-    ⊎ ((type ≡ object_type) × SomeOf (λ p. NestsDeeper n (drop header_size p)) (property_walk (drop header_size body)))
+-- one of the pods inside a container nests deeper than so many levels
+abbrev pub NestsDeeperInside : (levels : ℕ) → (keyed : Bool) → (inside : List ℕ) → Type 0
+NestsDeeperInside n keyed inside = SomeOf (λ p. NestsDeeper n (drop (key_size keyed) p)) (walk_behind (key_size keyed) inside)
+
+-- a pod of this type with this body nests deeper than so many levels
+abbrev pub IsDeepBody : (levels type : ℕ) → (body : List ℕ) → Type 0
+IsDeepBody zero type body = IsContainer type
+IsDeepBody (suc n) type body = (keyed : Bool) × (inside : List ℕ) × IsInside type body keyed inside × NestsDeeperInside n keyed inside
 
 -- how many levels of a pod are looked into
 abbrev pub levels_looked_into : ℕ

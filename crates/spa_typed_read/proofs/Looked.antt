@@ -12,7 +12,7 @@ use Rattle.spa_bodies.specs.Reading.{MayLackMemory, OnMemory, RefusesInput}
 use Rattle.spa_bodies.specs.Refusing.{Says, error_of}
 use Rattle.spa_rewrite.specs.Look.{IsTooDeep}
 use Rattle.spa_rewrite.proofs.Accepted.{fault_front}
-use Rattle.spa_rewrite.proofs.Levels.{deep_begun}
+use Rattle.spa_scan.proofs.Depths.{deep_begun}
 use Rattle.spa_typed_read.specs.Lookup.{HoldsDeep}
 use Rattle.spa_typed_read.proofs.Lookups.{first_of_all, some_long}
 

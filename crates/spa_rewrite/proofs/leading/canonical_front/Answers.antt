@@ -3,7 +3,8 @@ use Rattle.spa_format.specs.Typed.{IsBytes}
 use Rattle.spa_scan.specs.Depth.{levels_looked_into}
 use Rattle.spa_scan.proofs.Opened.{none_then}
 use Rattle.spa_rewrite.proofs.Accepted.{leaf_differs}
-use Rattle.spa_rewrite.proofs.Levels.{deep_begun, too_deep}
+use Rattle.spa_scan.proofs.Depths.{deep_begun}
+use Rattle.spa_rewrite.proofs.Levels.{too_deep}
 use Rattle.spa_rewrite.proofs.Looks.{inside_own, own_opened}
 use Rattle.spa_rewrite.proofs.leading.canonical_front.Goals as goal
 

@@ -3,7 +3,7 @@ use Rattle.std.proofs.lemmas.Bool.{eqb-false, eqb-true}
 use Rattle.std.proofs.lemmas.List.{length-reverse, length-take-le}
 use Rattle.spa_format.specs.Typed.{IsBytes}
 use Rattle.spa_rewrite.specs.Look.{NestMore, nest_here}
-use Rattle.spa_rewrite.specs.declared.inside.Inside.{Inside}
+use Rattle.spa_events.specs.declared.inside.Inside.{Inside}
 use Rattle.spa_rewrite.proofs.CanonicalLooks.{OwnThen, OwnWaiting, left_in, own_begins, own_ended, own_in, own_in_last, own_passed}
 use Rattle.spa_rewrite.proofs.Looks.{opened_shorter, popped, pushed}
 use Rattle.spa_rewrite.proofs.leading.look_on.Goals as goal

@@ -1,7 +1,7 @@
 use Rattle.std.proofs.Common.{subst}
 use Rattle.std.proofs.lemmas.List.{length-replicate}
 use Rattle.spa_rewrite.specs.Look.{IsFound}
-use Rattle.spa_rewrite.specs.declared.inside.Inside.{Inside}
+use Rattle.spa_events.specs.declared.inside.Inside.{Inside}
 use Rattle.spa_rewrite.proofs.look.look_deep.Goals as goal
 
 pub returns : goal.returns

@@ -1,7 +1,7 @@
 use Rattle.std.proofs.Common.{◌≡◌, ◌+◌, ◌-◌, ap, arith, drop, refl, subst}
 use Rattle.std.specs.Prelude.{true}
 use Rattle.std.proofs.lemmas.List.{take_rest}
-use Rattle.spa_rewrite.specs.Inside.{key_size}
+use Rattle.spa_events.specs.Inside.{key_size}
 use Rattle.spa_rewrite.specs.Patched.{BeginsWord}
 use Rattle.spa_rewrite.proofs.PatchSteps.{runs_from, runs_further, runs_on}
 use Rattle.spa_rewrite.proofs.patch.behind_words.Goals as goal

@@ -3,7 +3,7 @@ use Rattle.std.specs.Prelude.{true}
 use Rattle.std.proofs.lemmas.List.{take_rest}
 use Rattle.spa_format.specs.Front.{HasFront}
 use Rattle.spa_bytes.specs.Opening.{Opens}
-use Rattle.spa_rewrite.specs.Inside.{key_size}
+use Rattle.spa_events.specs.Inside.{key_size}
 use Rattle.spa_rewrite.proofs.PatchSteps.{nothing_patched, pod_done, pod_is, stops_short, stops_unopened}
 use Rattle.spa_rewrite.proofs.patch.patch_properties.Goals as goal
 

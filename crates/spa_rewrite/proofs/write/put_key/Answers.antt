@@ -1,6 +1,6 @@
 use Rattle.std.proofs.Common.{◌∙◌, ap, arith, drop, length-drop, refl, take}
 use Rattle.std.proofs.lemmas.List.{take_rest}
-use Rattle.spa_rewrite.specs.Inside.{key_size}
+use Rattle.spa_events.specs.Inside.{key_size}
 use Rattle.spa_rewrite.proofs.Sourced.{key_put}
 use Rattle.spa_rewrite.proofs.write.put_key.Goals as goal
 

@@ -1,7 +1,7 @@
 use Rattle.std.proofs.Common.{◌+◌, ◌-◌, ◌∙◌, ap, arith, drop, length, length-drop, refl, subst, sym, take}
 use Rattle.std.proofs.lemmas.List.{length-take-le, take_rest}
 use borrow.Rule.Slice.PartMut.{put_mid}
-use Rattle.spa_rewrite.specs.Inside.{key_size}
+use Rattle.spa_events.specs.Inside.{key_size}
 use Rattle.spa_rewrite.proofs.Chains.{ChainsOn, chains_more, enters, last_inside}
 use Rattle.spa_rewrite.proofs.Patches.{length_put}
 use Rattle.spa_rewrite.proofs.Runs.{chains_run}

@@ -1,15 +1,12 @@
-use Rattle.std.proofs.Common.{sym, ◌∙◌, subst}
-use Rattle.spa_format.specs.Pod.{IsBody}
-use Rattle.spa_format.specs.Tree.{type_of}
-use Rattle.spa_format.proofs.Fronts.{of_whole_front}
 use Rattle.spa_scan.proofs.Deeper.{deep_input, input_deep, its_front}
+use Rattle.spa_scan.proofs.Depths.{begun_deep, decided, deep_begun}
 use Rattle.spa_scan.proofs.nesting.nests_within.Goals as goal
 
 pub returns-in-Some-clause-exactly : goal.returns-in-Some-clause-exactly
 returns-in-Some-clause-exactly c = λ v b.
     let o = c.in-Some.ensures.there in
-    let w = of_whole_front _ (type_of v) (IsBody v) b.pod in
-    c.body_nests_within.ensures.exactly v (sym w.0 ∙ sym o.its_type) (subst (IsBody v) (sym o.its_body) w.1)
+    decided _ _ _ (λ e. deep_begun _ _ v (deep_input _ _ _ _ _ o (c.body_nests_within.ensures.deeper e)) b)
+    (λ l. c.body_nests_within.ensures.within (input_deep _ _ _ _ _ o (begun_deep _ _ v b l)))
 
 pub returns-in-Some-clause-deeper : goal.returns-in-Some-clause-deeper
 returns-in-Some-clause-deeper c = λ e. deep_input _ _ _ _ _ c.in-Some.ensures.there (c.body_nests_within.ensures.deeper e)

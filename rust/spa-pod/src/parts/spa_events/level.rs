@@ -2,8 +2,7 @@
 
 use crate::shims::prelude::*;
 use crate::parts::spa_events::event::{Event, NO_PARENT};
-use crate::parts::spa_bytes::{HEADER_LEN, SECOND_WORD, extent_of, u32_at};
-use crate::parts::spa_utils::SpaTypes;
+use crate::parts::spa_bytes::{HEADER_LEN, SECOND_WORD, extent_of, key_len, keyed_inside, u32_at};
 
 /// Pods one after another that are still to come.
 #[derive(Clone, Copy)]
@@ -41,10 +40,10 @@ pub(crate) fn next_event(input: &[u8], level: Level) -> Option<Event> {
 /// The pods inside the one whose event has this index: the members of a struct, the properties of an object, or none.
 fn inside(event: Event, index: usize) -> Level {
     let first = event.at + HEADER_LEN;
-    let (before, size) = match SpaTypes(event.type_) {
-        SpaTypes::Struct => (0, event.size as usize),
-        SpaTypes::Object if event.size as usize >= HEADER_LEN => (HEADER_LEN, event.size as usize),
-        _ => (0, 0),
+    let size = event.size as usize;
+    let (before, size) = match keyed_inside(event.type_, size) {
+        Some(keyed) => (key_len(keyed), size),
+        None => (0, 0),
     };
     Level {
         at: first + before,
@@ -55,18 +54,9 @@ fn inside(event: Event, index: usize) -> Level {
     }
 }
 
-/// Whether the pod holds pods: it is a struct, or an object whose size has room for its type and id.
-fn holds_pods(event: Event) -> bool {
-    match SpaTypes(event.type_) {
-        SpaTypes::Struct => true,
-        SpaTypes::Object => event.size as usize >= HEADER_LEN,
-        _ => false,
-    }
-}
-
 /// The pods to go on with once the event of the first of these is in the list at this index: those inside it, or else those that follow it.
 pub(crate) fn following(level: Level, event: Event, index: usize) -> Level {
-    if holds_pods(event) {
+    if keyed_inside(event.type_, event.size as usize).is_some() {
         return inside(event, index);
     }
     Level {

@@ -8,7 +8,7 @@ use crate::parts::spa_rewrite::leading::{
 };
 use crate::parts::spa_rewrite::surplus::{CHOICE_HEADER, leaf_surplus, short_front};
 use crate::parts::spa_bodies::VALUE_TYPE_AT;
-use crate::parts::spa_bytes::{HEADER_LEN, SECOND_WORD, open, u32_at};
+use crate::parts::spa_bytes::{HEADER_LEN, Inside, SECOND_WORD, behind_key, inside_of, open, u32_at};
 use crate::parts::spa_fixed_sized::{FLAGS_SHAPE, Refusal};
 use crate::parts::spa_scan::{LEVELS, fixed_len, nests_within};
 use crate::parts::spa_utils::SpaTypes;

@@ -2,7 +2,6 @@
 use crate::shims::prelude::*;
 mod canonical;
 mod elements;
-mod inside;
 mod leading;
 mod look;
 mod patch;
@@ -12,7 +11,6 @@ mod surplus;
 mod write;
 
 pub use canonical::is_canonical;
-pub use inside::behind_key;
 pub use leading::{canonical_front, canonical_stretch};
 pub use look::{
     AcceptedPod, AcceptedPods, ChangedPods, Rejected, changed_pods, look_at_pod, look_at_pods,

@@ -14,7 +14,7 @@ use crate::parts::spa_rewrite::source::Apart;
 use crate::parts::spa_rewrite::surplus::{leaf_surplus, short_front};
 use crate::parts::spa_rewrite::write::write_pods;
 use crate::parts::spa_bodies::error_at;
-use crate::parts::spa_bytes::open;
+use crate::parts::spa_bytes::{Inside, inside_of, open};
 use crate::parts::spa_fixed_sized::{DeserializeError, Refusal};
 use crate::parts::spa_read::{Refused, read_value};
 use crate::parts::spa_scan::{LEVELS, nests_within};

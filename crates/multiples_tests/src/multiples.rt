@@ -1,7 +1,9 @@
 //! Multiples that were found by hand.
 ghost use Rattle.std.specs.Prelude.{◌≡◌};
 
-use spa_multiples::{Steps, common_multiple, first_multiple, first_signed, is_multiple, narrowed};
+use spa_filter_elements::{
+    NumberSteps, common_multiple, first_multiple, first_signed, is_multiple, narrowed,
+};
 
 /// Two numbers, and their least common multiple.
 const COMMON: &[(u64, u64, Option<u64>)] = &[
@@ -129,10 +131,10 @@ fn steps_narrowed() -> &'static [((i32, i32, i32), i64, (i32, i32, i32))] {
 }
 
 /// Steps of numbers of 32 bits.
-fn steps(low: i32, high: i32, step: i32) -> Steps
+fn steps(low: i32, high: i32, step: i32) -> NumberSteps
     ensures { result.low ≡ low × result.high ≡ high × result.step ≡ step }
 {
-    Steps {
+    NumberSteps {
         low: i64::from(low),
         high: i64::from(high),
         step: i64::from(step),

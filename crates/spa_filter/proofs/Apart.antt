@@ -11,8 +11,8 @@ use Rattle.spa_format.proofs.FixedKinds.{kind_of_content, number_is}
 use Rattle.spa_format.proofs.Shapes.{choice_only}
 use Rattle.spa_format.proofs.WordLemmas.{word_at-drop}
 use Rattle.spa_bytes.specs.Opening.{Opens}
-use Rattle.spa_filter_order.proofs.Order.{kind_of-ordered}
-use Rattle.spa_filter_order.proofs.Masks.{kind_of-among}
+use Rattle.spa_filter_elements.proofs.Order.{kind_of-ordered}
+use Rattle.spa_filter_elements.proofs.Masks.{kind_of-among}
 use Rattle.spa_filter_offers.specs.Admits.{Admits, AdmitsContent, HasCommon, is_bounded, is_flags}
 use Rattle.spa_filter.specs.CommonPods.{AreApart, HasBody, IsCommonRefused, IsOfferRefused, IsOffered, IsOfOtherType}
 use Rattle.spa_filter.specs.declared.refused.Refused.{Refused}

@@ -4,8 +4,8 @@ use Rattle.spa_format.specs.Kind.{Kind, Fixed}
 use Rattle.spa_format.specs.Tree.{Tree, choice, range_choice, choice_type}
 use Rattle.spa_format.specs.Writable.{IsTooLarge}
 use Rattle.spa_format.proofs.Unique.{same_body}
-use Rattle.spa_filter_order.specs.Bounds.{IsJoin, IsMeet}
-use Rattle.spa_filter_order.specs.Order.{IsAtMost, IsOrderedKind, IsWithin}
+use Rattle.spa_filter_elements.specs.Bounds.{IsJoin, IsMeet}
+use Rattle.spa_filter_elements.specs.Order.{IsAtMost, IsOrderedKind, IsWithin}
 use Rattle.spa_filter_offers.specs.Admits.{AreSupported, HasCommon, IsMeeting, IsSupported}
 use Rattle.spa_filter_offers.specs.Offers.{IsDefault, IsOffer}
 use Rattle.spa_filter_offers.proofs.Meetings.{MeetsIn-between, none-between}

@@ -4,7 +4,7 @@ ghost use Rattle.spa_format.specs.Tree.{Tree, choice_type};
 ghost use Rattle.spa_format.specs.Words.{word_at};
 ghost use Rattle.spa_filter.specs.CommonPods.{HasBody, IsCommonAppended, IsCommonRefused, IsRangeBody};
 ghost use Rattle.spa_filter_offers.specs.Offers.{IsDefault};
-ghost use Rattle.spa_filter_order.specs.Order.{IsAtMost, IsWithin};
+ghost use Rattle.spa_filter_elements.specs.Order.{IsAtMost, IsWithin};
 
 use crate::choices::{choice_over, put_choice_of, put_read};
 use crate::refused::Refused;

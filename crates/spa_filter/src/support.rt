@@ -4,9 +4,9 @@ ghost use Rattle.spa_format.specs.Kind.{Fixed, Kind, type_number};
 ghost use Rattle.spa_format.specs.Pod.{IsPod};
 ghost use Rattle.spa_format.specs.Tree.{Shape, Tree, choice, shape_number};
 ghost use Rattle.spa_filter_offers.specs.Admits.{AreSupported, IsSupported, is_bounded, is_flags};
-ghost use Rattle.spa_filter_order.specs.Flags.{IsFlagKind};
-ghost use Rattle.spa_filter_order.specs.Order.{IsOrderedKind};
-ghost use Rattle.spa_filter_steps.specs.Steps.{IsStepKind};
+ghost use Rattle.spa_filter_elements.specs.Flags.{IsFlagKind};
+ghost use Rattle.spa_filter_elements.specs.Order.{IsOrderedKind};
+ghost use Rattle.spa_filter_elements.specs.Steps.{IsStepKind};
 
 use crate::choices::VALUES_AT;
 use crate::values::are_both;

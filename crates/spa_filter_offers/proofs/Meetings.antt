@@ -3,9 +3,9 @@ use Rattle.std.proofs.Common.{◌≡◌, inl, inr, ◌↔◌, List, [], ◌∷�
 use Rattle.std.specs.List.{Contains}
 use Rattle.spa_format.specs.Kind.{Kind, Fixed}
 use Rattle.spa_format.specs.Tree.{Tree, fixed, choice, enum_choice, range_choice, step_choice}
-use Rattle.spa_filter_order.specs.Order.{IsAtMost, IsWithin}
-use Rattle.spa_filter_order.proofs.Order.{IsAtMost-trans}
-use Rattle.spa_filter_steps.specs.Steps.{IsInSteps}
+use Rattle.spa_filter_elements.specs.Order.{IsAtMost, IsWithin}
+use Rattle.spa_filter_elements.proofs.Order.{IsAtMost-trans}
+use Rattle.spa_filter_elements.specs.Steps.{IsInSteps}
 use Rattle.spa_filter_offers.specs.Offers.{IsContent, IsDefault, IsOffer, MeetsIn}
 use Rattle.spa_filter_offers.proofs.Contents.{Contains-cons_cases, Contains-behind}
 use Rattle.spa_filter_offers.proofs.Offering.{only_by}

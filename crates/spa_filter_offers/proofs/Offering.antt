@@ -6,11 +6,11 @@ use Rattle.spa_format.specs.Tree.{Shape, none_choice, range_choice, step_choice,
 use Rattle.spa_fixed_sized.specs.Choices.{choice_enum_tree}
 use Rattle.spa_utils.specs.declared.choice.ChoiceEnum.{ChoiceEnum}
 use Rattle.spa_utils.specs.declared.choice.ChoiceEnum.TheVariants as E
-use Rattle.spa_filter_offers.specs.Admits.{Admits, IsCommon, HasCommon, AreSayable, is_flags, is_bounded}
+use Rattle.spa_filter_offers.specs.Admits.{Admits, AdmitsNone, IsCommon, HasCommon, AreSayable, is_flags, is_bounded}
 use Rattle.spa_filter_offers.specs.Offers.{IsContent, AreOffersSayable, is_masked, has_bounds}
 use Rattle.spa_filter_offers.specs.declared.offer.Offer.{Offer}
-use Rattle.spa_filter_order.proofs.Order.{kind_of-ordered}
-use Rattle.spa_filter_order.proofs.Masks.{kind_of-among}
+use Rattle.spa_filter_elements.proofs.Order.{kind_of-ordered}
+use Rattle.spa_filter_elements.proofs.Masks.{kind_of-among}
 
 pub only_by : (s : Shape) (n : ℕ) (k : Kind) (d : Fixed) (vs : List Fixed) (x : Tree) →
     Admits (choice s n k d vs) x → IsContent x
@@ -39,14 +39,14 @@ kind_of-admitted k f same n (E.Enum y ys) x h =
 kind_of-admitted k f same n (E.Flags y ys) x h = kind_of-among x (f y) h ∙ same y
 
 none_typed_at : {T : Type 0} (k : Kind) (f : T → Fixed) (same : (x : T) → kind_of (f x) ≡ k) (n : ℕ)
-    (e : ChoiceEnum T) (w : Tree) → ((x : Fixed) → Admits w (fixed x) → ¬ (kind_of x ≡ k)) → (x : Tree) →
+    (e : ChoiceEnum T) (w : Tree) → AdmitsNone k w → (x : Tree) →
     ¬ (IsCommon (choice_enum_tree k f n e) w x)
 none_typed_at k f same n e w other (fixed x) h = other x h.1 (kind_of-admitted k f same n e x h.0)
 none_typed_at k f same n e w other x h = absurd (only_contents k f n e x h.0)
 
 -- so nothing is common with what admits no content of that kind
 pub none_typed : {T : Type 0} (k : Kind) (f : T → Fixed) (same : (x : T) → kind_of (f x) ≡ k) (n : ℕ)
-    (e : ChoiceEnum T) (w : Tree) → ((x : Fixed) → Admits w (fixed x) → ¬ (kind_of x ≡ k)) →
+    (e : ChoiceEnum T) (w : Tree) → AdmitsNone k w →
     ¬ (HasCommon (choice_enum_tree k f n e) w)
 none_typed k f same n e w other h = none_typed_at k f same n e w other h.0 h.1
 

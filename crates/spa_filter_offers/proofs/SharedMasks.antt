@@ -2,9 +2,9 @@
 use Rattle.std.proofs.Common.{List, refl}
 use Rattle.spa_format.specs.Kind.{Kind, Fixed}
 use Rattle.spa_format.specs.Tree.{flags_choice, choice}
-use Rattle.spa_filter_order.specs.Flags.{AreAmong}
-use Rattle.spa_filter_order.specs.Bounds.{IsShared}
-use Rattle.spa_filter_order.proofs.Masks.{among-within, among-itself, among-left}
+use Rattle.spa_filter_elements.specs.Flags.{AreAmong}
+use Rattle.spa_filter_elements.specs.Bounds.{IsShared}
+use Rattle.spa_filter_elements.proofs.Masks.{among-within, among-itself, among-left}
 use Rattle.spa_filter_offers.specs.Offers.{IsSharedMask, MeetsIn}
 use Rattle.spa_filter_offers.proofs.Offering.{only_by}
 

@@ -1,11 +1,11 @@
 -- Which plain values a value admits to filter, and which values are supported: docs/NEGOTIATION.md, "What a
 -- value admits to filter".
 use Rattle.std.specs.Prelude.{⊤, ◌≡◌, ◌↔◌, ℕ, List, ◌∷◌, Contains, Bool, true, false, ◌&&◌}
-use Rattle.spa_format.specs.Kind.{Fixed}
+use Rattle.spa_format.specs.Kind.{Kind, Fixed, kind_of}
 use Rattle.spa_format.specs.Tree.{Shape, none_choice, range_choice, step_choice, enum_choice, flags_choice, Tree, fixed, choice}
-use Rattle.spa_filter_order.specs.Order.{IsWithin, IsOrderedKind}
-use Rattle.spa_filter_order.specs.Flags.{AreAmong, IsFlagKind}
-use Rattle.spa_filter_steps.specs.Steps.{IsInSteps, IsStepKind}
+use Rattle.spa_filter_elements.specs.Order.{IsWithin, IsOrderedKind}
+use Rattle.spa_filter_elements.specs.Flags.{AreAmong, IsFlagKind}
+use Rattle.spa_filter_elements.specs.Steps.{IsInSteps, IsStepKind}
 
 -- the value isn't a choice
 abbrev pub IsPlain : Tree → Type 0
@@ -39,6 +39,10 @@ abbrev pub Admits : Tree → Tree → Type 0
 Admits (choice shape flags kind default values) (fixed x) = AdmitsContent shape default values x
 Admits (choice shape flags kind default values) x = ⊥
 Admits value x = x ≡ value
+
+-- the value admits no element of this kind
+abbrev pub AdmitsNone : Kind → Tree → Type 0
+AdmitsNone kind value = (x : Fixed) → Admits value (fixed x) → ¬ (kind_of x ≡ kind)
 
 -- a plain value, a None choice, an Enum, a Range over an ordered kind, a Step over a kind that has steps, or
 -- Flags over a kind of flags

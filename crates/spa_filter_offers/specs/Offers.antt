@@ -5,10 +5,10 @@ use Rattle.spa_format.specs.Kind.{Fixed}
 use Rattle.spa_format.specs.Tree.{Tree, fixed}
 use Rattle.spa_value.specs.View.{view}
 use Rattle.spa_value.specs.declared.value.Value.{Value}
-use Rattle.spa_filter_order.specs.Order.{IsWithin}
-use Rattle.spa_filter_order.specs.Flags.{AreAmong}
-use Rattle.spa_filter_steps.specs.Narrowing.{IsInStepsOf}
-use Rattle.spa_filter_steps.specs.declared.stepped.Steps.{Steps}
+use Rattle.spa_filter_elements.specs.Order.{IsWithin}
+use Rattle.spa_filter_elements.specs.Flags.{AreAmong}
+use Rattle.spa_filter_elements.specs.Narrowing.{IsInStepsOf}
+use Rattle.spa_filter_elements.specs.declared.stepped.Steps.{Steps}
 use Rattle.spa_filter_offers.specs.Admits.{Admits, plain_of, choice_flags_of}
 use Rattle.spa_filter_offers.specs.Numbering.{HasAll}
 use Rattle.spa_filter_offers.specs.declared.numbers.Numbers.{Numbers}

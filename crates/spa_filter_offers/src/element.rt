@@ -4,11 +4,11 @@ ghost use Rattle.spa_format.specs.Kind.{Fixed, kind_of};
 ghost use Rattle.spa_format.specs.Tree.{fixed};
 ghost use Rattle.spa_fixed_sized.specs.Choices.{choice_enum_tree, choice_tree};
 ghost use Rattle.spa_value.specs.View.{choice_view, view};
-ghost use Rattle.spa_filter_offers.specs.Admits.{Admits};
+ghost use Rattle.spa_filter_offers.specs.Admits.{AdmitsNone};
 ghost use Rattle.spa_filter_offers.specs.Numbering.{numbers_of};
 
 use crate::numbers::Numbers;
-use spa_filter_steps::Stepped;
+use spa_filter_elements::Stepped;
 use spa_utils::{Choice, ChoiceEnum};
 use spa_value::{ChoiceValue, Value};
 
@@ -33,6 +33,6 @@ pub trait Element: Stepped {
 
     /// The choice as one over this type. None: it admits no element of this type.
     fn in_choice(choice: &ChoiceValue) -> Option<&Choice<Self>>
-        ensures { MatchOption result ((x : Fixed) → Admits (choice_view choice.now) (fixed x) → ¬ (kind_of x ≡ Self.kind))
+        ensures { MatchOption result (AdmitsNone Self.kind (choice_view choice.now))
             (λ c. choice_view choice.now ≡ choice_tree Self.kind Self.fixed c.now) };
 }

@@ -6,7 +6,7 @@ ghost use Rattle.spa_filter_offers.specs.Offers.{AreBetween, AreKept, AreOffersS
 use crate::element::Element;
 use crate::kept::kept;
 use crate::offer::{Offer, admits, common_default};
-use spa_filter_steps::{Steps, multiples_of_both, within};
+use spa_filter_elements::{Steps, multiples_of_both, within};
 use spa_utils::ChoiceEnum;
 use spa_value::Value;
 use std::alloc::{AllocError, Global};

@@ -5,7 +5,7 @@ ghost use Rattle.spa_filter_offers.specs.Admits.{is_bounded, is_flags};
 ghost use Rattle.spa_filter_offers.specs.Offers.{IsDefault, IsOfferOf, OfferAdmits, default_of, has_bounds, is_masked};
 
 use crate::element::Element;
-use spa_filter_steps::{Steps, is_in_steps};
+use spa_filter_elements::{Steps, is_in_steps};
 use spa_utils::ChoiceEnum;
 
 /// The elements of one type that a value admits, with its default first.

@@ -5,7 +5,7 @@ use Rattle.spa_format.specs.Tree.{none_choice, range_choice, enum_choice, Tree, 
 use Rattle.spa_value.specs.View.{view}
 use Rattle.spa_value.specs.declared.value.Value.{Value}
 use Rattle.spa_keyed_objects.specs.Keys.{Offered}
-use Rattle.spa_filter_order.specs.Order as order
+use Rattle.spa_filter_elements.specs.Order as order
 use Rattle.spa_filter_offers.specs.Admits as filters
 use Rattle.spa_filter.specs.Refusals as filters_not
 use Rattle.spa_filter.specs.declared.error.FilterError.{FilterError}

@@ -16,7 +16,7 @@ use Rattle.spa_format.proofs.WordLemmas.{IsBytes-take, word_at-take, word_at-dro
 use Rattle.spa_bytes.specs.Opening.{Opens}
 use Rattle.spa_scan.proofs.Words.{word_there, wide_back, wide_of_take}
 use Rattle.spa_filter_offers.specs.Admits.{AdmitsContent}
-use Rattle.spa_filter_order.specs.Order.{IsAtMost}
+use Rattle.spa_filter_elements.specs.Order.{IsAtMost}
 use Rattle.spa_negotiate_objects.specs.Admits.{Admits, IsRangeKind, IsSupported, plain_of}
 use Rattle.spa_negotiate_pods.specs.Offering.{AreAdmitting, IsElementType, IsOffer, IsShared, Offers, value_of}
 use Rattle.spa_negotiate_pods.specs.declared.offer_view.OfferView.{OfferView}

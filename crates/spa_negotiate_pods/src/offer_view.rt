@@ -4,7 +4,7 @@ ghost use Rattle.spa_format.specs.Kind.{Fixed, Kind, body_size, type_number};
 ghost use Rattle.spa_format.specs.Pod.{AreElements, IsBody, IsPod};
 ghost use Rattle.spa_format.specs.Tree.{Tree, choice_type, type_of};
 ghost use Rattle.std.specs.List.{Contains};
-ghost use Rattle.spa_filter_order.specs.Order.{IsAtMost};
+ghost use Rattle.spa_filter_elements.specs.Order.{IsAtMost};
 ghost use Rattle.spa_negotiate_objects.specs.Admits.{IsRangeKind};
 ghost use Rattle.spa_negotiate_pods.specs.Offering.{AreAdmitting, HasValues, IsElementType, IsOffer, IsShared, Offers, value_of};
 

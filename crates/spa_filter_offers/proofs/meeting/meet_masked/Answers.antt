@@ -1,5 +1,5 @@
 use Rattle.std.proofs.Common.{map, sym, ◌∙◌, subst, true≢false}
-use Rattle.spa_filter_order.specs.Flags.{AreAmong}
+use Rattle.spa_filter_elements.specs.Flags.{AreAmong}
 use Rattle.spa_filter_offers.specs.Offers.{MeetsIn}
 use Rattle.spa_filter_offers.proofs.SharedMasks.{none-masked, MeetsIn-masked}
 use Rattle.spa_filter_offers.proofs.meeting.meet_masked.Goals as goal

@@ -2,7 +2,7 @@
 
 use crate::shims::prelude::*;
 use crate::parts::spa_filter_offers::numbers::Numbers;
-use crate::parts::spa_filter_steps::Stepped;
+use crate::parts::spa_filter_elements::Stepped;
 use crate::parts::spa_utils::{Choice, ChoiceEnum};
 use crate::parts::spa_value::{ChoiceValue, Value};
 

@@ -4,7 +4,7 @@ use crate::shims::prelude::*;
 use crate::parts::spa_filter_offers::element::Element;
 use crate::parts::spa_filter_offers::kept::kept;
 use crate::parts::spa_filter_offers::offer::{Offer, admits, common_default};
-use crate::parts::spa_filter_steps::{Steps, multiples_of_both, within};
+use crate::parts::spa_filter_elements::{Steps, multiples_of_both, within};
 use crate::parts::spa_utils::ChoiceEnum;
 use crate::parts::spa_value::Value;
 use crate::shims::memory::AllocError;

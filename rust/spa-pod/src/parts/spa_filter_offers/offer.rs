@@ -2,7 +2,7 @@
 
 use crate::shims::prelude::*;
 use crate::parts::spa_filter_offers::element::Element;
-use crate::parts::spa_filter_steps::{Steps, is_in_steps};
+use crate::parts::spa_filter_elements::{Steps, is_in_steps};
 use crate::parts::spa_utils::ChoiceEnum;
 
 /// The elements of one type that a value admits, with its default first.

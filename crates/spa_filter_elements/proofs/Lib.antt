@@ -1,0 +1,10 @@
+pub mod Ratios
+pub mod Firsts
+pub mod Signed
+pub mod Narrowing
+pub mod Order
+pub mod Joins
+pub mod Rectangles
+pub mod Masks
+pub mod Stepping
+pub mod StepKinds

@@ -1,4 +1,0 @@
-pub mod Order
-pub mod Joins
-pub mod Rectangles
-pub mod Masks

@@ -1,4 +1,0 @@
-pub mod Ratios
-pub mod Firsts
-pub mod Signed
-pub mod Narrowing

@@ -1,3 +1,0 @@
-pub mod Multiples
-pub mod Ratios
-pub mod Steps

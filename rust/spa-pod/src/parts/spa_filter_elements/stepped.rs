@@ -1,0 +1,330 @@
+//! Steps: the multiples of an element from another to a third.
+
+use crate::shims::prelude::*;
+use crate::parts::spa_filter_elements::common_multiples::is_multiple;
+use crate::parts::spa_filter_elements::first::{first_multiple, first_signed};
+use crate::parts::spa_filter_elements::lattice::Lattice;
+use crate::parts::spa_filter_elements::number_steps::{NumberSteps, narrowed};
+use crate::parts::spa_filter_elements::ordered::Ordered;
+use crate::parts::spa_utils::{Fd, Float32, Float64, Fraction, Id, Rectangle};
+
+/// The multiples of a step from one element to another.
+#[derive(Clone, Copy)]
+pub struct Steps<T> {
+    /// The least element that may be one of them.
+    pub low: T,
+    /// The greatest element that may be one of them.
+    pub high: T,
+    /// The step.
+    pub step: T,
+}
+
+/// One of the nine types over which there are choices, with its steps where it has them.
+pub trait Stepped: Lattice {
+    /// Whether the type has steps.
+    fn has_steps() -> bool;
+
+    /// Whether this element is a multiple of the other.
+    fn is_multiple(&self, step: &Self) -> bool;
+
+    /// The multiples of `steps` that are multiples of another step, too.
+    fn narrowed(steps: &Steps<Self>, other: &Self) -> Steps<Self>;
+
+    /// The first of the multiples of `steps`; of rectangles that with the first width and the first height. None: there are none.
+    fn first(steps: &Steps<Self>) -> Option<Self>;
+}
+
+/// Whether an element is one of these multiples.
+pub fn is_in_steps<T: Stepped>(steps: &Steps<T>, x: &T) -> bool {
+    steps.low.is_at_most(x) && x.is_at_most(&steps.high) && x.is_multiple(&steps.step)
+}
+
+/// The multiples of `steps` that are from `low` to `high`.
+pub fn within<T: Stepped>(steps: &Steps<T>, low: &T, high: &T) -> Steps<T> {
+    Steps {
+        low: steps.low.greater(low),
+        high: steps.high.lesser(high),
+        step: steps.step,
+    }
+}
+
+/// The multiples that both lists of steps have.
+pub fn multiples_of_both<T: Stepped>(steps: &Steps<T>, others: &Steps<T>) -> Steps<T> {
+    T::narrowed(&within(steps, &others.low, &others.high), &others.step)
+}
+
+/// The multiples of another step, of a type that has no steps: any answer fits the contract.
+fn narrowed_of_none<T: Ordered>(steps: &Steps<T>, other: &T) -> Steps<T> {
+    let _other = *other;
+    *steps
+}
+
+/// The first multiple, of a type that has no steps: there is none.
+fn first_of_none<T: Ordered>(steps: &Steps<T>) -> Option<T> {
+    let _steps = *steps;
+    None
+}
+
+/// The least number of an Int.
+const INT_LEAST: i64 = -0x8000_0000;
+
+/// The greatest number of an Int.
+const INT_GREATEST: i64 = 0x7fff_ffff;
+
+/// The greatest length of a side of a rectangle.
+const SIDE_GREATEST: i64 = 0xffff_ffff;
+
+/// The widths of rectangles.
+fn widths(steps: &Steps<Rectangle>) -> Steps<u32> {
+    Steps {
+        low: steps.low.width,
+        high: steps.high.width,
+        step: steps.step.width,
+    }
+}
+
+/// The heights of rectangles.
+fn heights(steps: &Steps<Rectangle>) -> Steps<u32> {
+    Steps {
+        low: steps.low.height,
+        high: steps.high.height,
+        step: steps.step.height,
+    }
+}
+
+/// The lengths of a side that are multiples of another step, too.
+fn narrowed_side(steps: &Steps<u32>, other: u32) -> Steps<u32> {
+    let wide = NumberSteps {
+        low: i64::from(steps.low),
+        high: i64::from(steps.high),
+        step: i64::from(steps.step),
+    };
+    let met = narrowed(&wide, i64::from(other), 0, SIDE_GREATEST);
+    Steps {
+        low: met.low as u32,
+        high: met.high as u32,
+        step: met.step as u32,
+    }
+}
+
+/// The first of these lengths of a side. None: there are none.
+fn first_side(steps: &Steps<u32>) -> Option<u32> {
+    let low = u64::from(steps.low);
+    match first_multiple(low, u64::from(steps.high), u64::from(steps.step)) {
+        Some(found) => Some(found as u32),
+        None => None,
+    }
+}
+
+impl Stepped for bool {
+    fn has_steps() -> bool {
+        false
+    }
+
+    fn is_multiple(&self, step: &Self) -> bool {
+        let _step = *step;
+        false
+    }
+
+    fn narrowed(steps: &Steps<Self>, other: &Self) -> Steps<Self> {
+        narrowed_of_none(steps, other)
+    }
+
+    fn first(steps: &Steps<Self>) -> Option<Self> {
+        first_of_none(steps)
+    }
+}
+
+impl Stepped for Id {
+    fn has_steps() -> bool {
+        false
+    }
+
+    fn is_multiple(&self, step: &Self) -> bool {
+        let _step = *step;
+        false
+    }
+
+    fn narrowed(steps: &Steps<Self>, other: &Self) -> Steps<Self> {
+        narrowed_of_none(steps, other)
+    }
+
+    fn first(steps: &Steps<Self>) -> Option<Self> {
+        first_of_none(steps)
+    }
+}
+
+impl Stepped for i32 {
+    fn has_steps() -> bool {
+        true
+    }
+
+    fn is_multiple(&self, step: &Self) -> bool {
+        is_multiple(
+            u64::from(self.unsigned_abs()),
+            u64::from(step.unsigned_abs()),
+        )
+    }
+
+    fn narrowed(steps: &Steps<Self>, other: &Self) -> Steps<Self> {
+        let wide = NumberSteps {
+            low: i64::from(steps.low),
+            high: i64::from(steps.high),
+            step: i64::from(steps.step),
+        };
+        let met = narrowed(&wide, i64::from(*other), INT_LEAST, INT_GREATEST);
+        Steps {
+            low: met.low as i32,
+            high: met.high as i32,
+            step: met.step as i32,
+        }
+    }
+
+    fn first(steps: &Steps<Self>) -> Option<Self> {
+        let step = u64::from(steps.step.unsigned_abs());
+        match first_signed(i64::from(steps.low), i64::from(steps.high), step) {
+            Some(found) => Some(found as i32),
+            None => None,
+        }
+    }
+}
+
+impl Stepped for i64 {
+    fn has_steps() -> bool {
+        true
+    }
+
+    fn is_multiple(&self, step: &Self) -> bool {
+        is_multiple(self.unsigned_abs(), step.unsigned_abs())
+    }
+
+    fn narrowed(steps: &Steps<Self>, other: &Self) -> Steps<Self> {
+        let all = NumberSteps {
+            low: steps.low,
+            high: steps.high,
+            step: steps.step,
+        };
+        let met = narrowed(&all, *other, i64::MIN, i64::MAX);
+        Steps {
+            low: met.low,
+            high: met.high,
+            step: met.step,
+        }
+    }
+
+    fn first(steps: &Steps<Self>) -> Option<Self> {
+        first_signed(steps.low, steps.high, steps.step.unsigned_abs())
+    }
+}
+
+impl Stepped for Float32 {
+    fn has_steps() -> bool {
+        false
+    }
+
+    fn is_multiple(&self, step: &Self) -> bool {
+        let _step = *step;
+        false
+    }
+
+    fn narrowed(steps: &Steps<Self>, other: &Self) -> Steps<Self> {
+        narrowed_of_none(steps, other)
+    }
+
+    fn first(steps: &Steps<Self>) -> Option<Self> {
+        first_of_none(steps)
+    }
+}
+
+impl Stepped for Float64 {
+    fn has_steps() -> bool {
+        false
+    }
+
+    fn is_multiple(&self, step: &Self) -> bool {
+        let _step = *step;
+        false
+    }
+
+    fn narrowed(steps: &Steps<Self>, other: &Self) -> Steps<Self> {
+        narrowed_of_none(steps, other)
+    }
+
+    fn first(steps: &Steps<Self>) -> Option<Self> {
+        first_of_none(steps)
+    }
+}
+
+impl Stepped for Rectangle {
+    fn has_steps() -> bool {
+        true
+    }
+
+    fn is_multiple(&self, step: &Self) -> bool {
+        is_multiple(u64::from(self.width), u64::from(step.width))
+            && is_multiple(u64::from(self.height), u64::from(step.height))
+    }
+
+    fn narrowed(steps: &Steps<Self>, other: &Self) -> Steps<Self> {
+        let width = narrowed_side(&widths(steps), other.width);
+        let height = narrowed_side(&heights(steps), other.height);
+        Steps {
+            low: Rectangle {
+                width: width.low,
+                height: height.low,
+            },
+            high: Rectangle {
+                width: width.high,
+                height: height.high,
+            },
+            step: Rectangle {
+                width: width.step,
+                height: height.step,
+            },
+        }
+    }
+
+    fn first(steps: &Steps<Self>) -> Option<Self> {
+        let width = first_side(&widths(steps))?;
+        let height = first_side(&heights(steps))?;
+        Some(Rectangle { width, height })
+    }
+}
+
+impl Stepped for Fraction {
+    fn has_steps() -> bool {
+        false
+    }
+
+    fn is_multiple(&self, step: &Self) -> bool {
+        let _step = *step;
+        false
+    }
+
+    fn narrowed(steps: &Steps<Self>, other: &Self) -> Steps<Self> {
+        narrowed_of_none(steps, other)
+    }
+
+    fn first(steps: &Steps<Self>) -> Option<Self> {
+        first_of_none(steps)
+    }
+}
+
+impl Stepped for Fd {
+    fn has_steps() -> bool {
+        false
+    }
+
+    fn is_multiple(&self, step: &Self) -> bool {
+        let _step = *step;
+        false
+    }
+
+    fn narrowed(steps: &Steps<Self>, other: &Self) -> Steps<Self> {
+        narrowed_of_none(steps, other)
+    }
+
+    fn first(steps: &Steps<Self>) -> Option<Self> {
+        first_of_none(steps)
+    }
+}

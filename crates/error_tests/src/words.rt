@@ -3,7 +3,7 @@ use crate::compare::{assert_prints, assert_words};
 use spa_device::ReadError;
 use spa_filter::{FilterError, Side};
 use spa_fixed_sized::{DeserializeError, Fault, FaultKind};
-use spa_negotiate_objects::NegotiateError;
+use spa_negotiate::NegotiateError;
 use spa_sink::GenError;
 use spa_text_read::Cause;
 use spa_utils::Errno;

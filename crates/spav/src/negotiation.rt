@@ -1,9 +1,9 @@
 //! Negotiates objects in the caller's memory.
 ghost use Rattle.std.specs.Prelude.{◌≡◌, ◌<◌, List, length, ℕ};
-ghost use Rattle.spa_negotiate_pods.specs.Fronts.{AreFrontsRefused, BeginBoth, MeetIn, MeetTooLarge};
-ghost use Rattle.spa_negotiate_objects.specs.Meeting.{CanMeet};
-ghost use Rattle.spa_negotiate_objects.specs.Refusals.{AreRefused};
-ghost use Rattle.spa_negotiate_objects.specs.declared.error.NegotiateError.TheVariants.{Disjoint, OutOfMemory, TypeMismatch, Unsupported};
+ghost use Rattle.spa_negotiate.specs.Fronts.{AreFrontsRefused, BeginBoth, MeetIn, MeetTooLarge};
+ghost use Rattle.spa_negotiate.specs.Meeting.{CanMeet};
+ghost use Rattle.spa_negotiate.specs.Refusals.{AreRefused};
+ghost use Rattle.spa_negotiate.specs.declared.error.NegotiateError.TheVariants.{Disjoint, OutOfMemory, TypeMismatch, Unsupported};
 ghost use Rattle.spav.specs.Answers.{IsApart, IsDisjoint, IsDone, IsInvalid, IsMet, IsNoMemory, IsNoRoom, IsOther, IsPast, IsUnsupported};
 ghost use Rattle.spav.specs.Lists.{IsWritten};
 ghost use Rattle.spav.specs.Sides.{HasNoObject};
@@ -11,7 +11,7 @@ ghost use Rattle.spav.specs.Sides.{HasNoObject};
 use crate::answers::{DISJOINT, INVALID, NO_MEMORY, OTHER, PAST, UNSUPPORTED};
 use crate::lists::put_front;
 use crate::sides::number_of;
-use spa_negotiate_pods::{NegotiateError, negotiate_pods};
+use spa_negotiate::{NegotiateError, negotiate_pods};
 use std::alloc::Global;
 
 /// Negotiates the objects at the fronts of two inputs, and writes the object in which they meet to the front of `out`: it has a value that both

@@ -67,8 +67,7 @@ pub mod pod {
 /// # }
 /// ```
 pub mod negotiation {
-    pub use crate::parts::spa_negotiate::{NegotiateError, Side, negotiate, negotiate_pods};
-    pub use crate::parts::spa_negotiate_objects::is_supported;
+    pub use crate::parts::spa_negotiate::{NegotiateError, Side, is_supported, negotiate, negotiate_pods};
 }
 
 /// Filtering: the object that admits exactly what two objects both admit. `settle` then sets each choice of it to its default.

@@ -18,8 +18,6 @@ pub mod spa_keyed_objects;
 pub mod spa_lenient;
 pub mod spa_names;
 pub mod spa_negotiate;
-pub mod spa_negotiate_objects;
-pub mod spa_negotiate_pods;
 pub mod spa_object_view;
 pub mod spa_parser;
 pub mod spa_print;

@@ -1,5 +1,0 @@
-pub mod OfferViews
-pub mod Putting
-pub mod Leaves
-pub mod Meetings
-pub mod Fronts

@@ -1,5 +1,0 @@
-use Rattle.spa_negotiate_pods.proofs.Fronts.{no_meeting}
-use Rattle.spa_negotiate_pods.proofs.laws.refused_fronts_cannot_meet.Goals as goal
-
-pub returns : goal.returns
-returns c = no_meeting c.pods_have_one_value.ensures

@@ -173,15 +173,17 @@ appended_same v w pod other old new h k i j e p =
       appended = record { pod = pod; written = i; parts = p };
     }
 
--- and two whose pods aren't
+-- and two that differ
+pub plain_differ : (v w : Tree) → IsPlain v → IsPlain w → v ≢ w → AreSupported v w × ¬ (HasCommon v w)
+plain_differ v w h k n =
+    let t = plain_tree v h in
+    let u = plain_tree w k in
+    ((t.supported, u.supported, (false_and _ _ t.unflagged, false_and _ _ t.unbounded)), none-apart v w t u n)
+
+-- and two whose pods differ
 pub plain_apart : (v w : Tree) (pod other : List ℕ) → IsPlain v → IsPlain w → IsCanonicalPod v pod → IsCanonicalPod w other → pod ≢ other →
     AreSupported v w × ¬ (HasCommon v w)
-plain_apart v w pod other h k i j n =
-    let t = plain_tree v h in
-    let u = plain_tree w k in (
-      (t.supported, u.supported, (false_and _ _ t.unflagged, false_and _ _ t.unbounded)),
-      none-apart v w t u (λ e. n (i.same ∙ ap encoding_of e ∙ sym j.same)),
-    )
+plain_apart v w pod other h k i j n = plain_differ v w h k (λ e. n (i.same ∙ ap encoding_of e ∙ sym j.same))
 
 -- what two choices filter to
 pub appended_over : (v w t u y : Tree) (a b old new : List ℕ) → HasBody v choice_type a → HasBody w choice_type b → type_of t ≡ choice_type → type_of u ≡ choice_type →

@@ -7,7 +7,7 @@ use Rattle.spa_format.specs.Words.{size_limit, word_bytes}
 use Rattle.spa_format.specs.Tree.{Tree, object, Properties, no_properties, property, join_properties}
 use Rattle.spa_format.specs.Writable.{IsTooLarge, SomeValueTooLarge}
 use Rattle.spa_object_view.specs.Fronts.{BeginBoth}
-use Rattle.spa_object_view.specs.Written.{AreBehind, AreWritten, BeginsWritten, open_header}
+use Rattle.spa_object_view.specs.Written.{AreApartAtFirst, AreBehind, AreWritten, BeginsWritten, open_header}
 use Rattle.spa_object_view.proofs.Both.{begin_both}
 use Rattle.spa_object_view.proofs.Joined.{behind_none, behind_on, join_properties-assoc, object_large, object_written}
 use Rattle.spa_object_view.proofs.Sides.{IsNext}
@@ -19,6 +19,7 @@ use Rattle.spa_filter.specs.Refusals.{AreRefused, IsKeyRefusal, IsRefusal}
 use Rattle.spa_filter.specs.declared.error.FilterError.{FilterError}
 use Rattle.spa_filter.specs.declared.error.FilterError.TheVariants.{Missing, Unsupported, Disjoint, OutOfMemory}
 use Rattle.spa_filter.proofs.Agreeing.{Agree-push, AreRefused-properties, IsRefusal-next}
+use Rattle.spa_filter.proofs.CommonPods.{plain_differ, plain_typed}
 use Rattle.spa_filter_pods.specs.Fronts.{FilterIn, FilterTooLarge}
 use Rattle.spa_filter_pods.specs.Written.{AreViewsRefused, IsFilteredBehind, IsPutAs, IsPutBehind, IsPutBy}
 use Rattle.spa_filter_pods.specs.declared.answer.Answer.{Answer}
@@ -89,6 +90,17 @@ module _ {ps qs : Properties} {b left pod rest head : List ℕ} {old : Answer} {
       let refused = subst (λ o. IsKeyRefusal k o (offered_at k qs) e) (sym offered_first) r in
       IsRefusal-next ps qs n.done n.holds.met k n.holds.filters f n.value (join_properties n.behind qs) along n.holds.agree
       fresh e refused
+
+-- the first key of all, under which both sides have values that are apart
+pub apart_refused : (ps qs : Properties) (key : ℕ) → AreApartAtFirst ps qs key → IsRefusal ps qs (Disjoint key)
+apart_refused ps qs key a =
+    let f = a.our.flags in
+    let v = a.our.value in
+    let first = offered_at-joined key f v no_properties a.behind ps a.first refl in
+    let disjoint = plain_differ v a.their.value (plain_typed v a.apart.first) (plain_typed a.their.value a.apart.second) a.apart.differ in
+    let along = ap (λ z. join_properties z qs) a.first in
+    IsRefusal-next ps qs no_properties no_properties key (HoldsAtKeys-none Filters ps qs) f v (join_properties a.behind qs) along
+    (All-nil (AtKey Agree ps qs)) refl (Disjoint key) (refl, rw (first, a.found) disjoint)
 
 -- and one that the second side alone has
 module _ {ps qs : Properties} {b left pod rest head : List ℕ} {old : Answer} {k f bound : ℕ}

@@ -2,12 +2,12 @@
 ghost use Rattle.std.specs.Prelude.{IfErr, IfOk, OnOk};
 ghost use Rattle.spa_filter.specs.Filtering.{CanFilter};
 ghost use Rattle.spa_filter_pods.specs.Fronts.{AreFrontsRefused, FilterIn, IsFrontRefused, OnNoFilter};
-ghost use Rattle.spa_object_view.specs.Fronts.{BeginBoth, BeginsObjectIn, bytes_of};
+ghost use Rattle.spa_object_view.specs.Fronts.{BeginBoth, BeginsObjectOf};
 
 use crate::views::filter_objects;
 use spa_filter::{FilterError, Side};
 use spa_format::laws::pods_have_one_value;
-use spa_object_view::{NoObject, ObjectPod, object_in, object_pod};
+use spa_object_view::{NoObject, ObjectPod, object_pod};
 use std::alloc::Global;
 
 /// Filters the objects at the fronts of two inputs by the rules of `filter`, and answers the encoding of the outcome. The bytes
@@ -29,18 +29,18 @@ pub fn filter_pods(alloc: Global, a: &[u8], b: &[u8]) -> Result<Vec<u8>, FilterE
     pods_have_one_value();
     let first = object_at(alloc, a, Side::First)?;
     let second = object_at(alloc, b, Side::Second)?;
-    let Some(ours) = object_in(first.bytes()) else {
+    let Some(ours) = first.view() else {
         unreachable!()
     };
-    let Some(theirs) = object_in(second.bytes()) else {
+    let Some(theirs) = second.view() else {
         unreachable!()
     };
     filter_objects(alloc, &ours, &theirs)
 }
 
-/// The canonical pod of the object at the front of a side's bytes. Refused as `Unread` or `NotObject` of the side, and as `OutOfMemory`.
+/// The object at the front of a side's bytes. Refused as `Unread` or `NotObject` of the side, and as `OutOfMemory`.
 fn object_at(alloc: Global, bytes: &[u8], side: Side) -> Result<ObjectPod<'_>, FilterError>
-    ensures object { IfOk result (λ pod. BeginsObjectIn bytes.now (bytes_of pod)) }
+    ensures object { IfOk result (BeginsObjectOf bytes.now) }
     ensures cause { IfErr result (IsFrontRefused side bytes.now) }
 {
     match object_pod(alloc, bytes) {

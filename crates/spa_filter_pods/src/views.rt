@@ -14,7 +14,7 @@ ghost use Rattle.spa_keyed_objects.specs.CanonicalPods.{IsCanonicalPod};
 
 use crate::answer::{Answer, begun, ended, put_alone, put_both};
 use spa_filter::FilterError;
-use spa_object_view::{Keyed, ObjectView, PropertyView, first_property, raised};
+use spa_object_view::{Keyed, ObjectView, PropertyView, first_apart, first_property, raised};
 use std::alloc::Global;
 
 /// The encoding of the object to which two objects are filtered.
@@ -33,6 +33,10 @@ pub(crate) fn filter_objects(
 {
     if ours.type_ != theirs.type_ {
         return Err(FilterError::TypeMismatch);
+    }
+    // Before the outcome takes memory: most pairs that are refused are so for their first values.
+    if let Some(key) = first_apart(ours.properties, theirs.properties) {
+        return Err(FilterError::Disjoint(key));
     }
     let first = Keyed::new(alloc, ours.properties)?;
     let second = Keyed::new(alloc, theirs.properties)?;

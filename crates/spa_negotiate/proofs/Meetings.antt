@@ -4,7 +4,7 @@ use Rattle.std.specs.List.{All}
 use Rattle.spa_format.specs.Words.{size_limit, word_bytes}
 use Rattle.spa_format.specs.Tree.{Tree, object, Properties, no_properties, property, join_properties}
 use Rattle.spa_object_view.specs.Fronts.{BeginBoth}
-use Rattle.spa_object_view.specs.Written.{AreBehind, AreWritten, BeginsWritten, open_header}
+use Rattle.spa_object_view.specs.Written.{AreApartAtFirst, AreBehind, AreWritten, BeginsWritten, open_header}
 use Rattle.spa_object_view.proofs.Both.{begin_both}
 use Rattle.spa_object_view.proofs.Joined.{behind_none, behind_on, object_large, object_written}
 use Rattle.spa_object_view.proofs.Sides.{IsNext}
@@ -17,6 +17,7 @@ use Rattle.spa_negotiate.specs.declared.error.NegotiateError.{NegotiateError}
 use Rattle.spa_negotiate.specs.declared.error.NegotiateError.TheVariants.{Unsupported, Disjoint, OutOfMemory}
 use Rattle.spa_negotiate.proofs.Refusing.{AreRefused-properties}
 use Rattle.spa_negotiate.proofs.Settlements.{IsRefusal-first, agree_settled}
+use Rattle.spa_negotiate.proofs.Putting.{plain_differ, plain_typed}
 use Rattle.spa_negotiate.specs.Fronts.{AreViewsRefused, MeetIn, MeetTooLarge}
 use Rattle.spa_negotiate.specs.Written.{IsMetBehind, IsMetPut, IsPut}
 
@@ -52,6 +53,14 @@ module _ {ps qs : Properties} {b left pod rest head old : List ℕ} {k f bound :
   pub first_refused : (e : NegotiateError) → IsKeyRefusal k (Some (offered f n.value)) (offered_at k qs) e → IsRefusal ps qs e
   first_refused e r =
       IsRefusal-first ps qs n.done n.holds.met n.behind k f n.value n.all n.holds.settles fresh e r
+
+-- the first key of all, under which both sides have values that are apart
+pub apart_refused : (ps qs : Properties) (key : ℕ) → AreApartAtFirst ps qs key → IsRefusal ps qs (Disjoint key)
+apart_refused ps qs key a =
+    let v = a.our.value in
+    let disjoint = plain_differ v a.their.value key (plain_typed v a.apart.first) (plain_typed a.their.value a.apart.second) a.apart.differ in
+    IsRefusal-first ps qs no_properties no_properties a.behind key a.our.flags v a.first (HoldsAtKeys-none IsMetAt ps qs) refl (Disjoint key)
+    (refl, rw a.found (disjoint.1, disjoint.2))
 
 -- and one that the second side alone has
 module _ {ps qs : Properties} {b left pod rest head old : List ℕ} {k f bound : ℕ}

@@ -184,14 +184,15 @@ put_same v w key pod other old new h i e first second p =
       put = record { plain = h; pod = pod; written = first; parts = p };
     }
 
--- two plain values that are written in two ways have none in common
+-- two plain values that differ have none in common,
+pub plain_differ : (v w : Tree) (key : ℕ) → IsPlain v → IsPlain w → v ≢ w → IsValueRefusal key v w (Disjoint key)
+plain_differ v w key h i n =
+    (refl, (IsSupported-plain v h, IsSupported-plain w i), λ s. n (sym (plain_admits v s.0 h s.1.0) ∙ plain_admits w s.0 i s.1.1))
+
+-- nor have two that are written in two ways
 pub plain_apart : (v w : Tree) (key : ℕ) (pod other : List ℕ) → IsPlain v → IsPlain w → ¬ (pod ≡ other) → IsCanonicalPod v pod → IsCanonicalPod w other →
     IsValueRefusal key v w (Disjoint key)
-plain_apart v w key pod other h i n first second = (
-  refl,
-  (IsSupported-plain v h, IsSupported-plain w i),
-  λ s. n (first.same ∙ ap encoding_of (sym (plain_admits v s.0 h s.1.0) ∙ plain_admits w s.0 i s.1.1) ∙ sym second.same),
-)
+plain_apart v w key pod other h i n first second = plain_differ v w key h i (λ e. n (first.same ∙ ap encoding_of e ∙ sym second.same))
 
 pub plain_with_members : (v : Tree) → ¬ (IsLeaf v) → IsPlain v
 plain_with_members (choice s f k d vs) h = h tt

@@ -2,7 +2,7 @@
 ghost use Rattle.std.specs.Prelude.{IfErr, IfOk, IsTrue, OnOk};
 ghost use Rattle.spa_format.specs.Fixation.{all_settled};
 ghost use Rattle.spa_format.specs.Walk.{properties_of, property_walk};
-ghost use Rattle.spa_object_view.specs.Fronts.{BeginBoth, BeginsObjectIn, bytes_of};
+ghost use Rattle.spa_object_view.specs.Fronts.{BeginBoth, BeginsObjectOf};
 ghost use Rattle.spa_negotiate.specs.Meeting.{CanMeet};
 ghost use Rattle.spa_negotiate.specs.Fronts.{AreFrontsRefused, IsFrontRefused, MeetIn, OnNoMeeting};
 
@@ -10,7 +10,7 @@ use crate::error::NegotiateError;
 use crate::laws::{meetings_need_no_fixation, refused_fronts_cannot_meet};
 use crate::views::meet_objects;
 use spa_keyed_objects::Side;
-use spa_object_view::{NoObject, ObjectPod, object_in, object_pod};
+use spa_object_view::{NoObject, ObjectPod, object_pod};
 use std::alloc::Global;
 
 /// Negotiates the objects at the fronts of two inputs by the rules of `negotiate`, and answers the encoding of the object in
@@ -36,18 +36,18 @@ pub fn negotiate_pods(alloc: Global, a: &[u8], b: &[u8]) -> Result<Vec<u8>, Nego
     meetings_need_no_fixation();
     let first = object_at(alloc, a, Side::First)?;
     let second = object_at(alloc, b, Side::Second)?;
-    let Some(ours) = object_in(first.bytes()) else {
+    let Some(ours) = first.view() else {
         unreachable!()
     };
-    let Some(theirs) = object_in(second.bytes()) else {
+    let Some(theirs) = second.view() else {
         unreachable!()
     };
     meet_objects(alloc, &ours, &theirs)
 }
 
-/// The canonical pod of the object at the front of a side's bytes. Refused as `Unread` or `NotObject` of the side, and as `OutOfMemory`.
+/// The object at the front of a side's bytes. Refused as `Unread` or `NotObject` of the side, and as `OutOfMemory`.
 fn object_at(alloc: Global, bytes: &[u8], side: Side) -> Result<ObjectPod<'_>, NegotiateError>
-    ensures object { IfOk result (λ pod. BeginsObjectIn bytes.now (bytes_of pod)) }
+    ensures object { IfOk result (BeginsObjectOf bytes.now) }
     ensures cause { IfErr result (IsFrontRefused side bytes.now) }
 {
     match object_pod(alloc, bytes) {

@@ -16,7 +16,7 @@ ghost use Rattle.spa_negotiate.specs.Written.{IsMetBehind, IsMetPut};
 use crate::error::NegotiateError;
 use crate::settling::{put_common, put_default};
 use spa_object_view::{
-    Keyed, ObjectView, PropertyView, finish, first_property, put_header, raised,
+    Keyed, ObjectView, PropertyView, finish, first_apart, first_property, put_header, raised,
 };
 use std::alloc::Global;
 
@@ -39,6 +39,10 @@ pub(crate) fn meet_objects(
 {
     if ours.type_ != theirs.type_ {
         return Err(NegotiateError::TypeMismatch);
+    }
+    // Before the answer takes memory: most pairs that are refused are so for their first values.
+    if let Some(key) = first_apart(ours.properties, theirs.properties) {
+        return Err(NegotiateError::Disjoint(key));
     }
     let first = Keyed::new(alloc, ours.properties)?;
     let second = Keyed::new(alloc, theirs.properties)?;

@@ -11,7 +11,7 @@ use Rattle.spa_format.proofs.Back.{body_fits, type_fits, whole_frame}
 use Rattle.spa_format.proofs.Fronts.{front_of_whole}
 use Rattle.spa_format.proofs.Origin.{writable}
 use Rattle.spa_format.proofs.WordLemmas.{IsBytes-drop, IsBytes-take, length-word_bytes}
-use Rattle.spa_object_view.specs.Written.{AreWritten, HasFirst, IsFound}
+use Rattle.spa_object_view.specs.Written.{AreApart, AreApartAtFirst, AreWritten, HasFirst, IsFound}
 use Rattle.spa_object_view.specs.KeyOrder.{length_behind}
 use Rattle.spa_keyed_objects.specs.Keys.{Offered, offered_at, has_key}
 use Rattle.spa_keyed_objects.specs.CanonicalPods.{IsCanonicalPod}
@@ -52,6 +52,36 @@ listed (property key flags v ps) b h m s =
       record { header = m.0; key = m.1; flags = m.2; there = f.0; written = record { its_pod = pod; same = sym g.1 } },
       listed ps (rest_of behind) (IsBytes-drop (extent (word_at behind 0)) behind bytes) (subst (AreProperties ps) f.2 m.7) (sym g.2),
     )
+
+-- the first of properties that begin with this one
+pub record IsFirstOf (ps : Properties) (key flags : ℕ) (pod : List ℕ) : Type 0 where
+  pub value : Tree
+  pub behind : Properties
+  pub all : ps ≡ property key flags value behind
+  pub written : IsCanonicalPod value pod
+
+pub first_of : (ps : Properties) (b pod rest : List ℕ) (key flags : ℕ) → IsBytes b → AreWritten ps b → HasFirst b key flags pod rest → IsFirstOf ps key flags pod
+first_of no_properties b pod rest key flags h w f = absurd (let z = ap length w.properties in let l = f.header in omega arith)
+first_of (property j g v qs) b pod rest key flags h w f =
+    let m = (listed (property j g v qs) b h w.properties w.same).0 in
+    record {
+      value = v;
+      behind = qs;
+      all = ap (λ n. property n g v qs) (m.key ∙ sym f.its_key) ∙ ap (λ n. property key n v qs) (m.flags ∙ sym f.its_flags);
+      written = subst (IsCanonicalPod v) (sym f.its_pod) m.written;
+    }
+
+-- two sides are apart under the first key
+pub apart_at_first : (ps qs : Properties) (key flags other_flags : ℕ) (pod other : List ℕ) → IsFirstOf ps key flags pod → IsFound (offered_at key qs) other_flags other →
+    ((v w : Tree) → IsCanonicalPod v pod → IsCanonicalPod w other → AreApart v w) → AreApartAtFirst ps qs key
+apart_at_first ps qs key flags other_flags pod other f g a = record {
+  our = record { flags = flags; value = f.value };
+  their = record { flags = other_flags; value = g.value };
+  behind = f.behind;
+  first = f.all;
+  found = g.is_found;
+  apart = a f.value g.value f.written g.written;
+}
 
 test-true : (m n : ℕ) → (m == n) ≡ true → m ≡ n
 test-true m n = (unsigned_Decides m n).0

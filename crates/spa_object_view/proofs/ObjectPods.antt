@@ -24,11 +24,13 @@ use Rattle.spa_rewrite.specs.declared.look.Rejected.TheVariants as rejected
 use Rattle.spa_rewrite.proofs.Accepted.{at_place, fault_refuses}
 use Rattle.std.specs.Borrow.{Bor}
 use Rattle.std.specs.Prelude.{Bool, true, false, IfOk, Result, Ok, Err}
-use Rattle.spa_object_view.specs.Fronts.{BeginsObject, BeginsObjectIn, BeginsOther, IsNoObject, IsObject, IsUnread}
+use Rattle.spa_object_view.specs.Fronts.{BeginsObject, BeginsObjectIn, BeginsObjectOf, BeginsOther, BeginsView, IsNoObject, IsObject, IsObjectBody, IsUnread}
+use Rattle.spa_object_view.specs.declared.front.ObjectPod.{ObjectPod}
+use Rattle.spa_object_view.specs.declared.front.ObjectPod.TheVariants.{Borrowed, Rewritten}
+use Rattle.spa_object_view.specs.declared.object_view.ObjectView.{ObjectView}
 use Rattle.spa_object_view.specs.declared.front.NoObject.{NoObject}
 use Rattle.spa_object_view.specs.declared.front.NoObject.TheVariants.{Unread, Other, OutOfMemory}
-use Rattle.spa_object_view.specs.Written.{BeginsWritten}
-use Rattle.spa_object_view.proofs.Opening.{begins_written}
+use Rattle.spa_object_view.proofs.Opening.{begins_view}
 
 -- the type of the value with which an input begins
 pub begun_type : (input : List ℕ) (v : Tree) → Begins input v → type_of v ≡ word_at input 4
@@ -39,23 +41,9 @@ no_object (object t i ps) n h = n refl
 no_object _ n h = h
 
 -- an input with the pod of an object begins with one
-pub begins_object : (input pod : List ℕ) → BeginsObjectIn input pod → BeginsObject input
-begins_object input pod b = record { value = object b.type b.id b.values; begins = b.begins; is_object = tt }
-
--- a canonical front
-pub lying_object : (input rest pod : List ℕ) → (c : BeginsCanonical input rest) → word_at input 4 ≡ object_type → pod ≡ front_of input → BeginsObjectIn input pod
-lying_object input rest pod c t e =
-    let i = object_only c.value (begun_type input c.value c.begins.begins ∙ t) in
-    record {
-      type = i.0;
-      id = i.1;
-      values = i.2;
-      begins = subst (Begins input) i.3 c.begins.begins;
-      written = record {
-        its_pod = subst (λ b. IsPod b (object i.0 i.1 i.2)) (sym e) (subst (IsPod (front_of input)) i.3 c.begins.begins.pod);
-        same = e ∙ c.same ∙ ap encoding_of i.3;
-      };
-    }
+pub begins_object : (input : List ℕ) (pod : ObjectPod) → BeginsObjectOf input pod → BeginsObject input
+begins_object input (Borrowed view) b = record { value = object view.type_ view.id b.values; begins = b.begins; is_object = tt }
+begins_object input (Rewritten bytes) b = record { value = object b.type b.id b.values; begins = b.begins; is_object = tt }
 
 -- the rewriting of a front
 pub rewritten_object : (input out : List ℕ) → (r : IsRewriting input out) → word_at input 4 ≡ object_type → BeginsObjectIn input out
@@ -69,40 +57,24 @@ rewritten_object input out r t =
       written = record { its_pod = subst (IsPod out) i.3 r.again; same = r.written ∙ ap encoding_of i.3 };
     }
 
--- what stands before the rest
-pub front_before : (input rest : List ℕ) → HasFront input → rest ≡ rest_of input → take (length input - length rest) input ≡ front_of input
-front_before input rest h e =
-    let n = extent (word_at input 0) in
-    let whole = h.whole in
-    let behind : length rest ≡ length input - n = ap length e ∙ length-drop n input in
-    let same : length input - length rest ≡ n = omega arith in
-    ap (λ m. take m input) same
-
-front_twice : (input : List ℕ) → front_of (front_of input) ≡ front_of input
-front_twice input =
-    ap (λ n. take (extent n) (front_of input)) (size_of_front input) ∙ take-take (extent (word_at input 0)) (extent (word_at input 0)) input (omega arith)
-
 -- a pod is at its own front
 pub pod_there : (pod : List ℕ) (v : Tree) → IsPod pod v → HasFront pod
 pod_there pod v p = let w = p.whole in record { header = omega arith; whole = omega arith }
 
--- an object of its pod, opened
-pub object_inside : (input pod body behind properties : List ℕ) (type : ℕ) → IsBytes pod → Opens pod type body behind → properties ≡ drop 8 body →
-    BeginsObjectIn input pod → BeginsWritten input (word_at body 0) (word_at body 4) properties
-object_inside input pod body behind properties type h o d b =
+-- the view of an object's pod, opened
+pub view_inside : (input pod body behind : List ℕ) (type : ℕ) (view : ObjectView) → IsBytes pod → Opens pod type body behind → IsObjectBody body view →
+    BeginsObjectIn input pod → BeginsView input view
+view_inside input pod body behind type view h o i b =
     let v = object b.type b.id b.values in
     let p = b.written.its_pod in
     let whole : front_of pod ≡ pod = take_all (extent (word_at pod 0)) pod (omega (arith, p.whole)) in
     let begins : Begins pod v = record { there = pod_there pod v p; pod = subst (λ c. IsPod c v) (sym whole) p } in
     let canonical : BeginsCanonical pod (rest_of pod) =
     record { value = v; begins = record { begins = begins; follows = refl }; same = whole ∙ b.written.same } in
-    let m = begins_written pod (rest_of pod) body behind properties type h canonical o (o.its_type ∙ p.its_type) d in
-    let same = one_value (front_of pod) v (object (word_at body 0) (word_at body 4) m.values) begins.pod m.begins.pod in
+    let opened = subst (λ n. Opens pod n body behind) (o.its_type ∙ p.its_type) o in
+    let m = begins_view pod (rest_of pod) body behind view h canonical opened i in
+    let same = one_value (front_of pod) v (object view.type_ view.id m.values) begins.pod m.begins.pod in
     record { values = m.values; begins = subst (Begins input) same b.begins; written = m.written }
-
--- the body of an object's pod has its type and id
-pub object_long : (input pod : List ℕ) → BeginsObjectIn input pod → 8 ≤ length (body_of pod)
-object_long input pod b = b.written.its_pod.content.0
 
 -- the rewriting of a front that is no object's
 pub other_rewritten : (input out : List ℕ) → word_at input 4 ≢ object_type → (r : IsRewriting input out) → BeginsOther input

@@ -1,5 +1,5 @@
 -- An object at the front of an input.
-use Rattle.std.proofs.Common.{◌≡◌, ℕ, List, ◌++◌, length, drop, sym, ap, ◌∙◌, subst, arith, append_assoc, length-append}
+use Rattle.std.proofs.Common.{◌≡◌, ℕ, List, ◌++◌, length, drop, refl, sym, ap, ◌∙◌, subst, arith, append_assoc, length-append}
 use Rattle.std.proofs.lemmas.List.{drop_at}
 use Rattle.spa_format.specs.Words.{word_at, word_bytes}
 use Rattle.spa_format.specs.Tree.{object, object_type}
@@ -10,10 +10,14 @@ use Rattle.spa_format.specs.Typed.{IsBytes}
 use Rattle.spa_format.proofs.Shapes.{object_only}
 use Rattle.spa_format.proofs.WordLemmas.{length-word_bytes}
 use Rattle.spa_bytes.specs.Opening.{Opens}
-use Rattle.spa_scan.specs.Canonical.{BeginsCanonical}
+use Rattle.spa_bodies.proofs.Steps.{pod_read}
+use Rattle.spa_scan.specs.Canonical.{AreCanonicalProperties, BeginsCanonical}
 use Rattle.spa_scan.proofs.Made.{made_body}
+use Rattle.spa_object_view.specs.declared.object_view.ObjectView.{ObjectView}
+use Rattle.spa_object_view.specs.Fronts.{BeginsView, IsObjectBody}
 use Rattle.spa_object_view.specs.Written.{BeginsWritten}
 
+-- a canonical front, opened
 pub begins_written : (input rest body behind properties : List ℕ) (type : ℕ) → IsBytes input →
     BeginsCanonical input rest → Opens input type body behind → type ≡ object_type →
     properties ≡ drop 8 body → BeginsWritten input (word_at body 0) (word_at body 4) properties
@@ -39,3 +43,19 @@ begins_written input rest body behind properties type h k o t d =
         same = d ∙ same;
       };
     }
+
+-- an object whose properties are canonical
+pub begins_leaves : (input body rest : List ℕ) (view : ObjectView) → Opens input object_type body rest → IsObjectBody body view →
+    AreCanonicalProperties view.properties.now → BeginsView input view
+begins_leaves input body rest view o i c =
+    let properties = subst (λ l. AreProperties c.values l) i.properties c.properties in
+    let read = pod_read input body rest object_type (object view.type_ view.id c.values) o refl (i.header, i.type, i.id, properties) in
+    record { values = c.values; begins = read.begins; written = record { properties = c.properties; same = c.same } }
+
+-- the same by the view's parts
+pub begins_view : (input rest body behind : List ℕ) (view : ObjectView) → IsBytes input → BeginsCanonical input rest →
+    Opens input object_type body behind → IsObjectBody body view → BeginsView input view
+begins_view input rest body behind view h k o i =
+    let w = begins_written input rest body behind view.properties.now object_type h k o refl i.properties in
+    subst (λ t. BeginsWritten input t view.id view.properties.now) (sym i.type)
+    (subst (λ n. BeginsWritten input (word_at body 0) n view.properties.now) (sym i.id) w)

@@ -1,6 +1,6 @@
 -- What a refusal that is passed on says.
 use Rattle.std.proofs.Common.{◌≡◌}
-use Rattle.std.specs.Prelude.{IfErr, IfOk, IsErrAnd, OnOk, Result, Ok, Err}
+use Rattle.std.specs.Prelude.{IfErr, IfOk, IfSome, IsErrAnd, OnOk, Option, Some, None, Result, Ok, Err}
 use Rattle.std.proofs.lemmas.Result.{err_from_is_err_and}
 
 -- by a `?`
@@ -24,3 +24,7 @@ if_ok (Err e) f h = tt
 pub if_err : {T E : Type 0} {P Q : E → Type 0} (r : Result T E) → ((e : E) → P e → Q e) → IfErr r P → IfErr r Q
 if_err (Ok v) f h = tt
 if_err (Err e) f h = f e h
+
+pub if_some : {T : Type 0} {P Q : T → Type 0} (r : Option T) → ((v : T) → P v → Q v) → IfSome r P → IfSome r Q
+if_some (Some v) f h = f v h
+if_some None f h = tt

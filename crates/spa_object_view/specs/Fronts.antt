@@ -1,5 +1,6 @@
 -- Objects at the fronts of inputs, and their canonical pods: docs/NEGOTIATION.md, "From bytes to bytes".
-use Rattle.std.specs.Prelude.{⊤, ℕ, List}
+use Rattle.std.specs.Prelude.{⊤, ◌≡◌, ◌≤◌, ℕ, List, drop, length}
+use Rattle.spa_format.specs.Words.{header_size, word_at}
 use Rattle.spa_format.specs.Tree.{Tree, object, Properties}
 use Rattle.spa_format.specs.Front.{Begins, IsRefused}
 use Rattle.spa_bodies.specs.Reading.{MayLackMemory}
@@ -23,10 +24,17 @@ pub record BeginsObjectIn (input pod : List ℕ) : Type 0 where
 abbrev pub BeginsView : List ℕ → ObjectView → Type 0
 BeginsView input view = BeginsWritten input view.type_ view.id view.properties.now
 
--- the bytes of the pod
-abbrev pub bytes_of : ObjectPod → List ℕ
-bytes_of (Borrowed pod) = pod.now
-bytes_of (Rewritten bytes) = bytes.items
+-- the front of the input is a pod of this object
+abbrev pub BeginsObjectOf : List ℕ → ObjectPod → Type 0
+BeginsObjectOf input (Borrowed view) = BeginsView input view
+BeginsObjectOf input (Rewritten bytes) = BeginsObjectIn input bytes.items
+
+-- the view is of the object with this body, type and id and then the properties
+pub record IsObjectBody (body : List ℕ) (view : ObjectView) : Type 0 where
+  pub header : header_size ≤ length body
+  pub type : view.type_ ≡ word_at body 0
+  pub id : view.id ≡ word_at body 4
+  pub properties : view.properties.now ≡ drop header_size body
 
 -- the value is an object
 abbrev pub IsObject : Tree → Type 0

@@ -1,12 +1,12 @@
 -- Objects and their properties in canonical bytes.
-use Rattle.std.specs.Prelude.{◌≡◌, ℕ, ◌≤◌, List, ◌++◌, drop, length, Option, Some}
+use Rattle.std.specs.Prelude.{◌≡◌, ◌≢◌, ℕ, ◌≤◌, List, ◌++◌, drop, length, Option, Some}
 use Rattle.spa_format.specs.Words.{word_at, word_bytes, header_size}
-use Rattle.spa_format.specs.Tree.{Tree, object, Properties, property}
+use Rattle.spa_format.specs.Tree.{Tree, object, Properties, property, type_of, choice_type}
 use Rattle.spa_format.specs.Pod.{AreProperties}
 use Rattle.spa_format.specs.Encoding.{property_encodings}
 use Rattle.spa_format.specs.Front.{Begins, HasFront, front_of, rest_of}
 use Rattle.spa_keyed_objects.specs.CanonicalPods.{IsCanonicalPod}
-use Rattle.spa_keyed_objects.specs.Keys.{Offered, offered}
+use Rattle.spa_keyed_objects.specs.Keys.{Offered, offered, offered_at}
 
 -- the bytes are these properties, and canonical
 pub record AreWritten (ps : Properties) (b : List ℕ) : Type 0 where
@@ -33,6 +33,21 @@ pub record IsFound (found : Option Offered) (flags : ℕ) (pod : List ℕ) : Typ
   pub value : Tree
   pub is_found : found ≡ Some (offered flags value)
   pub written : IsCanonicalPod value pod
+
+-- two values that aren't choices, and differ
+pub record AreApart (v w : Tree) : Type 0 where
+  pub first : type_of v ≢ choice_type
+  pub second : type_of w ≢ choice_type
+  pub differ : v ≢ w
+
+-- the first of our properties has this key, under which both sides have values that are apart
+pub record AreApartAtFirst (ours theirs : Properties) (key : ℕ) : Type 0 where
+  pub our : Offered
+  pub their : Offered
+  pub behind : Properties
+  pub first : ours ≡ property key our.flags our.value behind
+  pub found : offered_at key theirs ≡ Some their
+  pub apart : AreApart our.value their.value
 
 -- the first bytes of an open object: its header with a size word of 0, its type and its id
 abbrev pub open_header : ℕ → ℕ → List ℕ

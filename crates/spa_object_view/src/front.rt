@@ -1,36 +1,46 @@
-//! The canonical pods of objects at the fronts of inputs.
-ghost use Rattle.std.specs.Prelude.{◌≡◌, ◌≢◌, ◌<◌, IfErr, IfNone, IfOk, IfSome, List, ℕ};
+//! The objects at the fronts of inputs, in canonical bytes.
+ghost use Rattle.std.specs.Prelude.{◌≡◌, ◌≢◌, ◌<◌, IfErr, IfNone, IfOk, IfSome, List, length, true, ℕ};
 ghost use Rattle.spa_format.specs.Tree.{object_type};
-ghost use Rattle.spa_format.specs.Words.{size_limit, word_at};
-ghost use Rattle.spa_object_view.specs.Fronts.{BeginsObjectIn, BeginsView, IsNoObject, IsUnread, bytes_of};
+ghost use Rattle.spa_format.specs.Words.{header_size, size_limit, word_at};
+ghost use Rattle.spa_bytes.specs.Opening.{Opens};
+ghost use Rattle.spa_object_view.specs.Fronts.{BeginsObjectIn, BeginsObjectOf, BeginsView, IsNoObject, IsObjectBody, IsUnread};
 ghost use Rattle.spa_bodies.specs.Reading.{TakesMemory};
+ghost use Rattle.spa_scan.specs.Canonical.{AreCanonicalProperties};
 ghost use Rattle.spa_rewrite.specs.Look.{IsTooDeep};
 ghost use Rattle.spa_rewrite.specs.Rewriting.{IsRewriting};
 
 use crate::object_view::ObjectView;
-use spa_bytes::{HEADER_LEN, SECOND_WORD, open, u32_at};
+use spa_bytes::{Front, HEADER_LEN, SECOND_WORD, open, u32_at};
 use spa_fixed_sized::DeserializeError;
 use spa_rewrite::{Rejected, canonical_front, look_at_pod, rewrite};
+use spa_scan::leaf_properties;
 use spa_utils::SpaTypes;
 use std::alloc::Global;
 
-/// The canonical pod of the object at the front of an input.
+/// The object at the front of an input, in canonical bytes.
 #[derive(Drop)]
 pub enum ObjectPod<'a> {
-    /// The front itself, which is canonical.
-    Borrowed(&'a [u8]),
+    /// A view of the front, which is canonical.
+    Borrowed(ObjectView<'a>),
     /// The rewriting of the front, which isn't canonical or nests too deep to be looked into.
     Rewritten(Vec<u8>),
 }
 
 impl ObjectPod<'_> {
-    /// The bytes of the pod.
-    pub fn bytes(&self) -> &[u8]
-        ensures { result.now ≡ bytes_of self.now }
+    /// The view of the object. None: there is no object in the bytes.
+    #[inline(always)]
+    pub fn view(&self) -> Option<ObjectView<'_>>
+        ensures object { IfSome result (λ object. (input : List ℕ) → BeginsObjectOf input self.now → BeginsView input object) }
+        ensures words { IfSome result (λ object. (object.type_ < size_limit) × (object.id < size_limit)) }
+        ensures none { IfNone result ((input : List ℕ) → ¬ (BeginsObjectOf input self.now)) }
     {
         match self {
-            ObjectPod::Borrowed(pod) => pod,
-            ObjectPod::Rewritten(bytes) => bytes.as_slice(),
+            ObjectPod::Borrowed(object) => Some(ObjectView {
+                type_: object.type_,
+                id: object.id,
+                properties: object.properties,
+            }),
+            ObjectPod::Rewritten(bytes) => object_in(bytes.as_slice()),
         }
     }
 }
@@ -46,10 +56,9 @@ pub enum NoObject {
     OutOfMemory,
 }
 
-/// The canonical pod of the object at the front of the input. Memory is asked for only where the front isn't canonical, or structs and objects
-/// nest more than 1000 deep.
+/// The object at the front of the input. Memory is asked for only where the front isn't canonical, or structs and objects nest more than 1000 deep.
 pub fn object_pod(alloc: Global, input: &[u8]) -> Result<ObjectPod<'_>, NoObject>
-    ensures object { IfOk result (λ pod. BeginsObjectIn input.now (bytes_of pod)) }
+    ensures object { IfOk result (BeginsObjectOf input.now) }
     ensures cause { IfErr result (IsNoObject input.now) }
 {
     let Some(front) = open(input) else {
@@ -58,12 +67,35 @@ pub fn object_pod(alloc: Global, input: &[u8]) -> Result<ObjectPod<'_>, NoObject
     if front.type_ != SpaTypes::Object.0 {
         return Err(no_object(alloc, input));
     }
-    if let Some(rest) = canonical_front(input) {
-        let (pod, _) = input.split_at(input.len() - rest.len());
-        return Ok(ObjectPod::Borrowed(pod));
+    if let Some(object) = canonical_object(input, front) {
+        return Ok(ObjectPod::Borrowed(object));
     }
     let bytes = rewritten(alloc, input)?;
     Ok(ObjectPod::Rewritten(bytes))
+}
+
+/// The view of the object at the front of the input, which is open, where a look finds it to be canonical. Most objects hold no structs and no other
+/// objects: they are looked at first, by one loop.
+#[inline(always)]
+fn canonical_object<'a>(input: &[u8], front: Front<'a>) -> Option<ObjectView<'a>>
+    requires { Opens input.now object_type front.body.now front.rest.now }
+    ensures { IfSome result (BeginsView input.now) }
+{
+    let object = object_of(front.body)?;
+    if has_leaves_alone(object.properties) {
+        return Some(object);
+    }
+    let _rest = canonical_front(input)?;
+    Some(object)
+}
+
+/// Whether properties are canonical, and none holds a struct or an object.
+#[inline(always)]
+fn has_leaves_alone(properties: &[u8]) -> bool
+    ensures { result ≡ true → AreCanonicalProperties properties.now }
+{
+    let (_, rest) = leaf_properties(properties);
+    rest.is_empty()
 }
 
 /// The rewriting of a front of a type whose values take memory.
@@ -107,23 +139,32 @@ fn deep_no_object(alloc: Global, input: &[u8]) -> NoObject
     why
 }
 
-/// The object of a pod.
-pub fn object_in(pod: &[u8]) -> Option<ObjectView<'_>>
+/// The view of the object of a pod.
+#[inline(never)]
+fn object_in(pod: &[u8]) -> Option<ObjectView<'_>>
     ensures object { IfSome result (λ object. (input : List ℕ) → BeginsObjectIn input pod.now
         → BeginsView input object) }
     ensures words { IfSome result (λ object. (object.type_ < size_limit) × (object.id < size_limit)) }
     ensures none { IfNone result ((input : List ℕ) → ¬ (BeginsObjectIn input pod.now)) }
 {
-    let Some(front) = open(pod) else {
-        return None;
-    };
-    if front.body.len() < HEADER_LEN {
+    let front = open(pod)?;
+    object_of(front.body)
+}
+
+/// The view of the object with this body. None: it has no type and id.
+#[inline(always)]
+fn object_of(body: &[u8]) -> Option<ObjectView<'_>>
+    ensures parts { IfSome result (IsObjectBody body.now) }
+    ensures words { IfSome result (λ object. (object.type_ < size_limit) × (object.id < size_limit)) }
+    ensures none { IfNone result (length body.now < header_size) }
+{
+    if body.len() < HEADER_LEN {
         return None;
     }
-    let (_, properties) = front.body.split_at(HEADER_LEN);
+    let (_, properties) = body.split_at(HEADER_LEN);
     Some(ObjectView {
-        type_: u32_at(front.body, 0),
-        id: u32_at(front.body, SECOND_WORD),
+        type_: u32_at(body, 0),
+        id: u32_at(body, SECOND_WORD),
         properties,
     })
 }

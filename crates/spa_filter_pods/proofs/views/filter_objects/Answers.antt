@@ -1,8 +1,8 @@
 use Rattle.std.proofs.Common.{refl, sym, subst}
-use Rattle.spa_filter.specs.declared.error.FilterError.TheVariants.{OutOfMemory}
+use Rattle.spa_filter.specs.declared.error.FilterError.TheVariants.{Disjoint, OutOfMemory}
 use Rattle.spa_object_view.specs.Written.{BeginsWritten}
 use Rattle.spa_filter_pods.specs.Written.{AreViewsRefused}
-use Rattle.spa_filter_pods.proofs.Filterings.{are_filtered, are_large, lack_memory, refused_views}
+use Rattle.spa_filter_pods.proofs.Filterings.{apart_refused, are_filtered, are_large, lack_memory, refused_views}
 use Rattle.spa_object_view.proofs.Both.{begin_both}
 use Rattle.spa_object_view.proofs.Passing.{if_err, if_ok, on_if, passed_on}
 use Rattle.spa_filter_pods.proofs.views.filter_objects.Goals as goal
@@ -17,6 +17,10 @@ returns-in_err-first-clause-cause c =
 pub returns-in_err-second-clause-cause : goal.returns-in_err-second-clause-cause
 returns-in_err-second-clause-cause c =
     passed_on _ OutOfMemory _ c.from_residual-in_err-second.ensures.1 (λ a b h k. lack_memory a b _ _ _ _ _ _ OutOfMemory h k c.if-ours-theirs.false refl)
+
+pub returns-in-Some-clause-cause : goal.returns-in-Some-clause-cause
+returns-in-Some-clause-cause c = λ a b h k.
+    refused_views a b _ _ _ _ _ _ (Disjoint c.in-Some.key) h k c.if-ours-theirs.false (λ ps qs w v. apart_refused ps qs c.in-Some.key (c.in-Some.ensures ps qs w v))
 
 pub returns-in_err-out-clause-cause : goal.returns-in_err-out-clause-cause
 returns-in_err-out-clause-cause c =

@@ -1,5 +1,3 @@
-use Rattle.std.proofs.Common.{sym, subst}
-use Rattle.spa_object_view.specs.Fronts.{BeginsObjectIn}
 use Rattle.spa_object_view.proofs.ObjectPods.{begins_object}
 use Rattle.spa_object_view.proofs.Passing.{if_err, if_ok, on_ok, passed_on}
 use Rattle.spa_negotiate.proofs.Fronts.{first_refused, second_refused, views_refused}
@@ -27,34 +25,40 @@ returns-in_err-second-clause-cause c =
 
 pub returns-clause-accepted : goal.returns-clause-accepted
 returns-clause-accepted c =
-    let first = c.in-Some.ensures.object c.args.a.now (subst (BeginsObjectIn c.args.a.now) (sym c.bytes.ensures) c.in_ok-first.ensures.object) in
-    let second = c.in-Some-object_in.ensures.object c.args.b.now (subst (BeginsObjectIn c.args.b.now) (sym c.bytes-2.ensures) c.in_ok-second.ensures.object) in
+    let first = c.in-Some.ensures.object c.args.a.now c.in_ok-first.ensures.object in
+    let second = c.in-Some-view.ensures.object c.args.b.now c.in_ok-second.ensures.object in
     on_ok c.meet_objects.result (λ f. f _ _ first second) c.meet_objects.ensures.accepted
 
 pub returns-clause-refused : goal.returns-clause-refused
 returns-clause-refused c =
-    let first = c.in-Some.ensures.object c.args.a.now (subst (BeginsObjectIn c.args.a.now) (sym c.bytes.ensures) c.in_ok-first.ensures.object) in
-    let second = c.in-Some-object_in.ensures.object c.args.b.now (subst (BeginsObjectIn c.args.b.now) (sym c.bytes-2.ensures) c.in_ok-second.ensures.object) in
+    let first = c.in-Some.ensures.object c.args.a.now c.in_ok-first.ensures.object in
+    let second = c.in-Some-view.ensures.object c.args.b.now c.in_ok-second.ensures.object in
     if_err c.meet_objects.result
     (λ e f. c.refused_fronts_cannot_meet.ensures c.args.a.now c.args.b.now e (views_refused c.args.a.now c.args.b.now e (f _ _ first second)))
     c.meet_objects.ensures.cause
 
 pub returns-clause-value : goal.returns-clause-value
 returns-clause-value c =
-    let first = c.in-Some.ensures.object c.args.a.now (subst (BeginsObjectIn c.args.a.now) (sym c.bytes.ensures) c.in_ok-first.ensures.object) in
-    let second = c.in-Some-object_in.ensures.object c.args.b.now (subst (BeginsObjectIn c.args.b.now) (sym c.bytes-2.ensures) c.in_ok-second.ensures.object) in
+    let first = c.in-Some.ensures.object c.args.a.now c.in_ok-first.ensures.object in
+    let second = c.in-Some-view.ensures.object c.args.b.now c.in_ok-second.ensures.object in
     if_ok c.meet_objects.result (λ bytes f. f _ _ first second) c.meet_objects.ensures.value
 
 pub returns-clause-fixated : goal.returns-clause-fixated
 returns-clause-fixated c =
-    let first = c.in-Some.ensures.object c.args.a.now (subst (BeginsObjectIn c.args.a.now) (sym c.bytes.ensures) c.in_ok-first.ensures.object) in
-    let second = c.in-Some-object_in.ensures.object c.args.b.now (subst (BeginsObjectIn c.args.b.now) (sym c.bytes-2.ensures) c.in_ok-second.ensures.object) in
+    let first = c.in-Some.ensures.object c.args.a.now c.in_ok-first.ensures.object in
+    let second = c.in-Some-view.ensures.object c.args.b.now c.in_ok-second.ensures.object in
     if_ok c.meet_objects.result
     (λ bytes f. c.meetings_need_no_fixation.ensures c.args.a.now c.args.b.now bytes.items (f _ _ first second))
     c.meet_objects.ensures.value
 
 pub returns-clause-cause : goal.returns-clause-cause
 returns-clause-cause c =
-    let first = c.in-Some.ensures.object c.args.a.now (subst (BeginsObjectIn c.args.a.now) (sym c.bytes.ensures) c.in_ok-first.ensures.object) in
-    let second = c.in-Some-object_in.ensures.object c.args.b.now (subst (BeginsObjectIn c.args.b.now) (sym c.bytes-2.ensures) c.in_ok-second.ensures.object) in
+    let first = c.in-Some.ensures.object c.args.a.now c.in_ok-first.ensures.object in
+    let second = c.in-Some-view.ensures.object c.args.b.now c.in_ok-second.ensures.object in
     if_err c.meet_objects.result (λ e f. views_refused c.args.a.now c.args.b.now e (f _ _ first second)) c.meet_objects.ensures.cause
+
+pub unreachable-requires : goal.unreachable-requires
+unreachable-requires c = c.in_default.ensures.none c.args.a.now c.in_ok-first.ensures.object
+
+pub unreachable-requires-in_default-view : goal.unreachable-requires-in_default-view
+unreachable-requires-in_default-view c = c.in_default-view.ensures.none c.args.b.now c.in_ok-second.ensures.object

@@ -1,14 +1,12 @@
-use Rattle.std.proofs.Common.{◌∙◌, sym}
-use Rattle.spa_object_view.proofs.ObjectPods.{front_before, lying_object, no_object_of, rewritten_object}
+use Rattle.std.proofs.Common.{◌∙◌, sym, subst}
+use Rattle.spa_bytes.specs.Opening.{Opens}
+use Rattle.spa_object_view.proofs.ObjectPods.{no_object_of, rewritten_object}
 use Rattle.spa_object_view.proofs.Passing.{passed_on}
 use Rattle.spa_object_view.proofs.front.object_pod.Goals as goal
 
-pub returns-in-Some-canonical_front-clause-object : goal.returns-in-Some-canonical_front-clause-object
-returns-in-Some-canonical_front-clause-object c =
-    let opened = c.in-Some.ensures.there in
-    let taken = c.in-Some-canonical_front.ensures.taken in
-    lying_object _ _ _ taken (sym opened.its_type ∙ c.if-front.false)
-    (c.split_at.ensures.front ∙ front_before _ _ opened.there taken.begins.follows)
+pub canonical_object-requires : goal.canonical_object-requires
+canonical_object-requires c =
+    subst (λ n. Opens c.args.input.now n c.in-Some.front.body.now c.in-Some.front.rest.now) c.if-front.false c.in-Some.ensures.there
 
 pub returns-clause-object : goal.returns-clause-object
 returns-clause-object c =

@@ -3,7 +3,7 @@
 use crate::shims::prelude::*;
 use crate::parts::spa_filter_pods::answer::{Answer, begun, ended, put_alone, put_both};
 use crate::parts::spa_filter::FilterError;
-use crate::parts::spa_object_view::{Keyed, ObjectView, PropertyView, first_property, raised};
+use crate::parts::spa_object_view::{Keyed, ObjectView, PropertyView, first_apart, first_property, raised};
 
 /// The encoding of the object to which two objects are filtered.
 pub(crate) fn filter_objects(
@@ -12,6 +12,10 @@ pub(crate) fn filter_objects(
 ) -> Result<Vec<u8>, FilterError> {
     if ours.type_ != theirs.type_ {
         return Err(FilterError::TypeMismatch);
+    }
+    // Before the outcome takes memory: most pairs that are refused are so for their first values.
+    if let Some(key) = first_apart(ours.properties, theirs.properties) {
+        return Err(FilterError::Disjoint(key));
     }
     let first = Keyed::new(ours.properties)?;
     let second = Keyed::new(theirs.properties)?;

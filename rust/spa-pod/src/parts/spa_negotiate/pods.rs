@@ -5,7 +5,7 @@ use crate::parts::spa_negotiate::error::NegotiateError;
 use crate::parts::spa_negotiate::laws::{meetings_need_no_fixation, refused_fronts_cannot_meet};
 use crate::parts::spa_negotiate::views::meet_objects;
 use crate::parts::spa_keyed_objects::Side;
-use crate::parts::spa_object_view::{NoObject, ObjectPod, object_in, object_pod};
+use crate::parts::spa_object_view::{NoObject, ObjectPod, object_pod};
 
 /// Negotiates the objects at the fronts of two inputs by the rules of `negotiate`, and answers the encoding of the object in
 /// which they meet. The bytes behind the two fronts don't count.
@@ -19,16 +19,16 @@ pub fn negotiate_pods(a: &[u8], b: &[u8]) -> Result<Vec<u8>, NegotiateError> {
     meetings_need_no_fixation();
     let first = object_at(a, Side::First)?;
     let second = object_at(b, Side::Second)?;
-    let Some(ours) = object_in(first.bytes()) else {
+    let Some(ours) = first.view() else {
         unreachable!()
     };
-    let Some(theirs) = object_in(second.bytes()) else {
+    let Some(theirs) = second.view() else {
         unreachable!()
     };
     meet_objects(&ours, &theirs)
 }
 
-/// The canonical pod of the object at the front of a side's bytes. Refused as `Unread` or `NotObject` of the side, and as `OutOfMemory`.
+/// The object at the front of a side's bytes. Refused as `Unread` or `NotObject` of the side, and as `OutOfMemory`.
 fn object_at(bytes: &[u8], side: Side) -> Result<ObjectPod<'_>, NegotiateError> {
     match object_pod(bytes) {
         Ok(pod) => Ok(pod),

@@ -4,7 +4,7 @@ use crate::shims::prelude::*;
 use crate::parts::spa_negotiate::error::NegotiateError;
 use crate::parts::spa_negotiate::settling::{put_common, put_default};
 use crate::parts::spa_object_view::{
-    Keyed, ObjectView, PropertyView, finish, first_property, put_header, raised,
+    Keyed, ObjectView, PropertyView, finish, first_apart, first_property, put_header, raised,
 };
 
 /// The offset in an object's pod at which its properties begin: behind its header, its type and its id.
@@ -17,6 +17,10 @@ pub(crate) fn meet_objects(
 ) -> Result<Vec<u8>, NegotiateError> {
     if ours.type_ != theirs.type_ {
         return Err(NegotiateError::TypeMismatch);
+    }
+    // Before the answer takes memory: most pairs that are refused are so for their first values.
+    if let Some(key) = first_apart(ours.properties, theirs.properties) {
+        return Err(NegotiateError::Disjoint(key));
     }
     let first = Keyed::new(ours.properties)?;
     let second = Keyed::new(theirs.properties)?;

@@ -1,26 +1,32 @@
-//! The canonical pods of objects at the fronts of inputs.
+//! The objects at the fronts of inputs, in canonical bytes.
 
 use crate::shims::prelude::*;
 use crate::parts::spa_object_view::object_view::ObjectView;
-use crate::parts::spa_bytes::{HEADER_LEN, SECOND_WORD, open, u32_at};
+use crate::parts::spa_bytes::{Front, HEADER_LEN, SECOND_WORD, open, u32_at};
 use crate::parts::spa_fixed_sized::DeserializeError;
 use crate::parts::spa_rewrite::{Rejected, canonical_front, look_at_pod, rewrite};
+use crate::parts::spa_scan::leaf_properties;
 use crate::parts::spa_utils::SpaTypes;
 
-/// The canonical pod of the object at the front of an input.
+/// The object at the front of an input, in canonical bytes.
 pub enum ObjectPod<'a> {
-    /// The front itself, which is canonical.
-    Borrowed(&'a [u8]),
+    /// A view of the front, which is canonical.
+    Borrowed(ObjectView<'a>),
     /// The rewriting of the front, which isn't canonical or nests too deep to be looked into.
     Rewritten(Vec<u8>),
 }
 
 impl ObjectPod<'_> {
-    /// The bytes of the pod.
-    pub fn bytes(&self) -> &[u8] {
+    /// The view of the object. None: there is no object in the bytes.
+    #[cfg_attr(not(debug_assertions), inline(always))]
+    pub fn view(&self) -> Option<ObjectView<'_>> {
         match self {
-            ObjectPod::Borrowed(pod) => pod,
-            ObjectPod::Rewritten(bytes) => bytes.as_slice(),
+            ObjectPod::Borrowed(object) => Some(ObjectView {
+                type_: object.type_,
+                id: object.id,
+                properties: object.properties,
+            }),
+            ObjectPod::Rewritten(bytes) => object_in(bytes.as_slice()),
         }
     }
 }
@@ -36,8 +42,7 @@ pub enum NoObject {
     OutOfMemory,
 }
 
-/// The canonical pod of the object at the front of the input. Memory is asked for only where the front isn't canonical, or structs and objects
-/// nest more than 1000 deep.
+/// The object at the front of the input. Memory is asked for only where the front isn't canonical, or structs and objects nest more than 1000 deep.
 pub fn object_pod(input: &[u8]) -> Result<ObjectPod<'_>, NoObject> {
     let Some(front) = open(input) else {
         return Err(NoObject::Unread);
@@ -45,12 +50,30 @@ pub fn object_pod(input: &[u8]) -> Result<ObjectPod<'_>, NoObject> {
     if front.type_ != SpaTypes::Object.0 {
         return Err(no_object(input));
     }
-    if let Some(rest) = canonical_front(input) {
-        let (pod, _) = input.split_at(input.len() - rest.len());
-        return Ok(ObjectPod::Borrowed(pod));
+    if let Some(object) = canonical_object(input, front) {
+        return Ok(ObjectPod::Borrowed(object));
     }
     let bytes = rewritten(input)?;
     Ok(ObjectPod::Rewritten(bytes))
+}
+
+/// The view of the object at the front of the input, which is open, where a look finds it to be canonical. Most objects hold no structs and no other
+/// objects: they are looked at first, by one loop.
+#[cfg_attr(not(debug_assertions), inline(always))]
+fn canonical_object<'a>(input: &[u8], front: Front<'a>) -> Option<ObjectView<'a>> {
+    let object = object_of(front.body)?;
+    if has_leaves_alone(object.properties) {
+        return Some(object);
+    }
+    let _rest = canonical_front(input)?;
+    Some(object)
+}
+
+/// Whether properties are canonical, and none holds a struct or an object.
+#[cfg_attr(not(debug_assertions), inline(always))]
+fn has_leaves_alone(properties: &[u8]) -> bool {
+    let (_, rest) = leaf_properties(properties);
+    rest.is_empty()
 }
 
 /// The rewriting of a front of a type whose values take memory.
@@ -83,18 +106,23 @@ fn deep_no_object(input: &[u8]) -> NoObject {
     why
 }
 
-/// The object of a pod.
-pub fn object_in(pod: &[u8]) -> Option<ObjectView<'_>> {
-    let Some(front) = open(pod) else {
-        return None;
-    };
-    if front.body.len() < HEADER_LEN {
+/// The view of the object of a pod.
+#[inline(never)]
+fn object_in(pod: &[u8]) -> Option<ObjectView<'_>> {
+    let front = open(pod)?;
+    object_of(front.body)
+}
+
+/// The view of the object with this body. None: it has no type and id.
+#[cfg_attr(not(debug_assertions), inline(always))]
+fn object_of(body: &[u8]) -> Option<ObjectView<'_>> {
+    if body.len() < HEADER_LEN {
         return None;
     }
-    let (_, properties) = front.body.split_at(HEADER_LEN);
+    let (_, properties) = body.split_at(HEADER_LEN);
     Some(ObjectView {
-        type_: u32_at(front.body, 0),
-        id: u32_at(front.body, SECOND_WORD),
+        type_: u32_at(body, 0),
+        id: u32_at(body, SECOND_WORD),
         properties,
     })
 }

@@ -2,7 +2,8 @@
 
 use crate::shims::prelude::*;
 use crate::parts::spa_events::event::{Event, NO_PARENT};
-use crate::parts::spa_bytes::{HEADER_LEN, SECOND_WORD, extent_of, key_len, keyed_inside, u32_at};
+use crate::parts::spa_events::inside::{key_len, keyed_inside};
+use crate::parts::spa_bytes::{HEADER_LEN, SECOND_WORD, extent_of, u32_at};
 
 /// Pods one after another that are still to come.
 #[derive(Clone, Copy)]
@@ -56,12 +57,12 @@ fn inside(event: Event, index: usize) -> Level {
 
 /// The pods to go on with once the event of the first of these is in the list at this index: those inside it, or else those that follow it.
 pub(crate) fn following(level: Level, event: Event, index: usize) -> Level {
-    if keyed_inside(event.type_, event.size as usize).is_some() {
-        return inside(event, index);
-    }
-    Level {
-        at: event.at + extent_of(event.size),
-        ..level
+    match keyed_inside(event.type_, event.size as usize) {
+        Some(_) => inside(event, index),
+        None => Level {
+            at: event.at + extent_of(event.size),
+            ..level
+        },
     }
 }
 

@@ -2,9 +2,9 @@
 //! objects around a pod waits in an array of fixed size.
 
 use crate::shims::prelude::*;
-use crate::parts::spa_rewrite::inside::{Inside, behind_key, inside_of};
 use crate::parts::spa_rewrite::look::{FEW, MANY};
 use crate::parts::spa_bytes::{HEADER_LEN, SECOND_WORD, open, u32_at};
+use crate::parts::spa_events::{Inside, behind_key, inside_of};
 use crate::parts::spa_scan::{fixed_front, leaf_body_front, leaf_front};
 use crate::parts::spa_utils::SpaTypes;
 

@@ -2,13 +2,13 @@
 //! memory and calls itself nowhere: what is left of the structs and objects around a pod waits in an array of fixed size.
 
 use crate::shims::prelude::*;
-use crate::parts::spa_rewrite::inside::{Inside, behind_key, inside_of};
 use crate::parts::spa_rewrite::leading::{
     CanonicalLook, canonical_stretch, is_inside_first, is_leaf, look_for_canonical,
 };
 use crate::parts::spa_rewrite::surplus::{CHOICE_HEADER, leaf_surplus, short_front};
 use crate::parts::spa_bodies::VALUE_TYPE_AT;
-use crate::parts::spa_bytes::{HEADER_LEN, Inside, SECOND_WORD, behind_key, inside_of, open, u32_at};
+use crate::parts::spa_bytes::{HEADER_LEN, SECOND_WORD, open, u32_at};
+use crate::parts::spa_events::{Inside, behind_key, inside_of};
 use crate::parts::spa_fixed_sized::{FLAGS_SHAPE, Refusal};
 use crate::parts::spa_scan::{LEVELS, fixed_len, nests_within};
 use crate::parts::spa_utils::SpaTypes;

@@ -4,7 +4,6 @@
 //! written over it. What nests too deep for that is read as a value, which is written.
 
 use crate::shims::prelude::*;
-use crate::parts::spa_rewrite::inside::inside_of;
 use crate::parts::spa_rewrite::leading::canonical_stretch;
 use crate::parts::spa_rewrite::look::{
     AcceptedPod, DEEP_BODY, Found, Rejected, look_at_front, look_at_pods, look_into, more_unasked,
@@ -14,7 +13,8 @@ use crate::parts::spa_rewrite::source::Apart;
 use crate::parts::spa_rewrite::surplus::{leaf_surplus, short_front};
 use crate::parts::spa_rewrite::write::write_pods;
 use crate::parts::spa_bodies::error_at;
-use crate::parts::spa_bytes::{Inside, inside_of, open};
+use crate::parts::spa_bytes::open;
+use crate::parts::spa_events::{Inside, inside_of};
 use crate::parts::spa_fixed_sized::{DeserializeError, Refusal};
 use crate::parts::spa_read::{Refused, read_value};
 use crate::parts::spa_scan::{LEVELS, nests_within};

@@ -5,8 +5,9 @@ use crate::parts::spa_rewrite::leading::canonical_stretch;
 use crate::parts::spa_rewrite::patch::{SECOND_HEADER, begins_word, patch_leaf, patch_values, place_behind, taken_len};
 use crate::parts::spa_rewrite::source::Source;
 use crate::parts::spa_bytes::{
-    HEADER_LEN, behind_key, extent_of, joined, open, two_words, u32_at, u64_at, wide_body, word_body,
+    HEADER_LEN, extent_of, joined, open, two_words, u32_at, u64_at, wide_body, word_body,
 };
+use crate::parts::spa_events::behind_key;
 use crate::parts::spa_scan::{leaf_members, leaf_properties};
 use crate::parts::spa_utils::SpaTypes;
 

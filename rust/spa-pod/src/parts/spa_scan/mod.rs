@@ -7,6 +7,6 @@ mod scan;
 mod text;
 
 pub use front::{fixed_front, fixed_len};
-pub use nesting::nests_within;
+pub use nesting::{all_nest_within, nests_within};
 pub use scan::{LEVELS, leaf_body_front, leaf_front, leaf_members, leaf_properties};
 pub use text::is_text;

@@ -1,7 +1,8 @@
 //! How deep structs and objects stand in one another, counted without memory.
 
 use crate::shims::prelude::*;
-use crate::parts::spa_bytes::{inside_of, is_container, open, open_first};
+use crate::parts::spa_bytes::open;
+use crate::parts::spa_events::{inside_of, is_container, open_first};
 
 /// Whether at most so many structs and objects stand in one another in the pod at the front: an Int nests in 0 levels, a
 /// struct of Ints in 1.
@@ -16,6 +17,11 @@ pub fn nests_within(input: &[u8], levels: u32) -> bool {
     }
 }
 
+/// Whether at most so many structs and objects stand in one another in each pod of an input, as `nests_within` counts them.
+pub fn all_nest_within(pods: &[u8], levels: u32) -> bool {
+    pods_nest_within(false, pods, levels)
+}
+
 /// Whether at most so many structs and objects stand in one another in a pod of this type with this body. A pod that holds no others needs no call.
 #[cfg_attr(not(debug_assertions), inline(always))]
 fn body_nests_within(type_: u32, body: &[u8], levels: u32) -> bool {
@@ -28,7 +34,7 @@ fn body_nests_within(type_: u32, body: &[u8], levels: u32) -> bool {
     }
 }
 
-/// Whether at most so many stand in one another in each of the pods inside a container.
+/// Whether at most so many stand in one another in each of the pods inside a container, with a key and flags before each where `keyed` is set.
 fn pods_nest_within(keyed: bool, pods: &[u8], levels: u32) -> bool {
     let mut left = pods;
     while let Some(front) = open_first(keyed, left) {

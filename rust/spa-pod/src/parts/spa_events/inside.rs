@@ -1,8 +1,7 @@
 //! The pods inside containers: the members of a struct; the properties of an object, with a key and flags before each.
 
 use crate::shims::prelude::*;
-use crate::parts::spa_bytes::front::{Front, open};
-use crate::parts::spa_bytes::words::HEADER_LEN;
+use crate::parts::spa_bytes::{Front, HEADER_LEN, open};
 use crate::parts::spa_utils::SpaTypes;
 
 /// Pods inside a container.

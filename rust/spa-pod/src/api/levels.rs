@@ -131,7 +131,7 @@ mod tests {
         inner
     }
 
-    /// Rewrites pods by each call, and compares what comes of it, and what is told of the pods before.
+    /// Rewrites pods by each call, and compares what it makes, and what is answered of the pods before.
     fn rewrite_by_each_call(pods: &[u8], wanted: &[u8]) {
         assert!(rewrite(pods).is_ok_and(|(rest, made)| rest.is_empty() && made == wanted));
         assert!(is_canonical(pods).is_ok_and(|answer| answer == (pods == wanted)));
@@ -140,9 +140,9 @@ mod tests {
             let mut out = Vec::new();
             assert!(call(pods, &mut out).is_ok() && out == wanted);
         }
-        for call in [rewrite_in_place, rewrite_in_place_leniently] {
+        for call in [|bytes: &mut [u8]| rewrite_in_place(bytes).ok(), |bytes: &mut [u8]| rewrite_in_place_leniently(bytes).ok()] {
             let mut bytes = pods.to_vec();
-            assert!(call(&mut bytes).is_ok_and(|len| bytes[..len] == *wanted));
+            assert!(call(&mut bytes).is_some_and(|len| bytes[..len] == *wanted));
         }
         let mut out = vec![0; pods.len()];
         assert!(rewrite_into_leniently(pods, &mut out).is_ok_and(|len| out[..len] == *wanted));

@@ -39,23 +39,12 @@ enum First<'a> {
 ///
 /// `None` says that it isn't, or that more than 1000 structs and objects stand in one another, not counting those in tail position:
 /// such a pod may not be looked into, and may still be canonical.
-#[inline(always)]
 pub fn canonical_front(input: &[u8]) -> Option<&[u8]>
     ensures taken { IfSome result (λ rest. BeginsCanonical input.now rest.now) }
     ensures shorter { IfSome result (λ rest. length rest.now + 8 ≤ length input.now) }
     ensures missed { IfNone result (MissesOnly input.now (λ v. levels_looked_into < depth_of v)) }
 {
-    let Some(front) = open(input) else {
-        return None;
-    };
-    let Some(inside) = inside_of(front.type_, front.body) else {
-        return leaf_front(input);
-    };
-    match look_for_canonical(inside.keyed, inside.pods) {
-        CanonicalLook::Same => Some(front.rest),
-        CanonicalLook::Differs => None,
-        CanonicalLook::TooDeep => None,
-    }
+    next_canonical(input, &mut no_frames(input))
 }
 
 /// The first pods, as many as `canonical_front` finds to be canonical, and what follows them.
@@ -67,24 +56,73 @@ pub fn canonical_stretch(input: &[u8]) -> (&[u8], &[u8])
     // Nothing follows where the input is such pods that nest no deeper.
     ensures all { AreShallow levels_looked_into input.now → result.1.now ≡ [] }
 {
+    let mut frames = [list(input); FEW];
     let mut left = input;
-    while let Some(rest) = canonical_front(left) {
+    while let Some(rest) = next_canonical(left, &mut frames) {
         left = rest;
     }
     input.split_at(input.len() - left.len())
 }
 
+/// What follows the pod at the front as `canonical_front` says it, with an array in which lists can wait.
+#[inline(always)]
+fn next_canonical<'a>(input: &'a [u8], frames: &mut [Inside<'a>]) -> Option<&'a [u8]>
+    ensures taken { IfSome result (λ rest. BeginsCanonical input.now rest.now) }
+    ensures shorter { IfSome result (λ rest. length rest.now + 8 ≤ length input.now) }
+    ensures missed { IfNone result (MissesOnly input.now (λ v. levels_looked_into < depth_of v)) }
+{
+    let Some(front) = open(input) else {
+        return None;
+    };
+    let Some(inside) = inside_of(front.type_, front.body) else {
+        return leaf_front(input);
+    };
+    match look_for_canonical(inside.keyed, inside.pods, frames) {
+        CanonicalLook::Same => Some(front.rest),
+        CanonicalLook::Differs => None,
+        CanonicalLook::TooDeep => None,
+    }
+}
+
+/// An array in which no list can wait: for a single pod one is made only where a list has to wait.
+#[inline(always)]
+pub(crate) fn no_frames(pods: &[u8]) -> [Inside<'_>; 0] {
+    [list(pods); 0]
+}
+
+/// These pods, as a list.
+#[inline(always)]
+fn list(pods: &[u8]) -> Inside<'_> {
+    Inside { keyed: false, pods }
+}
+
 /// Looks whether all pods inside a struct or an object are canonical: at the first ones that hold no others, which need no array, and at what follows
 /// them.
 #[inline(always)]
-pub(crate) fn look_for_canonical(keyed: bool, pods: &[u8]) -> CanonicalLook
+pub(crate) fn look_for_canonical<'a>(
+    keyed: bool,
+    pods: &'a [u8],
+    frames: &mut [Inside<'a>],
+) -> CanonicalLook
     ensures { IsCanonicalLook levels_looked_into keyed pods.now result }
 {
     let left = behind_canonical(keyed, pods);
     if left.is_empty() {
         return CanonicalLook::Same;
     }
-    match look_on(keyed, left, &mut [Inside { keyed, pods }; FEW]) {
+    match look_on(keyed, left, frames) {
+        CanonicalLook::Same => CanonicalLook::Same,
+        CanonicalLook::Differs => CanonicalLook::Differs,
+        CanonicalLook::TooDeep => look_deeper_for_canonical(keyed, pods),
+    }
+}
+
+/// Does what `look_for_canonical` does, with the short array, or the long one.
+#[inline(never)]
+fn look_deeper_for_canonical(keyed: bool, pods: &[u8]) -> CanonicalLook
+    ensures { IsCanonicalLook levels_looked_into keyed pods.now result }
+{
+    match look_on(keyed, pods, &mut [list(pods); FEW]) {
         CanonicalLook::Same => CanonicalLook::Same,
         CanonicalLook::Differs => CanonicalLook::Differs,
         CanonicalLook::TooDeep => look_deep_for_canonical(keyed, pods),
@@ -97,7 +135,7 @@ pub(crate) fn look_for_canonical(keyed: bool, pods: &[u8]) -> CanonicalLook
 fn look_deep_for_canonical(keyed: bool, pods: &[u8]) -> CanonicalLook
     ensures { IsCanonicalLook levels_looked_into keyed pods.now result }
 {
-    look_on(keyed, pods, &mut [Inside { keyed, pods }; MANY])
+    look_on(keyed, pods, &mut [list(pods); MANY])
 }
 
 /// Looks whether all these pods are canonical. What is left behind an inner struct or object waits in the array; nothing waits where nothing is left.

@@ -22,7 +22,8 @@ ghost use Rattle.spa_value.specs.View.{view};
 
 use crate::leading::canonical_stretch;
 use crate::look::{
-    AcceptedPod, DEEP_BODY, Found, Rejected, look_at_front, look_at_pods, look_into, more_unasked,
+    AcceptedPod, DEEP_BODY, Found, Rejected, Waiting, few_frames, look_at_front, look_at_pods,
+    look_into, more_unasked, no_room,
 };
 use crate::patch::patch_all;
 use crate::source::Apart;
@@ -169,6 +170,7 @@ fn append_all<'a>(input: &'a [u8], out: &mut Vec<u8>) -> Result<(), (&'a [u8], R
     ensures left { IfErr result (λ refusal. IsLeft input.now refusal.0.now) }
     ensures refused { IfErr result (λ refusal. IsRefusal refusal.0.now (error_of refusal.1.place refusal.1.why)) }
 {
+    let mut frames = few_frames(input);
     let start = out.len();
     let mut left = input;
     let mut unasked = 1;
@@ -185,7 +187,7 @@ fn append_all<'a>(input: &'a [u8], out: &mut Vec<u8>) -> Result<(), (&'a [u8], R
         } else {
             more_unasked(unasked)
         };
-        match append_others(unasked, others, out) {
+        match append_others(unasked, others, &mut frames, out) {
             Ok(rest) => left = rest,
             Err(refused) => {
                 out.truncate(start);
@@ -234,13 +236,18 @@ struct Section<'a> {
 }
 
 /// Appends the encodings of pods the first of which isn't canonical, some `len` bytes, and answers what follows them. Refused is the first of them.
-fn append_others<'a>(len: usize, pods: &'a [u8], out: &mut Vec<u8>) -> Result<&'a [u8], Refused<'a>>
+fn append_others<'a>(
+    len: usize,
+    pods: &'a [u8],
+    frames: &mut [Waiting<'a>],
+    out: &mut Vec<u8>,
+) -> Result<&'a [u8], Refused<'a>>
     ensures appended { IfOk result (λ rest. AppendsFirst pods.now rest.now out.old.items out.new.items) }
     ensures fewer { IfOk result (λ rest. length rest.now < length pods.now) }
     ensures unchanged { OnErr result (out.new.items ≡ out.old.items) }
     ensures refused { IfErr result (λ refused. IsRefusal pods.now (error_of refused.place refused.why)) }
 {
-    let section = look_over(len, pods);
+    let section = look_over(len, pods, frames);
     if section.pods.is_empty() {
         return append_front(pods, out);
     }
@@ -254,13 +261,13 @@ fn append_others<'a>(len: usize, pods: &'a [u8], out: &mut Vec<u8>) -> Result<&'
 /// gets shorter, since they are patched; and all before one that would be written and in which more than `LEVELS` structs and objects stand in one another,
 /// wherever these end: what writes such a pod calls itself for each.
 #[inline(always)]
-fn look_over<'a>(len: usize, pods: &'a [u8]) -> Section<'a>
+fn look_over<'a>(len: usize, pods: &'a [u8], frames: &mut [Waiting<'a>]) -> Section<'a>
     ensures { IsSection pods.now result }
 {
     let mut left = pods;
     let mut surplus = 0;
     while pods.len() - left.len() < len {
-        let Some((rest, more)) = behind_front(left) else {
+        let Some((rest, more)) = behind_front(left, frames) else {
             return cut_section(pods, left, surplus);
         };
         if surplus == 0 && more > 0 && left.len() < pods.len() {
@@ -278,7 +285,7 @@ fn look_over<'a>(len: usize, pods: &'a [u8]) -> Section<'a>
 
 /// What follows the pod at the front, where a look accepts it, and by how many bytes its encoding is shorter. It isn't asked whether the pod is canonical.
 #[inline(always)]
-fn behind_front<'a>(input: &'a [u8]) -> Option<(&'a [u8], usize)>
+fn behind_front<'a>(input: &'a [u8], frames: &mut [Waiting<'a>]) -> Option<(&'a [u8], usize)>
     ensures { IfSome result (λ passed. BeginsShorter input.now passed.0.now passed.1) }
 {
     if let Some(rest) = short_front(input) {
@@ -289,7 +296,7 @@ fn behind_front<'a>(input: &'a [u8]) -> Option<(&'a [u8], usize)>
         let surplus = leaf_surplus(front.type_, front.body)?;
         return Some((front.rest, surplus));
     };
-    match look_into(inside.keyed, inside.pods) {
+    match look_into(inside.keyed, inside.pods, frames) {
         Found::Fits(surplus) => Some((front.rest, surplus)),
         _ => None,
     }
@@ -326,7 +333,7 @@ fn look_to_write<'a>(input: &'a [u8]) -> Result<AcceptedPod<'a>, Rejected<'a>>
     // Each pod of so many levels is accepted.
     ensures missed { IfErr result (λ _. (v : Tree) → Begins input.now v → levels_looked_into < depth_of v) }
 {
-    let pod = match look_at_front(true, input) {
+    let pod = match look_at_front(true, input, &mut no_room(input)) {
         Ok(pod) => pod,
         Err(rejected) => return Err(rejected),
     };

@@ -3,7 +3,7 @@
 
 use crate::shims::prelude::*;
 use crate::parts::spa_rewrite::leading::{
-    CanonicalLook, canonical_stretch, is_inside_first, is_leaf, look_for_canonical,
+    CanonicalLook, canonical_stretch, is_inside_first, is_leaf, look_for_canonical, no_frames,
 };
 use crate::parts::spa_rewrite::surplus::{CHOICE_HEADER, leaf_surplus, short_front};
 use crate::parts::spa_bodies::VALUE_TYPE_AT;
@@ -78,13 +78,25 @@ enum Met<'a> {
 
 /// What is left of a list while the look is inside of a pod in it.
 #[derive(Clone, Copy)]
-struct Waiting<'a> {
+pub(crate) struct Waiting<'a> {
     /// Whether a key and flags stand before each pod.
     keyed: bool,
     /// The pods that are left.
     pods: &'a [u8],
     /// How many bytes of those that are looked at follow them.
     behind: usize,
+}
+
+/// The short array, in which no list waits yet.
+#[cfg_attr(not(debug_assertions), inline(always))]
+pub(crate) fn few_frames(pods: &[u8]) -> [Waiting<'_>; FEW] {
+    [none_waiting(pods); FEW]
+}
+
+/// An array in which no list can wait: for a single pod one is made only where a list has to wait.
+#[cfg_attr(not(debug_assertions), inline(always))]
+pub(crate) fn no_room(pods: &[u8]) -> [Waiting<'_>; 0] {
+    [none_waiting(pods); 0]
 }
 
 /// An entry of an array in which no list waits.
@@ -98,7 +110,7 @@ fn none_waiting(pods: &[u8]) -> Waiting<'_> {
 }
 
 /// How many lists can wait in the short array.
-pub(crate) const FEW: usize = 8;
+pub(crate) const FEW: usize = 16;
 
 /// How many can wait in the long one, which is taken where the short one is full.
 pub(crate) const MANY: usize = 1000;
@@ -108,18 +120,19 @@ pub(crate) const MANY: usize = 1000;
 /// It takes no memory. Any pod is accepted in which at most 1000 structs and objects stand in one another; where more do, those in tail position
 /// don't count.
 pub fn look_at_pod(input: &[u8]) -> Result<AcceptedPod<'_>, Rejected<'_>> {
-    look_at_front(true, input)
+    look_at_front(true, input, &mut no_room(input))
 }
 
 /// Looks at all pods that the input consists of. A refusal gives what is left of the input from the refused pod on.
 ///
 /// It takes no memory, and accepts pods as `look_at_pod` does.
 pub fn look_at_pods(pods: &[u8]) -> Result<AcceptedPods, (&[u8], Rejected<'_>)> {
+    let mut frames = few_frames(pods);
     let mut left = pods;
     let mut all = true;
     let (mut canonical, mut surplus) = (0, 0);
     while !left.is_empty() {
-        let pod = match look_at_front(all, left) {
+        let pod = match look_at_front(all, left, &mut frames) {
             Ok(pod) => pod,
             Err(why) => return Err((left, why)),
         };
@@ -161,6 +174,7 @@ pub(crate) fn more_unasked(unasked: usize) -> usize {
 
 /// Looks at all pods for those that `changed_pods` answers, wherever structs and objects end.
 fn look_for_changes(pods: &[u8]) -> Result<ChangedPods, (&[u8], Rejected<'_>)> {
+    let mut frames = few_frames(pods);
     let mut left = pods;
     let (mut others, mut tail) = (pods, pods);
     let mut surplus = 0;
@@ -183,7 +197,7 @@ fn look_for_changes(pods: &[u8]) -> Result<ChangedPods, (&[u8], Rejected<'_>)> {
                 surplus,
             });
         }
-        let pod = match look_at_front(false, other) {
+        let pod = match look_at_front(false, other, &mut frames) {
             Ok(pod) => pod,
             Err(why) => return Err((other, why)),
         };
@@ -265,7 +279,11 @@ fn canonical_len(canonical: usize, are_all: bool, end: usize) -> usize {
 /// Looks at the pod at the front of the input as `look_at_pod` does. Where `canonical` isn't set it isn't asked whether the pod is canonical, and the
 /// answer says that it isn't. Where it is asked, that is looked for first.
 #[cfg_attr(not(debug_assertions), inline(always))]
-pub(crate) fn look_at_front(canonical: bool, input: &[u8]) -> Result<AcceptedPod<'_>, Rejected<'_>> {
+pub(crate) fn look_at_front<'a>(
+    canonical: bool,
+    input: &'a [u8],
+    frames: &mut [Waiting<'a>],
+) -> Result<AcceptedPod<'a>, Rejected<'a>> {
     let Some(front) = open(input) else {
         return Err(Rejected::Fault(input, 0, Refusal::Short));
     };
@@ -280,7 +298,7 @@ pub(crate) fn look_at_front(canonical: bool, input: &[u8]) -> Result<AcceptedPod
         });
     };
     if canonical {
-        match look_for_canonical(inside.keyed, inside.pods) {
+        match look_for_canonical(inside.keyed, inside.pods, &mut no_frames(input)) {
             CanonicalLook::Same => {
                 return Ok(AcceptedPod {
                     rest: front.rest,
@@ -292,7 +310,7 @@ pub(crate) fn look_at_front(canonical: bool, input: &[u8]) -> Result<AcceptedPod
             CanonicalLook::TooDeep => return Err(Rejected::TooDeep),
         }
     }
-    match look_into(inside.keyed, inside.pods) {
+    match look_into(inside.keyed, inside.pods, frames) {
         Found::Fits(surplus) => Ok(AcceptedPod {
             rest: front.rest,
             canonical: false,
@@ -308,13 +326,23 @@ pub(crate) fn look_at_front(canonical: bool, input: &[u8]) -> Result<AcceptedPod
 
 /// Looks inside a struct or an object: at its first pods that hold no others, which need no array, and at what follows them.
 #[cfg_attr(not(debug_assertions), inline(always))]
-pub(crate) fn look_into(keyed: bool, pods: &[u8]) -> Found<'_> {
+pub(crate) fn look_into<'a>(keyed: bool, pods: &'a [u8], frames: &mut [Waiting<'a>]) -> Found<'a> {
     let (left, surplus) = behind_accepted(keyed, pods);
     if left.is_empty() {
         return Found::Fits(surplus);
     }
-    match look_inside(keyed, left, &mut [none_waiting(pods); FEW]) {
+    match look_inside(keyed, left, frames) {
         Found::Fits(more) => Found::Fits(surplus + more),
+        Found::Stops(place, behind) => Found::Stops(place, behind),
+        Found::TooDeep => look_deeper(keyed, pods),
+    }
+}
+
+/// Looks inside a struct or an object with the short array, or the long one.
+#[inline(never)]
+fn look_deeper(keyed: bool, pods: &[u8]) -> Found<'_> {
+    match look_inside(keyed, pods, &mut few_frames(pods)) {
+        Found::Fits(surplus) => Found::Fits(surplus),
         Found::Stops(place, behind) => Found::Stops(place, behind),
         Found::TooDeep => look_deep(keyed, pods),
     }

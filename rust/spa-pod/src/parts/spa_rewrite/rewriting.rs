@@ -6,7 +6,8 @@
 use crate::shims::prelude::*;
 use crate::parts::spa_rewrite::leading::canonical_stretch;
 use crate::parts::spa_rewrite::look::{
-    AcceptedPod, DEEP_BODY, Found, Rejected, look_at_front, look_at_pods, look_into, more_unasked,
+    AcceptedPod, DEEP_BODY, Found, Rejected, Waiting, few_frames, look_at_front, look_at_pods,
+    look_into, more_unasked, no_room,
 };
 use crate::parts::spa_rewrite::patch::patch_all;
 use crate::parts::spa_rewrite::source::Apart;
@@ -104,6 +105,7 @@ fn behind_deep(pod: &[u8]) -> Result<&[u8], DeserializeError<&[u8]>> {
 
 /// Appends the encodings of all pods that the input consists of. A refusal gives what is left from the refused pod on, and that pod's refusal.
 fn append_all<'a>(input: &'a [u8], out: &mut Vec<u8>) -> Result<(), (&'a [u8], Refused<'a>)> {
+    let mut frames = few_frames(input);
     let start = out.len();
     let mut left = input;
     let mut unasked = 1;
@@ -120,7 +122,7 @@ fn append_all<'a>(input: &'a [u8], out: &mut Vec<u8>) -> Result<(), (&'a [u8], R
         } else {
             more_unasked(unasked)
         };
-        match append_others(unasked, others, out) {
+        match append_others(unasked, others, &mut frames, out) {
             Ok(rest) => left = rest,
             Err(refused) => {
                 out.truncate(start);
@@ -163,8 +165,13 @@ struct Section<'a> {
 }
 
 /// Appends the encodings of pods the first of which isn't canonical, some `len` bytes, and answers what follows them. Refused is the first of them.
-fn append_others<'a>(len: usize, pods: &'a [u8], out: &mut Vec<u8>) -> Result<&'a [u8], Refused<'a>> {
-    let section = look_over(len, pods);
+fn append_others<'a>(
+    len: usize,
+    pods: &'a [u8],
+    frames: &mut [Waiting<'a>],
+    out: &mut Vec<u8>,
+) -> Result<&'a [u8], Refused<'a>> {
+    let section = look_over(len, pods, frames);
     if section.pods.is_empty() {
         return append_front(pods, out);
     }
@@ -178,11 +185,11 @@ fn append_others<'a>(len: usize, pods: &'a [u8], out: &mut Vec<u8>) -> Result<&'
 /// gets shorter, since they are patched; and all before one that would be written and in which more than `LEVELS` structs and objects stand in one another,
 /// wherever these end: what writes such a pod calls itself for each.
 #[cfg_attr(not(debug_assertions), inline(always))]
-fn look_over<'a>(len: usize, pods: &'a [u8]) -> Section<'a> {
+fn look_over<'a>(len: usize, pods: &'a [u8], frames: &mut [Waiting<'a>]) -> Section<'a> {
     let mut left = pods;
     let mut surplus = 0;
     while pods.len() - left.len() < len {
-        let Some((rest, more)) = behind_front(left) else {
+        let Some((rest, more)) = behind_front(left, frames) else {
             return cut_section(pods, left, surplus);
         };
         if surplus == 0 && more > 0 && left.len() < pods.len() {
@@ -200,7 +207,7 @@ fn look_over<'a>(len: usize, pods: &'a [u8]) -> Section<'a> {
 
 /// What follows the pod at the front, where a look accepts it, and by how many bytes its encoding is shorter. It isn't asked whether the pod is canonical.
 #[cfg_attr(not(debug_assertions), inline(always))]
-fn behind_front<'a>(input: &'a [u8]) -> Option<(&'a [u8], usize)> {
+fn behind_front<'a>(input: &'a [u8], frames: &mut [Waiting<'a>]) -> Option<(&'a [u8], usize)> {
     if let Some(rest) = short_front(input) {
         return Some((rest, 0));
     }
@@ -209,7 +216,7 @@ fn behind_front<'a>(input: &'a [u8]) -> Option<(&'a [u8], usize)> {
         let surplus = leaf_surplus(front.type_, front.body)?;
         return Some((front.rest, surplus));
     };
-    match look_into(inside.keyed, inside.pods) {
+    match look_into(inside.keyed, inside.pods, frames) {
         Found::Fits(surplus) => Some((front.rest, surplus)),
         _ => None,
     }
@@ -235,7 +242,7 @@ fn cut_section<'a>(pods: &'a [u8], left: &'a [u8], surplus: usize) -> Section<'a
 /// Looks at the pod at the front, and rejects it as too deep also where it gets shorter and is deep.
 #[cfg_attr(not(debug_assertions), inline(always))]
 fn look_to_write<'a>(input: &'a [u8]) -> Result<AcceptedPod<'a>, Rejected<'a>> {
-    let pod = match look_at_front(true, input) {
+    let pod = match look_at_front(true, input, &mut no_room(input)) {
         Ok(pod) => pod,
         Err(rejected) => return Err(rejected),
     };

@@ -6,7 +6,7 @@ use Rattle.spa_rewrite.proofs.Accepted.{leaf_differs}
 use Rattle.spa_scan.proofs.Depths.{deep_begun}
 use Rattle.spa_rewrite.proofs.Levels.{too_deep}
 use Rattle.spa_rewrite.proofs.Looks.{inside_own, own_opened}
-use Rattle.spa_rewrite.proofs.leading.canonical_front.Goals as goal
+use Rattle.spa_rewrite.proofs.leading.next_canonical.Goals as goal
 
 pub returns-in_default-inside_of-clause-missed : goal.returns-in_default-inside_of-clause-missed
 returns-in_default-inside_of-clause-missed c =

@@ -8,3 +8,4 @@ pub mod ReadTexts
 pub mod Differing
 pub mod Compared
 mod Lanes
+mod KeyNames

@@ -2,6 +2,7 @@ pub mod Answers
 pub mod Differences
 pub mod Dump
 pub mod Extent
+pub mod KeyNames
 pub mod Lines
 pub mod Parts
 pub mod Selection

@@ -6,6 +6,7 @@ pub mod comparing;
 mod dump;
 mod extent;
 mod inside;
+pub mod key_names;
 mod lines;
 mod listing;
 pub mod output;

@@ -1,0 +1,143 @@
+-- Which keys have a name.
+use Rattle.std.proofs.Common.{◌≡◌, ◌≢◌, ◌∙◌, ◌<◌, ◌≤◌, ◌^◌, ◌+◌, ◌==◌, ◌&&◌, ◌||◌, ◌⊎◌, suc, ℕ, Bool, true, false, true≢false, List, [], ◌∷◌, Option, Some, None, inl, inr, option_map, cond, is_some, refl, sym, ap, subst, nat_lt, arith}
+use Rattle.std.specs.Prelude.{nat_le, Result, Ok, Err}
+use Rattle.std.specs.Fmt.{decimal}
+use Rattle.std.specs.List.{find, list_all}
+use Rattle.std.specs.Option.{option_map_or}
+use Rattle.std.specs.Str.{bytes_eq}
+use Rattle.std.proofs.lemmas.Slice.Eq.{bytes_eq-Decides}
+use Rattle.std.proofs.lemmas.Bool.{cases_eq, eqb-true, leb-true}
+use Rattle.spa_names.specs.Lookup.{keys_of, object_at, path_of}
+use Rattle.spa_names.specs.Rows.{Row}
+use Rattle.spa_names.specs.Tables.{rows_of}
+use Rattle.spa_names.specs.declared.table.Table.{Table}
+use Rattle.spa_names.specs.declared.table.Table.TheVariants.{Nothing, BuffersKeys, CommandNode, CommandNodeKeys, DeviceEventId, DeviceKeys, FormatKeys, IOKeys, LatencyKeys, Node, NodeKeys, ParamId, ParamMetaKeys, PortConfigKeys, ProcessLatencyKeys, ProfileKeys, ProfilerKeys, PropInfoKeys, PropsKeys, RouteKeys}
+use Rattle.spa_text_commands.specs.KeyNames.{HasKeyNamed, is_counted}
+use Rattle.spa_text_commands.specs.Selection.{is_end_of, is_named}
+
+some_none : {X : Type 0} (x : X) → None ≡ Some x → ⊥
+some_none x e = true≢false (sym (ap is_some e))
+
+value_or : {X : Type 0} → X → Option X → X
+value_or x None = x
+value_or x (Some y) = y
+
+both : (a b : Bool) → (a && b) ≡ true → (a ≡ true) × (b ≡ true)
+both true b e = (refl, e)
+both false b e = absurd (true≢false (sym e))
+
+-- what a search finds passes its test, and what all elements pass
+found_in : {X : Type 0} (p q : X → Bool) (passes : Bool) (y : X) (ys : List X) (x : X) →
+    (find p ys ≡ Some x → list_all q ys ≡ true → (q x ≡ true) × (p x ≡ true)) → p y ≡ passes → cond passes (Some y) (find p ys) ≡ Some x →
+    (q y && list_all q ys) ≡ true → (q x ≡ true) × (p x ≡ true)
+unfolding value_or
+found_in p q true y ys x others is e all =
+    let same : y ≡ x = ap (value_or y) e in (subst (λ z. q z ≡ true) same (both (q y) (list_all q ys) all).0, subst (λ z. p z ≡ true) same is)
+found_in p q false y ys x others is e all = others e (both (q y) (list_all q ys) all).1
+
+found : {X : Type 0} (p q : X → Bool) (xs : List X) (x : X) → find p xs ≡ Some x → list_all q xs ≡ true → (q x ≡ true) × (p x ≡ true)
+found p q [] x e all = absurd (some_none x e)
+found p q (y ∷ ys) x e all = found_in p q (p y) y ys x (λ f a. found p q ys x f a) refl e all
+
+-- a type of objects that have keys with names
+is_type : ℕ → Bool
+is_type type =
+    (nat_le 131073 type && nat_lt type 131075) || ((nat_le 196610 type && nat_lt type 196611) || (nat_le 262145 type && nat_lt type 262157))
+
+-- a path is that of a key which is counted
+row_counted : (keys : Table) (row : Option Row) (key : ℕ) (path : List ℕ) → find (λ r. r.0 == key) (rows_of keys) ≡ row →
+    list_all (λ r. is_counted r.0) (rows_of keys) ≡ true → option_map (λ r. r.1) row ≡ Some path → is_counted key ≡ true
+row_counted keys None key path e all is = absurd (some_none path is)
+row_counted keys (Some row) key path e all is =
+    let its = found (λ r. r.0 == key) (λ r. is_counted r.0) (rows_of keys) row e all in
+    let same : row.0 ≡ key = eqb-true row.0 key its.1 in subst (λ k. is_counted k ≡ true) same its.0
+
+has_keys : (object : ℕ × Table × Table) → Bool
+has_keys object = is_type object.0 && list_all (λ row. is_counted row.0) (rows_of object.1)
+
+-- the types of objects, with the tables of their keys and ids
+objects : List (ℕ × Table × Table)
+objects =
+    (131073, DeviceKeys, DeviceEventId) ∷ (131074, NodeKeys, Node) ∷ (196610, CommandNodeKeys, CommandNode) ∷
+    (262145, PropInfoKeys, ParamId) ∷ (262146, PropsKeys, ParamId) ∷ (262147, FormatKeys, ParamId) ∷
+    (262148, BuffersKeys, ParamId) ∷ (262149, ParamMetaKeys, ParamId) ∷ (262150, IOKeys, ParamId) ∷
+    (262151, ProfileKeys, ParamId) ∷ (262152, PortConfigKeys, ParamId) ∷ (262153, RouteKeys, ParamId) ∷
+    (262154, ProfilerKeys, ParamId) ∷ (262155, LatencyKeys, ParamId) ∷ (262156, ProcessLatencyKeys, ParamId) ∷ []
+
+-- only objects of these types have keys with paths, which are counted
+counted : (object : Option (ℕ × Table × Table)) (type key : ℕ) (path : List ℕ) → object_at type ≡ object →
+    path_of (option_map_or (λ o. o.1) object Nothing) key ≡ Some path → (is_type type ≡ true) × (is_counted key ≡ true)
+unfolding has_keys is_type objects
+counted None type key path e is = absurd (some_none path is)
+counted (Some object) type key path e is =
+    let its = found (λ o. o.0 == type) has_keys objects object e refl in
+    let same : object.0 ≡ type = eqb-true object.0 type its.1 in
+    let parts = both (is_type object.0) (list_all (λ row. is_counted row.0) (rows_of object.1)) its.0 in
+    (subst (λ t. is_type t ≡ true) same parts.0, row_counted object.1 _ key path refl parts.1 is)
+
+-- what holds of numbers below one, and of it, holds of those up to it
+pub one_more : (P : ℕ → Type 0) (start at : ℕ) → ((n : ℕ) → start ≤ n → n < at → P n) → P at → (n : ℕ) → start ≤ n → n < at + 1 → P n
+one_more P start at before is n low high = elim (cases_eq n at) [
+  | inl same ↦ subst P (sym same) is
+  | inr other ↦ before n low (omega (arith, high, other))
+]
+
+or_right : (a b : Bool) → b ≡ true → (a || b) ≡ true
+or_right true b is = refl
+or_right false b is = is
+
+either : (a b : Bool) → (a || b) ≡ true → (a ≡ true) ⊎ (b ≡ true)
+either true b is = inl refl
+either false b is = inr is
+
+within : (low high n : ℕ) → (nat_le low n && nat_lt n high) ≡ true → (low ≤ n) × (n < high)
+within low high n is = let parts = both (nat_le low n) (nat_lt n high) is in (leb-true low n parts.0, leb-true (suc n) high parts.1)
+
+-- a name is a key's number
+pub by_number : (name : List ℕ) → ((key : ℕ) × (key < 2 ^ 32) × (decimal key ≡ name)) → HasKeyNamed name
+by_number name is =
+    let digits : bytes_eq (decimal is.0) name ≡ true = (bytes_eq-Decides (decimal is.0) name).1 is.2 in
+    (0, is.0, is.1, or_right (option_map_or (λ path. is_end_of path name) (path_of (keys_of (record { 0 = 0 })) is.0) false) (bytes_eq (decimal is.0) name) digits)
+
+-- or else a key's name
+has_path : (path : Option (List ℕ)) (key : ℕ) (name : List ℕ) → decimal key ≢ name → (option_map_or (λ p. is_end_of p name) path false || bytes_eq (decimal key) name) ≡ true →
+    (p : List ℕ) × (path ≡ Some p)
+has_path None key name other is = absurd (other ((bytes_eq-Decides (decimal key) name).0 is))
+has_path (Some p) key name other is = (p, refl)
+
+pub by_no_name : (name : List ℕ) → ((key : ℕ) → key < 2 ^ 32 → decimal key ≢ name) →
+    ((type key : ℕ) → 131073 ≤ type → type < 131075 → is_counted key ≡ true → is_named (keys_of (record { 0 = type })) key name ≡ false) →
+    ((type key : ℕ) → 196610 ≤ type → type < 196611 → is_counted key ≡ true → is_named (keys_of (record { 0 = type })) key name ≡ false) →
+    ((type key : ℕ) → 262145 ≤ type → type < 262157 → is_counted key ≡ true → is_named (keys_of (record { 0 = type })) key name ≡ false) → ¬ (HasKeyNamed name)
+unfolding is_type
+by_no_name name number first second third has =
+    let type = has.0 in
+    let key = has.1 in
+    let path = has_path (path_of (keys_of (record { 0 = type })) key) key name (number key has.2) has.3 in
+    let its = counted (object_at type) type key path.0 refl path.1 in
+    let unnamed : is_named (keys_of (record { 0 = type })) key name ≡ false → ⊥ = λ e. true≢false (sym has.3 ∙ e) in
+    elim (either _ _ its.0) [
+      | inl t ↦ let at = within 131073 131075 type t in unnamed (first type key at.0 at.1 its.1)
+      | inr others ↦ elim (either _ _ others) [
+        | inl t ↦ let at = within 196610 196611 type t in unnamed (second type key at.0 at.1 its.1)
+        | inr t ↦ let at = within 262145 262157 type t in unnamed (third type key at.0 at.1 its.1)
+      ]
+    ]
+
+-- ---- Numbers
+
+number_in : {E : Type 0} → Result ℕ E → Option ℕ
+number_in (Ok n) = Some n
+number_in (Err e) = None
+
+-- the number that is parsed has these digits
+pub parsed : {E : Type 0} (r : Result ℕ E) (n key : ℕ) (name text : List ℕ) (is : Bool) → r ≡ Ok n → r ≡ Ok key → text ≡ decimal n →
+    is ≡ bytes_eq text name → decimal key ≡ name → is ≡ false → ⊥
+unfolding number_in value_or
+parsed r n key name text is first second written tested digits differs =
+    let same : n ≡ key = ap (value_or 0) (ap number_in (sym first ∙ second)) in
+    true≢false (sym ((bytes_eq-Decides text name).1 (written ∙ ap decimal same ∙ digits)) ∙ sym tested ∙ differs)
+
+pub not_parsed : {E : Type 0} (r : Result ℕ E) (e : E) (key : ℕ) → r ≡ Err e → r ≡ Ok key → ⊥
+unfolding number_in
+not_parsed r e key first second = some_none key (ap number_in (sym first ∙ second))

@@ -1,0 +1,18 @@
+-- Names that keys have: docs/TEXT.md, "A part of an input".
+use Rattle.std.specs.Prelude.{◌≡◌, ◌<◌, ◌+◌, ◌^◌, ◌&&◌, ◌||◌, ℕ, Bool, true, List, nat_le, nat_lt}
+use Rattle.spa_names.specs.Lookup.{keys_of}
+use Rattle.spa_text_commands.specs.Selection.{is_named}
+
+-- a key of objects of some type has this name, or this number
+abbrev pub HasKeyNamed : (name : List ℕ) → Type 0
+HasKeyNamed name = (type : ℕ) × (key : ℕ) × (key < 2 ^ 32) × (is_named (keys_of (record { 0 = type })) key name ≡ true)
+
+-- Keys that have names are counted from these numbers on, and there are fewer than 32 from each. Only private clauses
+-- cite these.
+abbrev pub is_counted_from : (start key : ℕ) → Bool
+is_counted_from start key = nat_le start key && nat_lt key (start + 32)
+
+abbrev pub is_counted : ℕ → Bool
+is_counted key =
+    is_counted_from 0 key || (is_counted_from 256 key || (is_counted_from 65536 key
+    || (is_counted_from 131072 key || is_counted_from 524288 key)))

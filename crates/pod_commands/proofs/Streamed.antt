@@ -8,7 +8,7 @@ use Rattle.spa_recordings.specs.declared.reading.Reading.{Reading}
 use Rattle.spa_recordings.specs.Streaming.{EndsAtPod, MakesFirst, Stops, Streams}
 use Rattle.spa_recordings.specs.declared.streaming.Stop.{Stop}
 use Rattle.spa_recordings.specs.declared.streaming.Stop.TheVariants as stop
-use Rattle.pod_commands.specs.Answers.{Gets, Gives, IsPlain, IsPrinted, IsShown, IsShownIn, IsStreamed, IsUnread, IsWrittenAs, Outlet, outlet}
+use Rattle.pod_commands.specs.Answers.{Gets, Gives, IsExcluded, IsPlain, IsPrinted, IsShown, IsShownIn, IsStreamed, IsUnread, IsWrittenAs, Outlet, outlet}
 use Rattle.pod_commands.specs.Inputs.{AreMade, IsKnown, IsOpened, content_of, left_behind}
 use Rattle.pod_commands.specs.Sending.{IsSent}
 use Rattle.pod_commands.specs.StreamLaws.{nothing_written}
@@ -18,6 +18,8 @@ use Rattle.pod_commands.specs.declared.answer.Failure.{Failure}
 use Rattle.pod_commands.specs.declared.answer.Failure.TheVariants.{Pods, Texts, Pair, Lists, OutOfMemory, Unread, Unwritten}
 use Rattle.pod_commands.specs.declared.answer.Answer.{Answer}
 use Rattle.pod_commands.specs.declared.answer.Answer.TheVariants.{Done, Shown, Misused, Refused}
+use Rattle.pod_commands.specs.declared.misuse.Excluded.{Excluded}
+use Rattle.pod_commands.specs.declared.misuse.Misuse.TheVariants.{WithStream, WithPart}
 use Rattle.pod_commands.specs.declared.request.Fate.{Fate}
 use Rattle.pod_commands.specs.declared.request.Streaming.{Streaming}
 use Rattle.pod_commands.specs.declared.request.Streaming.TheVariants as streaming
@@ -205,9 +207,9 @@ part_written s target remaining holds names old new why b = (b, λ name. refl)
 
 -- other options are misuse
 pub misused : (s : Streaming) (reading : Reading) (fate : Fate) (target : Option (Bor (List ℕ))) (remaining : Option (List ℕ))
-    (holds : List ℕ → Option (List ℕ)) (names : List (Bor (List ℕ))) (old : Option (List ℕ)) → ¬ (IsPlain reading fate target) →
-    IsStreamed s reading fate Misused remaining names (outlet target old old holds holds)
-misused s reading fate target remaining holds names old n = inr (n, (refl, untouched target old holds))
+    (holds : List ℕ → Option (List ℕ)) (names : List (Bor (List ℕ))) (old : Option (List ℕ)) (other : Excluded) →
+    IsExcluded reading fate target other → IsStreamed s reading fate (Misused (WithStream other)) remaining names (outlet target old old holds holds)
+misused s reading fate target remaining holds names old other e = inr (other, e, (refl, untouched target old holds))
 
 -- without them it is done
 pub streamed : (s : Streaming) (reading : Reading) (fate : Fate) (target : Option (Bor (List ℕ))) (answer : Answer) (remaining : Option (List ℕ))
@@ -243,9 +245,9 @@ unshown_lines printing target remaining holds names old = inl (inl refl, untouch
 
 -- with other options it is misuse, and without them it is done
 pub not_printed : (printing : Printing) (reading : Reading) (fate : Fate) (target : Option (Bor (List ℕ))) (remaining : Option (List ℕ))
-    (holds : List ℕ → Option (List ℕ)) (names : List (Bor (List ℕ))) (old : Option (List ℕ)) → ¬ (IsPlain reading fate None) →
-    IsPrinted printing reading fate Misused remaining names (outlet target old old holds holds)
-not_printed printing reading fate target remaining holds names old n = inr (n, (refl, untouched target old holds))
+    (holds : List ℕ → Option (List ℕ)) (names : List (Bor (List ℕ))) (old : Option (List ℕ)) (other : Excluded) →
+    IsExcluded reading fate None other → IsPrinted printing reading fate (Misused (WithPart other)) remaining names (outlet target old old holds holds)
+not_printed printing reading fate target remaining holds names old other e = inr (other, e, (refl, untouched target old holds))
 
 pub printed : (printing : Printing) (reading : Reading) (fate : Fate) (target : Option (Bor (List ℕ))) (answer : Answer) (remaining : Option (List ℕ))
     (names : List (Bor (List ℕ))) (old new : Option (List ℕ)) (before after : List ℕ → Option (List ℕ)) → IsPlain reading fate None →

@@ -143,7 +143,7 @@ read_again (Refused why) r s names o may m h =
     )
 read_again Differs r s names o may m h = absurd h
 read_again (Passed pods) r s names o may m h = absurd h
-read_again Misused r s names o may m h = absurd h
+read_again (Misused why) r s names o may m h = absurd h
 read_again (Said error) r s names o may m h = absurd h
 
 -- what is checked can be rewritten

@@ -14,7 +14,8 @@ use Rattle.clap.specs.declared.error.kind.ErrorKind.TheVariants as kind
 use Rattle.spa_device.specs.Whole.{IsAllOf}
 use Rattle.spa_recordings.specs.declared.going_on.Refused.{Refused as OfRefused}
 use Rattle.spa_recordings.specs.declared.reading.Reading.{Reading}
-use Rattle.spa_recordings.specs.declared.reading.Reading.TheVariants.{Exact}
+use Rattle.spa_recordings.specs.declared.going_on.Refused.TheVariants.{LeftOut, Kept}
+use Rattle.spa_recordings.specs.declared.reading.Reading.TheVariants.{Exact, Lenient}
 use Rattle.spa_refusals.specs.Refusals.{refusal_text}
 use Rattle.spa_refusals.specs.declared.several.NamedRefusal.{NamedRefusal}
 use Rattle.spa_text_commands.specs.Answers as text
@@ -33,6 +34,10 @@ use Rattle.pod_commands.specs.declared.answer.Answer.{Answer}
 use Rattle.pod_commands.specs.declared.answer.Answer.TheVariants.{Done, Differs, Passed, Shown, Refused, Misused, Said}
 use Rattle.pod_commands.specs.declared.answer.Failure.{Failure}
 use Rattle.pod_commands.specs.declared.answer.Failure.TheVariants.{Pods, Texts, Pair, Lists, OutOfMemory, Unread, Unwritten}
+use Rattle.pod_commands.specs.declared.misuse.Excluded.{Excluded}
+use Rattle.pod_commands.specs.declared.misuse.Excluded.TheVariants as excluded
+use Rattle.pod_commands.specs.declared.misuse.Misuse.{Misuse}
+use Rattle.pod_commands.specs.declared.misuse.Misuse.TheVariants.{TooFew, TooMany, WithStream, WithPart}
 use Rattle.pod_commands.specs.declared.request.Fate.{Fate}
 use Rattle.pod_commands.specs.declared.request.Fate.TheVariants.{Stops, GoesOn}
 use Rattle.pod_commands.specs.declared.request.Making.{Making}
@@ -84,7 +89,7 @@ OnAnswer Differs IfDone IfDiffers IfRefused = IfDiffers
 OnAnswer (Refused why) IfDone IfDiffers IfRefused = IfRefused why
 OnAnswer (Passed pods) IfDone IfDiffers IfRefused = ⊥
 OnAnswer (Shown refused) IfDone IfDiffers IfRefused = ⊥
-OnAnswer Misused IfDone IfDiffers IfRefused = ⊥
+OnAnswer (Misused misuse) IfDone IfDiffers IfRefused = ⊥
 OnAnswer (Said error) IfDone IfDiffers IfRefused = ⊥
 
 -- something that this holds of was written
@@ -139,9 +144,21 @@ AreTwoApart work remaining holds n m why =
 abbrev pub IsPlain : Reading → Fate → Option (Bor (List ℕ)) → Type 0
 IsPlain reading fate target = (reading ≡ Exact) × (fate ≡ Stops) × (target ≡ None)
 
--- another number of inputs than the word takes, or options that don't go together
-abbrev pub IsMisuse : Answer → Outlet → Type 0
-IsMisuse answer o = (answer ≡ Misused) × IsUntouched o
+-- `--stream` and the options for parts exclude this option, which is given
+abbrev pub IsExcluded : Reading → Fate → Option (Bor (List ℕ)) → Excluded → Type 0
+IsExcluded reading fate target excluded.Lenient = reading ≡ Lenient
+IsExcluded reading fate target excluded.KeepGoing = fate ≡ GoesOn LeftOut
+IsExcluded reading fate target excluded.KeepRefused = fate ≡ GoesOn Kept
+IsExcluded reading fate target excluded.Output = ¬ (target ≡ None)
+
+-- what is wrong with another number of inputs than a word takes
+abbrev pub misuse_of : List (Bor (List ℕ)) → Misuse
+misuse_of (n ∷ m ∷ other ∷ ns) = TooMany other
+misuse_of _ = TooFew
+
+-- the command line is wrong, for this reason
+abbrev pub IsMisuse : Misuse → Answer → Outlet → Type 0
+IsMisuse why answer o = (answer ≡ Misused why) × IsUntouched o
 
 -- what an answer says of two inputs that are compared, and of the word with another number of them
 abbrev pub IsCompared : Answer → (remaining : Option (List ℕ)) → List (Bor (List ℕ)) → Outlet → Type 0
@@ -149,7 +166,7 @@ IsCompared answer remaining (n ∷ m ∷ []) o =
     OnAnswer answer (OfTwo remaining o.before n.now m.now SayTheSame × Gets o.target o [])
     (Gives (λ out. OfTwo remaining o.before n.now m.now (Differ out)) o)
     (Refuses (λ out. OfTwo remaining o.before n.now m.now (Compare out)) (AreNotCompared remaining o.before n.now m.now) o)
-IsCompared answer remaining _ o = IsMisuse answer o
+IsCompared answer remaining names o = IsMisuse (misuse_of names) answer o
 
 -- what it says of inputs in which two objects agree
 abbrev pub IsAgreed : Work → Answer → (remaining : Option (List ℕ)) → List (Bor (List ℕ)) → Outlet → Type 0
@@ -159,7 +176,7 @@ IsAgreed work answer remaining (n ∷ []) o =
 IsAgreed work answer remaining (n ∷ m ∷ []) o =
     OnAnswer answer (Gives (AgreeTwo work remaining o.before n.now m.now) o) ⊥
     (Refuses (AgreeTwo work remaining o.before n.now m.now) (AreTwoApart work remaining o.before n.now m.now) o)
-IsAgreed work answer remaining _ o = IsMisuse answer o
+IsAgreed work answer remaining names o = IsMisuse (misuse_of names) answer o
 
 -- what it says of work on inputs that are read so and refused whole
 abbrev pub IsMadeWhole : Reading → Making → Answer → (remaining : Option (List ℕ)) → List (Bor (List ℕ)) → Outlet → Type 0
@@ -218,11 +235,11 @@ IsWrittenAs streaming (Shown refused) remaining names o =
 IsWrittenAs streaming (Refused why) remaining names o = IsBroken streaming remaining o.before names o.old o.new why × KeepsFiles o
 IsWrittenAs streaming _ remaining names o = ⊥
 
--- what it says of that where other options may be given: with these, and with a file to write, it is misuse
+-- what it says of that where other options may be given: one of these, or a file to write, is misuse
 abbrev pub IsStreamed : Streaming → Reading → Fate → Answer → (remaining : Option (List ℕ)) → List (Bor (List ℕ)) → Outlet → Type 0
 IsStreamed streaming reading fate answer remaining names o =
     (IsPlain reading fate o.target × IsWrittenAs streaming answer remaining names o)
-    ⊎ (¬ (IsPlain reading fate o.target) × IsMisuse answer o)
+    ⊎ ((other : Excluded) × IsExcluded reading fate o.target other × IsMisuse (WithStream other) answer o)
 
 -- why not all inputs are printed in a file: the work stops at one of them, or memory for what is printed ran out
 abbrev pub AreUnshown : Printing → (remaining : Option (List ℕ)) → (holds : List ℕ → Option (List ℕ)) → List (Bor (List ℕ)) → Failure → Type 0
@@ -248,7 +265,8 @@ IsShown printing (Some name) answer remaining names o = IsShownIn printing answe
 -- what it says of that where other options may be given: with these it is misuse
 abbrev pub IsPrinted : Printing → Reading → Fate → Answer → (remaining : Option (List ℕ)) → List (Bor (List ℕ)) → Outlet → Type 0
 IsPrinted printing reading fate answer remaining names o =
-    (IsPlain reading fate None × IsShown printing o.target answer remaining names o) ⊎ (¬ (IsPlain reading fate None) × IsMisuse answer o)
+    (IsPlain reading fate None × IsShown printing o.target answer remaining names o)
+    ⊎ ((other : Excluded) × IsExcluded reading fate None other × IsMisuse (WithPart other) answer o)
 
 -- what it says of a word's work on inputs of these names, where this is left of the standard input
 abbrev pub IsDone : Word → Answer → (remaining : Option (List ℕ)) → List (Bor (List ℕ)) → Outlet → Type 0
@@ -266,8 +284,8 @@ pub data IsAnswer (words : List (Bor (List ℕ))) (is_terminal : Bool) (remainin
       IsAnswer words is_terminal remaining old new before after answer
   said : (error : Error) → IsAmong (kind_of error) (fault_of program (texts words)) → Keeps old new → ((name : List ℕ) → after name ≡ before name) →
       IsAnswer words is_terminal remaining old new before after (Said error)
-  nothing : AsksNothing words → Keeps old new → ((name : List ℕ) → after name ≡ before name) →
-      IsAnswer words is_terminal remaining old new before after Misused
+  nothing : (why : Misuse) → AsksNothing words why → Keeps old new → ((name : List ℕ) → after name ≡ before name) →
+      IsAnswer words is_terminal remaining old new before after (Misused why)
   no_memory : Keeps old new → ((name : List ℕ) → after name ≡ before name) →
       IsAnswer words is_terminal remaining old new before after (Refused OutOfMemory)
 
@@ -286,7 +304,7 @@ status_of Differs = 1
 status_of (Passed pods) = 1
 status_of (Shown refused) = 1
 status_of (Refused why) = 1
-status_of Misused = 2
+status_of (Misused why) = 2
 status_of (Said error) = status_of_kind (kind_of error)
 
 -- what is said of an input's name

@@ -3,6 +3,7 @@ pub mod ColourLaws
 pub mod Colours
 pub mod Inputs
 pub mod Making
+pub mod Misuses
 pub mod Program
 pub mod Requests
 pub mod Sending

@@ -1,4 +1,4 @@
--- The command line, in clap's terms: `pod WORD [-o FILE] [FILE ..]`.
+-- The command line, in clap's terms: `pod WORD [OPTION ..] [FILE ..]`.
 use Rattle.std.specs.Prelude.{◌-◌, ◌^◌, codes, Some, true}
 use Rattle.clap.specs.Words.{App, Rule, Text, new_app, new_rule, with_rule, with_subcommand}
 use Rattle.clap.specs.declared.builder.action.ArgAction.TheVariants.{Append, SetTrue}
@@ -28,17 +28,25 @@ nth = record (valued (codes "nth")) { parser = Some (Unsigned 1 (2 ^ 64 - 1)) }
 abbrev pub stream : Rule
 stream = flag (codes "stream")
 
--- a word that takes files
+-- a word that reads files
+abbrev pub reader : Text → App
+reader name = with_rule (new_app name) files
+
+-- a word that writes, too
 abbrev pub word : Text → App
-word name = with_rule (with_rule (new_app name) files) output
+word name = with_rule (reader name) output
 
 -- a word that goes over pods takes `--lenient` and `--keep-going` too
-abbrev pub over_pods : Text → App
-over_pods name = with_rule (with_rule (word name) (flag (codes "lenient"))) (flag (codes "keep-going"))
+abbrev pub over_pods : App → App
+over_pods app = with_rule (with_rule app (flag (codes "lenient"))) (flag (codes "keep-going"))
+
+-- `check` writes nothing
+abbrev pub check : App
+check = over_pods (reader (codes "check"))
 
 -- one that writes pods for pods takes `--keep-refused` too
 abbrev pub to_pods : Text → App
-to_pods name = with_rule (over_pods name) (flag (codes "keep-refused"))
+to_pods name = with_rule (over_pods (word name)) (flag (codes "keep-refused"))
 
 -- `show` and `json` print parts of inputs, and in colours
 abbrev pub with_parts : App → App
@@ -50,7 +58,7 @@ show = with_rule (with_parts (word (codes "show"))) stream
 
 -- `json` takes `--pretty`, too
 abbrev pub json : App
-json = with_rule (with_parts (with_rule (over_pods (codes "json")) (flag (codes "pretty")))) stream
+json = with_rule (with_parts (with_rule (over_pods (word (codes "json"))) (flag (codes "pretty")))) stream
 
 -- `show`, `json` and `rewrite` take `--stream`
 abbrev pub rewrite : App
@@ -77,7 +85,7 @@ with_json app = with_subcommand (with_subcommand app json.top) read.top
 
 abbrev pub with_writers : App → App
 with_writers app =
-    with_subcommand (with_subcommand (with_subcommand app rewrite.top) (to_pods (codes "fixate")).top) (over_pods (codes "check")).top
+    with_subcommand (with_subcommand (with_subcommand app rewrite.top) (to_pods (codes "fixate")).top) check.top
 
 abbrev pub with_pairs : App → App
 with_pairs app = with_word (with_word (with_word app (codes "diff")) (codes "meet")) (codes "filter")

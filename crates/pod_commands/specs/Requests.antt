@@ -1,5 +1,5 @@
 -- What the words ask for.
-use Rattle.std.specs.Prelude.{◌≡◌, ◌≢◌, ◌<◌, ◌^◌, ◌⊎◌, ◌||◌, ⊤, ℕ, codes, Bool, true, false, not, List, [], ◌∷◌, Option, Some, None, IsSomeAnd, is_some, if◌then◌else◌, option_map, unwrap_or}
+use Rattle.std.specs.Prelude.{◌≡◌, ◌≢◌, ◌<◌, ◌^◌, ◌⊎◌, ◌||◌, ⊤, ℕ, codes, Bool, true, false, not, List, [], ◌∷◌, Option, Some, None, IfSome, is_some, if◌then◌else◌, option_map, unwrap_or}
 use Rattle.std.specs.Str.{bytes_eq}
 use Rattle.std.specs.Str.Parse.{IsNumeral, digits_value, without_leading_plus}
 use Rattle.std.specs.Borrow.{Bor}
@@ -7,6 +7,8 @@ use Rattle.clap.specs.Walk.{texts}
 use Rattle.clap.specs.Words.{Row, Text, all_of, first_of, subcommand_of}
 use Rattle.clap.specs.Faults.{fault_of}
 use Rattle.pod_commands.specs.Program.{program}
+use Rattle.pod_commands.specs.declared.misuse.Misuse.{Misuse}
+use Rattle.pod_commands.specs.declared.misuse.Misuse.TheVariants.{NoWord, Nth, Color, Key}
 use Rattle.pod_commands.specs.declared.colours.Colours.{Colours}
 use Rattle.pod_commands.specs.declared.colours.Colours.TheVariants.{Off, On}
 use Rattle.pod_commands.specs.declared.request.Fate.{Fate}
@@ -24,6 +26,7 @@ use Rattle.spa_recordings.specs.declared.going_on.Refused.TheVariants.{LeftOut, 
 use Rattle.spa_recordings.specs.declared.reading.Reading.{Reading}
 use Rattle.spa_recordings.specs.declared.reading.Reading.TheVariants.{Exact, Lenient}
 use Rattle.spa_meet_commands.specs.declared.pair.Work.TheVariants.{Negotiate, Filter}
+use Rattle.spa_text_commands.specs.KeyNames.{HasKeyNamed}
 use Rattle.spa_text_commands.specs.declared.printing.Layout.{Layout}
 use Rattle.spa_text_commands.specs.declared.printing.Layout.TheVariants.{OneLine, Indented}
 use Rattle.spa_text_read.specs.declared.fitting.Strictness.{Strictness}
@@ -118,29 +121,43 @@ abbrev pub goes_to_terminal : (is_terminal : Bool) → (output : Option Text) �
 goes_to_terminal is_terminal None = is_terminal
 goes_to_terminal is_terminal (Some name) = false
 
+-- a key's name is given, or its number, if `--key` is
+abbrev pub IsKey : Option Text → Option Text → Type 0
+IsKey given key = (key ≡ given) × IfSome given HasKeyNamed
+
 -- these options are given
 pub record AreGiven (rows : List Row) (is_terminal : Bool) (options : Options) : Type 0 where
   pub layout : options.layout ≡ layout_in rows
   pub colours : AreColours (first_of (codes "color") rows) (goes_to_terminal is_terminal (first_of (codes "output") rows)) options.colours
   pub hex : options.hex ≡ is_given (codes "hex") rows
   pub nth : IsNumber (first_of (codes "nth") rows) options.selection.nth
-  pub key : option_map (λ s. s.now) options.selection.key ≡ first_of (codes "key") rows
+  pub key : IsKey (first_of (codes "key") rows) (option_map (λ s. s.now) options.selection.key)
 
--- a number is asked for by other text, or one that is too large
-abbrev pub IsNoNumber : Option Text → Type 0
-IsNoNumber given =
-    IsSomeAnd given (λ text. ¬ (IsNumeral 10 (without_leading_plus text) × (digits_value 10 (without_leading_plus text) < 2 ^ 64)))
+-- the N of `--nth` is no number, or one that is too large
+abbrev pub HasNoNumber : Option Text → Misuse → Type 0
+HasNoNumber given (Nth text) =
+    (given ≡ Some text.now)
+    × ¬ (IsNumeral 10 (without_leading_plus text.now) × (digits_value 10 (without_leading_plus text.now) < 2 ^ 64))
+HasNoNumber given _ = ⊥
 
 -- the WHEN of `--color` is another word
-abbrev pub IsUnknownWhen : Option Text → Type 0
-IsUnknownWhen given =
-    IsSomeAnd given (λ when. (when ≢ codes "auto") × (when ≢ codes "always") × (when ≢ codes "never"))
+abbrev pub HasUnknownWhen : Option Text → Misuse → Type 0
+HasUnknownWhen given (Color when) =
+    (given ≡ Some when.now) × (when.now ≢ codes "auto") × (when.now ≢ codes "always") × (when.now ≢ codes "never")
+HasUnknownWhen given _ = ⊥
 
--- An option has a value that is none of its own. Only that of `--color` comes so far: clap refuses that of `--nth` itself,
--- by its parser. The `ValuesPass` that `try_get_matches_from` ensures is of the options of the program, and no clause is of
+-- the NAME of `--key` is none of a key's, and no key's number
+abbrev pub HasUnknownKey : Option Text → Misuse → Type 0
+HasUnknownKey given (Key name) = (given ≡ Some name.now) × ¬ (HasKeyNamed name.now)
+HasUnknownKey given _ = ⊥
+
+-- An option has a value that is none of its own. That of `--nth` doesn't come so far: clap refuses it itself, by its
+-- parser. The `ValuesPass` that `try_get_matches_from` ensures is of the options of the program, and no clause is of
 -- those of a word; it is tested.
-abbrev pub HasUnknownValue : List Row → Type 0
-HasUnknownValue rows = IsNoNumber (first_of (codes "nth") rows) ⊎ IsUnknownWhen (first_of (codes "color") rows)
+abbrev pub HasUnknownValue : List Row → Misuse → Type 0
+HasUnknownValue rows why =
+    HasNoNumber (first_of (codes "nth") rows) why ⊎ HasUnknownWhen (first_of (codes "color") rows) why
+    ⊎ HasUnknownKey (first_of (codes "key") rows) why
 
 -- how inputs are read: leniently where `--lenient` is given
 abbrev pub reading_by : Bool → Reading
@@ -215,12 +232,18 @@ pub record Asks (words : List (Bor (List ℕ))) (is_terminal : Bool) (request : 
   pub names : texts request.names.items ≡ names_in rows
   pub target : option_map (λ s. s.now) request.target ≡ first_of (codes "output") rows
 
+-- no word of the program's is named
+abbrev pub NamesNoWord : List (Bor (List ℕ)) → Type 0
+NamesNoWord words =
+    (word : Word) (rows : List Row) → subcommand_of program (texts words) ≡ Some (name_of word, rows) → ⊥
+
 -- clap accepts the words, and they name no word of the program's, which clap never does, or an option has a value that is
 -- none of its own
-pub record AsksNothing (words : List (Bor (List ℕ))) : Type 0 where
+pub record AsksNothing (words : List (Bor (List ℕ))) (why : Misuse) : Type 0 where
   pub accepted : fault_of program (texts words) ≡ []
-  pub nothing : ((word : Word) (rows : List Row) → subcommand_of program (texts words) ≡ Some (name_of word, rows) → ⊥)
-      ⊎ ((name : Text) × (rows : List Row) × (subcommand_of program (texts words) ≡ Some (name, rows)) × HasUnknownValue rows)
+  pub nothing : ((why ≡ NoWord) × NamesNoWord words)
+      ⊎ ((name : Text) × (rows : List Row) × (subcommand_of program (texts words) ≡ Some (name, rows))
+      × HasUnknownValue rows why)
 
 -- All of each input is printed as JSON. Only private clauses cite it.
 abbrev pub IsAllAsJson : Style → Manner → (streams : Bool) → Word → Type 0

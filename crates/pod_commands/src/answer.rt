@@ -2,7 +2,9 @@
 ghost use Rattle.std.specs.Prelude.{◌≡◌, ◌++◌, OnOk, length};
 ghost use Rattle.std.specs.Io.KnownBytes.{Appends};
 ghost use Rattle.pod_commands.specs.Answers.{count_line, line_of, line_of_pod, lines_of_pods, name_text, status_of, target_text};
+ghost use Rattle.pod_commands.specs.Misuses.{misuse_line};
 
+use crate::misuse::Misuse;
 use clap::Error;
 use spa_refusals::{NamedRefusal, Refusal};
 use std::alloc::AllocError;
@@ -22,8 +24,8 @@ pub enum Answer<'a> {
     Shown(usize),
     /// The work was refused, for this reason.
     Refused(Failure<'a>),
-    /// The word takes another number of inputs, or other options beside those that are given.
-    Misused,
+    /// The command line is wrong, for this reason.
+    Misused(Misuse<'a>),
     /// The words ask for help or the version, or are none of the program's.
     Said(Error),
 }
@@ -40,7 +42,7 @@ impl Answer<'_> {
             Answer::Passed(_) => 1,
             Answer::Shown(_) => 1,
             Answer::Refused(_) => 1,
-            Answer::Misused => 2,
+            Answer::Misused(_) => 2,
             Answer::Said(error) => { if error.use_stderr() { 2 } else { 0 } }
         }
     }
@@ -117,10 +119,6 @@ impl From<AllocError> for Failure<'_> {
     }
 }
 
-/// What is said of a word with another number of inputs than it takes, with options that don't go together, or another word of `--color`.
-const MISUSE: &str =
-    "pod: diff takes two FILEs, meet and filter one or two, --color auto, always or never; --stream, --nth, --key and --hex go with --pretty, --color and one another alone; pod --help says more";
-
 /// Writes what is said of this answer: help and the version to the output, a refusal or a misuse to the other writer, of work that was
 /// done nothing.
 pub fn tell<W: Write, E: Write>(
@@ -134,7 +132,7 @@ pub fn tell<W: Write, E: Write>(
         Answer::Passed(pods) => tell_pods(faults, pods.as_slice()),
         Answer::Shown(refused) => tell_count(faults, *refused),
         Answer::Refused(why) => tell_failure(faults, why),
-        Answer::Misused => writeln!(faults, "{MISUSE}"),
+        Answer::Misused(why) => tell_misuse(faults, why),
         Answer::Said(error) => {
             if error.use_stderr() {
                 write!(faults, "{error}")
@@ -169,6 +167,13 @@ fn tell_pod<E: Write>(faults: &mut E, pod: &NamedRefusal<'_>) -> io::Result<()>
     ensures written { OnOk result (Appends (E.contents faults.old) (E.contents faults.new) (line_of_pod pod.now)) }
 {
     writeln!(faults, "pod: {}: {}", shown_name(pod.name), pod.refusal)
+}
+
+/// Writes the line of a wrong command line.
+pub fn tell_misuse<E: Write>(faults: &mut E, why: &Misuse<'_>) -> io::Result<()>
+    ensures written { OnOk result (Appends (E.contents faults.old) (E.contents faults.new) (misuse_line why.now)) }
+{
+    writeln!(faults, "pod: {why}; try 'pod --help'")
 }
 
 /// Writes the line of a refusal.

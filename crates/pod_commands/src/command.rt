@@ -1,6 +1,6 @@
 //! The command line: the program's words, what each takes, and its help.
 ghost use Rattle.std.specs.Prelude.{◌≡◌, IfOk, false};
-ghost use Rattle.clap.specs.Words.{app_of, rule_of};
+ghost use Rattle.clap.specs.Words.{app_of, rule_of, with_rule};
 ghost use Rattle.clap.specs.declared.builder.command.Command.TheViews.{out-Command};
 ghost use Rattle.pod_commands.specs.Program as spec;
 
@@ -12,24 +12,26 @@ use std::alloc::{AllocError, Global};
 const VERSION: &str = "0.2.0";
 
 const ABOUT: &str =
-    "Shows, prints, reads, rewrites, fixates, checks and compares pods of PipeWire, and seeks what two of them agree on";
+    "Shows, prints, reads, rewrites, fixates, checks and compares pods of PipeWire, and finds what two objects agree on";
 
 /// What stands behind the help of the program.
 const EXAMPLES: &str =
-    "Without a FILE, and for a FILE named -, the standard input is read. But for show, --stream, --nth, --key and --hex, nothing is written before all input is accepted, or with --keep-going and --keep-refused read.
+    "Without a FILE, or where FILE is -, the standard input is read. show, --stream, --nth, --key and --hex write as input is read. Other output is written once all input is accepted, or with --keep-going and --keep-refused once it is read.
 
-Status: 0 the work is done; 1 an input is refused, two differ, or something can't be read or written; 2 the words ask for nothing.
+Status: 0 the work is done; 1 a pod is refused, two inputs differ, or something can't be read or written; 2 the command line is wrong.
 
-Example: cat props.pod route.pod | pod rewrite -o clean.pod";
+Example: cat props.pod route.pod | pod rewrite -o clean.pod
+
+Example: pod filter ours.pods theirs.pods | pod fixate | pod json";
 
 /// `FILE ..`
 fn files<'a>(alloc: Global) -> Arg<'a>
     ensures rule { rule_of result ≡ spec.files }
     ensures local { result.global ≡ false }
 {
-    Arg::new(alloc, "FILE")
-        .action(ArgAction::Append)
-        .help("An input; - is the standard input, and so is none")
+    Arg::new(alloc, "FILE").action(ArgAction::Append).help(
+        "An input; without one, or where it is -, the standard input is read",
+    )
 }
 
 /// `-o FILE`
@@ -41,7 +43,7 @@ fn output<'a>(alloc: Global) -> Arg<'a>
         .short('o')
         .long("output")
         .value_name("FILE")
-        .help("Writes this file, once all is made, and not the standard output")
+        .help("Writes to this file, once all output is there, and not to the standard output")
 }
 
 /// A flag of this name.
@@ -72,11 +74,25 @@ fn nth<'a>(alloc: Global) -> Arg<'a>
     ensures local { result.global ≡ false }
 {
     let help =
-        "Prints the N-th pod of each input alone, the first being 1; nothing of an input with fewer";
+        "Prints only the N-th pod of each input, counted from 1; nothing of an input with fewer pods";
     valued(alloc, "nth", "N", help).value_parser(ValueParser::Unsigned(1, u64::MAX))
 }
 
-/// A word of the program, with what help says of it and an example.
+/// A word that reads files, with what help says of it and an example.
+fn reader<'a>(
+    alloc: Global,
+    name: &'a str,
+    about: &'a str,
+    example: &'a str,
+) -> Result<Command<'a>, AllocError>
+    ensures app { IfOk result (λ it. app_of it ≡ spec.reader name.entry.now) }
+    ensures local { IfOk result (λ it. (out-Command it).has_globals ≡ false) }
+{
+    let bare = Command::new(alloc, name).about(about).after_help(example);
+    bare.arg(files(alloc))
+}
+
+/// A word that reads files and writes, with what help says of it and an example.
 fn word<'a>(
     alloc: Global,
     name: &'a str,
@@ -86,33 +102,42 @@ fn word<'a>(
     ensures app { IfOk result (λ it. app_of it ≡ spec.word name.entry.now) }
     ensures local { IfOk result (λ it. (out-Command it).has_globals ≡ false) }
 {
-    let bare = Command::new(alloc, name).about(about).after_help(example);
-    let with_files = bare.arg(files(alloc))?;
-    with_files.arg(output(alloc))
+    let plain = reader(alloc, name, about, example)?;
+    plain.arg(output(alloc))
 }
 
-/// A word that goes over pods, with what help says of it and an example.
-fn over_pods<'a>(
+/// A command with this flag, too.
+fn with_flag<'a>(
     alloc: Global,
+    command: Command<'a>,
     name: &'a str,
-    about: &'a str,
-    example: &'a str,
+    help: &'a str,
 ) -> Result<Command<'a>, AllocError>
-    ensures app { IfOk result (λ it. app_of it ≡ spec.over_pods name.entry.now) }
+    requires { (out-Command command).has_globals ≡ false }
+    ensures app { IfOk result (λ it. app_of it ≡ with_rule (app_of command.entry) (spec.flag name.entry.now)) }
     ensures local { IfOk result (λ it. (out-Command it).has_globals ≡ false) }
 {
-    let plain = word(alloc, name, about, example)?;
-    let lenient = flag(
+    command.arg(flag(alloc, name, help))
+}
+
+/// A word that goes over pods.
+fn over_pods<'a>(alloc: Global, command: Command<'a>) -> Result<Command<'a>, AllocError>
+    requires { (out-Command command).has_globals ≡ false }
+    ensures app { IfOk result (λ it. app_of it ≡ spec.over_pods (app_of command.entry)) }
+    ensures local { IfOk result (λ it. (out-Command it).has_globals ≡ false) }
+{
+    let with_lenient = with_flag(
         alloc,
+        command,
         "lenient",
-        "Reads as PipeWire does: what a pod conveys where it isn't exact",
-    );
-    let with_lenient = plain.arg(lenient)?;
-    with_lenient.arg(flag(
+        "Reads as PipeWire does, also pods that aren't encoded exactly",
+    )?;
+    with_flag(
         alloc,
+        with_lenient,
         "keep-going",
-        "Leaves refused pods out, and tells each; the status is 1 then",
-    ))
+        "Leaves refused pods out and names each of them on standard error; the status is 1 then",
+    )
 }
 
 /// A word that writes pods for pods, with what help says of it and an example.
@@ -125,11 +150,12 @@ fn to_pods<'a>(
     ensures app { IfOk result (λ it. app_of it ≡ spec.to_pods name.entry.now) }
     ensures local { IfOk result (λ it. (out-Command it).has_globals ≡ false) }
 {
-    let plain = over_pods(alloc, name, about, example)?;
-    plain.arg(flag(
+    let plain = word(alloc, name, about, example)?;
+    let with_reading = over_pods(alloc, plain)?;
+    with_reading.arg(flag(
         alloc,
         "keep-refused",
-        "Keeps refused pods as they are, and tells each; the status is 1 then",
+        "Copies refused pods unchanged and names each of them on standard error; the status is 1 then",
     ))
 }
 
@@ -141,7 +167,7 @@ fn stream<'a>(alloc: Global) -> Arg<'a>
     flag(
         alloc,
         "stream",
-        "Writes in blocks as input comes, in constant memory; what was written before a refusal stands",
+        "Writes each block of input before the next is read, in constant memory; what was written before a refused pod stays",
     )
 }
 
@@ -156,18 +182,18 @@ fn with_parts<'a>(alloc: Global, command: Command<'a>) -> Result<Command<'a>, Al
         alloc,
         "key",
         "NAME",
-        "Prints, in place of objects, the values under their keys of this name, or number",
+        "Prints only the values that objects have under the key of this name or number",
     ))?;
     let with_hex = with_key.arg(flag(
         alloc,
         "hex",
-        "Prints the bytes in hex: below the lines of each pod, or by json as a string",
+        "Prints bytes in hex: show below the lines of each pod, json as a string for each pod",
     ))?;
     with_hex.arg(valued(
         alloc,
         "color",
         "WHEN",
-        "Prints in colours: always, never, or auto, where the output is a terminal",
+        "Prints in colours: always, never, or auto, which is where the output is a terminal",
     ))
 }
 
@@ -179,7 +205,7 @@ fn show<'a>(alloc: Global) -> Result<Command<'a>, AllocError>
     let plain = word(
         alloc,
         "show",
-        "Shows pods, refused ones too, with names and what is inside them; the status is 1 where one is refused",
+        "Shows each pod as lines with names, also refused ones; the status is 1 if there are any",
         "Example: pod show --nth 17 --hex recording.pods",
     )?;
     let with_parts = with_parts(alloc, plain)?;
@@ -194,10 +220,24 @@ fn rewrite<'a>(alloc: Global) -> Result<Command<'a>, AllocError>
     let plain = to_pods(
         alloc,
         "rewrite",
-        "Writes each pod in its one encoding: padding zeros, true 1, nothing that the value doesn't say",
+        "Writes each pod in its canonical encoding: padding is zeros, true is 1, unused bytes are left out",
         "Example: pod rewrite --keep-going recording.pods -o clean.pods",
     )?;
     plain.arg(stream(alloc))
+}
+
+/// The word `check`.
+fn check<'a>(alloc: Global) -> Result<Command<'a>, AllocError>
+    ensures app { IfOk result (λ it. app_of it ≡ spec.check) }
+    ensures local { IfOk result (λ it. (out-Command it).has_globals ≡ false) }
+{
+    let bare = reader(
+        alloc,
+        "check",
+        "Checks that each input consists of pods that are accepted; writes nothing",
+        "Example: pod check *.pod && echo all are pods",
+    )?;
+    over_pods(alloc, bare)
 }
 
 /// The word `json`.
@@ -205,13 +245,14 @@ fn json<'a>(alloc: Global) -> Result<Command<'a>, AllocError>
     ensures app { IfOk result (λ it. app_of it ≡ spec.json) }
     ensures local { IfOk result (λ it. (out-Command it).has_globals ≡ false) }
 {
-    let plain = over_pods(
+    let bare = word(
         alloc,
         "json",
-        "Prints pods as JSON with names, each on a line",
+        "Prints each pod as a line of JSON with names",
         "Example: pod json --key rate formats.pods",
     )?;
-    let with_pretty = plain.arg(flag(alloc, "pretty", "Indents each text"))?;
+    let plain = over_pods(alloc, bare)?;
+    let with_pretty = plain.arg(flag(alloc, "pretty", "Indents the JSON"))?;
     let with_parts = with_parts(alloc, with_pretty)?;
     with_parts.arg(stream(alloc))
 }
@@ -224,13 +265,13 @@ fn read<'a>(alloc: Global) -> Result<Command<'a>, AllocError>
     let plain = word(
         alloc,
         "read",
-        "Reads JSON with names, and writes its pods",
+        "Reads JSON with names and writes it as pods",
         "Example: pod read --strict formats.json -o formats.pods",
     )?;
     plain.arg(flag(
         alloc,
         "strict",
-        "Refuses a value of another type than the one that belongs under its key",
+        "Refuses a value whose type isn't the one that PipeWire's tables have for its key",
     ))
 }
 
@@ -291,16 +332,11 @@ fn with_writers<'a>(alloc: Global, command: Command<'a>) -> Result<Command<'a>, 
     let fixate = to_pods(
         alloc,
         "fixate",
-        "Sets each unprotected choice of a top-level object to its default",
+        "Sets each choice in a top-level object to its default, unless its property is marked not to be fixated",
         "Example: pod fixate buffers.pod -o fixed.pod",
     )?;
     let second = first.subcommand(fixate)?;
-    let check = over_pods(
-        alloc,
-        "check",
-        "Writes nothing: each input has to consist of pods",
-        "Example: pod check *.pod && echo all are pods",
-    )?;
+    let check = check(alloc)?;
     second.subcommand(check)
 }
 
@@ -311,21 +347,21 @@ fn with_pairs<'a>(alloc: Global, command: Command<'a>) -> Result<Command<'a>, Al
         alloc,
         command,
         "diff",
-        "Prints the pods in which two FILEs differ; the status is 1 where they do",
+        "Compares the pods of two FILEs one by one and prints those that differ; the status is 1 if some do",
         "Example: pod diff before.pods after.pods",
     )?;
     let second = with_word(
         alloc,
         first,
         "meet",
-        "Writes the object in which two meet: those of one FILE, or the first pair of two FILEs",
+        "Negotiates: writes the object on which two agree, those of one FILE or the first pair of two FILEs that does",
         "Example: pod meet ours.pods theirs.pods | pod show",
     )?;
     with_word(
         alloc,
         second,
         "filter",
-        "Writes the object to which two are filtered: those of one FILE, or the first pair of two FILEs",
+        "Filters: writes the object of the values that two share, those of one FILE or the first pair of two FILEs that does",
         "Example: pod filter ours.pods theirs.pods | pod fixate",
     )
 }

@@ -7,6 +7,7 @@ pub mod colours;
 mod command;
 pub mod files;
 mod making;
+pub mod misuse;
 mod pairs;
 mod refusing;
 pub mod request;

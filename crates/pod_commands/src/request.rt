@@ -6,7 +6,7 @@ ghost use Rattle.clap.specs.Kinds.{HasKind};
 ghost use Rattle.clap.specs.Walk.{rows_of, texts};
 ghost use Rattle.clap.specs.Matches.{found_of};
 ghost use Rattle.pod_commands.specs.Program.{program};
-ghost use Rattle.pod_commands.specs.Requests.{AreColours, AreGiven, HasUnknownValue, Asks, AsksNothing, HasManner, HasPrintout, HasStream, HasStrictness, IsAllAsJson, IsNoNumber, IsUnknownWhen, IsNumber, fate_in, is_given, is_true_text, layout_in, name_of, names_in, reading_in, strictness_in};
+ghost use Rattle.pod_commands.specs.Requests.{AreColours, AreGiven, HasUnknownValue, Asks, AsksNothing, HasManner, HasNoNumber, HasPrintout, HasStream, HasStrictness, HasUnknownKey, HasUnknownWhen, IsAllAsJson, IsKey, IsNumber, fate_in, is_given, is_true_text, layout_in, name_of, names_in, reading_in, strictness_in};
 ghost use Rattle.pod_commands.specs.declared.request.Word.{Word};
 ghost use Rattle.pod_commands.specs.declared.request.Fate.{Fate as FateOf};
 ghost use Rattle.pod_commands.specs.declared.request.Options.{Options as OptionsOf};
@@ -15,10 +15,12 @@ ghost use Rattle.spa_text_read.specs.declared.fitting.Strictness.{Strictness as 
 
 use crate::colours::Colours;
 use crate::command::program;
+use crate::misuse::Misuse;
 use clap::{ArgMatches, Error};
 use spa_meet_commands::pair::Work;
 use spa_recordings::going_on::Refused;
 use spa_recordings::reading::Reading;
+use spa_text_commands::key_names::is_key_name;
 use spa_text_commands::printing::Layout;
 use spa_text_commands::selection::{Form, Printout, Selection};
 use spa_text_read::Strictness;
@@ -109,24 +111,25 @@ pub struct Request<'a> {
     pub target: Option<&'a str>,
 }
 
-/// What these words ask for, the program's own name not among them, where the standard output is a terminal, or isn't: nothing where they name no
-/// word of the program's, which `clap` refuses, or `--color` has no word of its own.
+/// What these words ask for, the program's own name not among them, where the standard output is a terminal, or isn't; or why they ask for nothing
+/// though `clap` accepts them.
 pub(crate) fn request_of<'a>(
     alloc: Global,
     words: &'a [&'a str],
     is_terminal: bool,
-) -> Result<Option<Request<'a>>, Error>
-    ensures asked { IfOk result (λ asked. IfSome asked (Asks words.now is_terminal)) }
-    ensures nothing { IfOk result (λ asked. IfNone asked (AsksNothing words.now)) }
+) -> Result<Result<Request<'a>, Misuse<'a>>, Error>
+    ensures asked { IfOk result (λ asked. IfOk asked (Asks words.now is_terminal)) }
+    ensures nothing { IfOk result (λ asked. IfErr asked (AsksNothing words.now)) }
     ensures refused { IfErr result (HasKind (fault_of program (texts words.now))) }
 {
     let command = program(alloc)?;
     let matches = command.try_get_matches_from(words)?;
     let Some((name, given)) = matches.subcommand() else {
-        return Ok(None);
+        return Ok(Err(Misuse::NoWord));
     };
-    let Some(options) = options_of(given, is_terminal) else {
-        return Ok(None);
+    let options = match options_of(given, is_terminal) {
+        Ok(options) => options,
+        Err(why) => return Ok(Err(why)),
     };
     let Some(word) = word_of(
         name,
@@ -135,10 +138,10 @@ pub(crate) fn request_of<'a>(
         is_set(given, "stream"),
         strictness_of(given),
     ) else {
-        return Ok(None);
+        return Ok(Err(Misuse::NoWord));
     };
     let names = names_of(alloc, given)?;
-    Ok(Some(Request {
+    Ok(Ok(Request {
         word,
         names,
         target: given.get_str("output"),
@@ -217,44 +220,60 @@ impl<'a> Options<'a> {
     }
 }
 
-/// The options that are given, where the standard output is a terminal, or isn't: nothing where a number isn't one, which `clap` refuses, or
-/// `--color` has no word of its own.
-fn options_of<'a>(given: &ArgMatches<'a>, is_terminal: bool) -> Option<Options<'a>>
-    ensures given { IfSome result (AreGiven (rows_of (found_of given.now)) is_terminal) }
-    ensures none { IfNone result (HasUnknownValue (rows_of (found_of given.now))) }
+/// The options that are given, where the standard output is a terminal, or isn't; or the one whose value is none of its own.
+fn options_of<'a>(given: &ArgMatches<'a>, is_terminal: bool) -> Result<Options<'a>, Misuse<'a>>
+    ensures given { IfOk result (AreGiven (rows_of (found_of given.now)) is_terminal) }
+    ensures unknown { IfErr result (HasUnknownValue (rows_of (found_of given.now))) }
 {
-    let Some(nth) = number_of(given.get_str("nth")) else {
-        return None;
+    let nth = match number_of(given.get_str("nth")) {
+        Ok(nth) => nth,
+        Err(why) => return Err(why),
     };
     let to_terminal = goes_to_terminal(is_terminal, given.get_str("output"));
-    let Some(colours) = colours_of(given.get_str("color"), to_terminal) else {
-        return None;
+    let colours = match colours_of(given.get_str("color"), to_terminal) {
+        Ok(colours) => colours,
+        Err(why) => return Err(why),
     };
-    Some(Options {
+    let key = match key_of(given.get_str("key")) {
+        Ok(key) => key,
+        Err(why) => return Err(why),
+    };
+    Ok(Options {
         layout: layout_of(given),
         colours,
         hex: is_set(given, "hex"),
-        selection: Selection {
-            nth,
-            key: given.get_str("key"),
-        },
+        selection: Selection { nth, key },
     })
 }
 
-/// Whether texts are coloured where `--color` has this word: nothing where it is none of its own.
-fn colours_of(when: Option<&str>, to_terminal: bool) -> Option<Colours>
-    ensures colours { IfSome result (AreColours (option_map (λ s. s.now) when.entry) to_terminal) }
-    ensures none { IfNone result (IsUnknownWhen (option_map (λ s. s.now) when.entry)) }
+/// Whether texts are coloured where `--color` has this value.
+fn colours_of<'a>(when: Option<&'a str>, to_terminal: bool) -> Result<Colours, Misuse<'a>>
+    ensures colours { IfOk result (AreColours (option_map (λ s. s.now) when.entry) to_terminal) }
+    ensures unknown { IfErr result (HasUnknownWhen (option_map (λ s. s.now) when.entry)) }
 {
     let Some(when) = when else {
-        return Some(colours_by(to_terminal));
+        return Ok(colours_by(to_terminal));
     };
     match when {
-        "auto" => Some(colours_by(to_terminal)),
-        "always" => Some(Colours::On),
-        "never" => Some(Colours::Off),
-        _ => None,
+        "auto" => Ok(colours_by(to_terminal)),
+        "always" => Ok(Colours::On),
+        "never" => Ok(Colours::Off),
+        _ => Err(Misuse::Color(when)),
     }
+}
+
+/// The value of `--key`, if it is given.
+fn key_of<'a>(name: Option<&'a str>) -> Result<Option<&'a str>, Misuse<'a>>
+    ensures key { IfOk result (λ key. IsKey (option_map (λ s. s.now) name.entry) (option_map (λ s. s.now) key)) }
+    ensures unknown { IfErr result (HasUnknownKey (option_map (λ s. s.now) name.entry)) }
+{
+    let Some(key) = name else {
+        return Ok(None);
+    };
+    if is_key_name(key) {
+        return Ok(Some(key));
+    }
+    Err(Misuse::Key(key))
 }
 
 /// Whether what is printed goes to a terminal: the standard output is one, and no file is written.
@@ -278,17 +297,17 @@ fn colours_by(to_terminal: bool) -> Colours
     }
 }
 
-/// The number that a text says, if one is given: nothing where it says none.
-fn number_of(text: Option<&str>) -> Option<Option<usize>>
-    ensures number { IfSome result (IsNumber (option_map (λ s. s.now) text.entry)) }
-    ensures none { IfNone result (IsNoNumber (option_map (λ s. s.now) text.entry)) }
+/// The number that the value of `--nth` says, if it is given.
+fn number_of<'a>(text: Option<&'a str>) -> Result<Option<usize>, Misuse<'a>>
+    ensures number { IfOk result (IsNumber (option_map (λ s. s.now) text.entry)) }
+    ensures unknown { IfErr result (HasNoNumber (option_map (λ s. s.now) text.entry)) }
 {
     let Some(text) = text else {
-        return Some(None);
+        return Ok(None);
     };
     match text.parse::<usize>() {
-        Ok(number) => Some(Some(number)),
-        Err(_) => None,
+        Ok(number) => Ok(Some(number)),
+        Err(_) => Err(Misuse::Nth(text)),
     }
 }
 

@@ -1,6 +1,7 @@
 //! The program's work, over a reader, files and a writer.
-ghost use Rattle.std.specs.Prelude.{◌≡◌, ◌≢◌, ◌⊎◌, None, false, true};
-ghost use Rattle.pod_commands.specs.Answers.{AreFiles, AreUnmade, Gives, IsAgreed, IsAnswer, IsCompared, IsDone, IsMadeBy, IsMadeInPart, IsPlain, IsPrinted, IsShown, IsShownIn, IsStreamed, IsWrittenAs, MayReadTwice, OnAnswer, Refuses, outlet};
+ghost use Rattle.std.specs.Prelude.{◌≡◌, ◌≢◌, ◌⊎◌, IfNone, IfSome, None, false, true};
+ghost use Rattle.pod_commands.specs.Answers as spec;
+ghost use Rattle.pod_commands.specs.Answers.{AreFiles, AreUnmade, Gives, IsAgreed, IsAnswer, IsCompared, IsDone, IsExcluded, IsMadeBy, IsMadeInPart, IsPlain, IsPrinted, IsShown, IsShownIn, IsStreamed, IsWrittenAs, MayReadTwice, OnAnswer, Refuses, outlet};
 ghost use Rattle.pod_commands.specs.declared.answer.Answer.TheVariants as answer;
 ghost use Rattle.pod_commands.specs.declared.request.Fate.TheVariants.{Stops};
 ghost use Rattle.pod_commands.specs.declared.request.Making.TheVariants.{Rewrite};
@@ -9,6 +10,7 @@ ghost use Rattle.spa_recordings.specs.declared.reading.Reading.TheVariants.{Exac
 use crate::answer::{Answer, Failure};
 use crate::files::Files;
 use crate::making::{Worked, make_all, make_what_is_read};
+use crate::misuse::{Excluded, Misuse};
 use crate::pairs::{agree, agree_of_lists, compare};
 use crate::request::{Fate, Making, Manner, Printing, Request, Streaming, Word, request_of};
 use crate::sending::answered;
@@ -16,6 +18,7 @@ use crate::streaming::{check_all, stream_all};
 use clap::error::ErrorKind;
 use spa_meet_commands::pair::Work;
 use spa_recordings::going_on as recordings;
+use spa_recordings::going_on::Refused;
 use spa_recordings::reading::Reading;
 use std::alloc::Global;
 use std::io::{Read, Write};
@@ -37,8 +40,8 @@ pub fn run<'a, R: Read, S: Files, W: Write + Drop>(
         (W.contents device) (W.contents result.1) (S.holds files.old) (S.holds files.new) result.0 }
 {
     match request_of(alloc, words, is_terminal) {
-        Ok(Some(request)) => do_work(alloc, request, input, files, device),
-        Ok(None) => (Answer::Misused, device),
+        Ok(Ok(request)) => do_work(alloc, request, input, files, device),
+        Ok(Err(why)) => (Answer::Misused(why), device),
         Err(error) => match error.kind() {
             ErrorKind::OutOfMemory => (Answer::Refused(Failure::OutOfMemory), device),
             _ => (Answer::Said(error), device),
@@ -191,14 +194,18 @@ fn go_on<'a, R: Read, S: Files, W: Write + Drop>(
     answered(files, target, device, Ok(out), Answer::Passed(refused))
 }
 
-/// Whether pods are read exactly and refused whole, and no file is written.
-fn is_plain(manner: Manner, target: Option<&str>) -> bool
-    ensures plain { result ≡ true → IsPlain manner.reading manner.fate target.entry }
-    ensures other { result ≡ false → ¬ (IsPlain manner.reading manner.fate target.entry) }
+/// An option for how pods are read, what becomes of refused ones or which file is written: none where they are read exactly and refused, and no
+/// file is written.
+fn excluded_in(manner: Manner, target: Option<&str>) -> Option<Excluded>
+    ensures plain { IfNone result (IsPlain manner.reading manner.fate target.entry) }
+    ensures other { IfSome result (IsExcluded manner.reading manner.fate target.entry) }
 {
     match (manner.reading, manner.fate, target) {
-        (Reading::Exact, Fate::Stops, None) => true,
-        _ => false,
+        (Reading::Exact, Fate::Stops, None) => None,
+        (Reading::Exact, Fate::Stops, Some(_)) => Some(Excluded::Output),
+        (Reading::Exact, Fate::GoesOn(Refused::LeftOut), _) => Some(Excluded::KeepGoing),
+        (Reading::Exact, Fate::GoesOn(Refused::Kept), _) => Some(Excluded::KeepRefused),
+        (Reading::Lenient, _, _) => Some(Excluded::Lenient),
     }
 }
 
@@ -217,8 +224,8 @@ fn stream<'a, R: Read, S: Files, W: Write + Drop>(
     ensures { IsStreamed streaming.entry manner.reading manner.fate result.0 (R.remaining input.old) names.now
         (outlet target.entry (W.contents device) (W.contents result.1) (S.holds files.old) (S.holds files.new)) }
 {
-    if !is_plain(manner, target) {
-        return (Answer::Misused, device);
+    if let Some(other) = excluded_in(manner, target) {
+        return (Answer::Misused(Misuse::WithStream(other)), device);
     }
     write_as(alloc, streaming, names, target, input, files, device)
 }
@@ -270,14 +277,14 @@ fn print<'a, R: Read, S: Files, W: Write + Drop>(
     ensures { IsPrinted printing.entry manner.reading manner.fate result.0 (R.remaining input.old) names.now
         (outlet target.entry (W.contents device) (W.contents result.1) (S.holds files.old) (S.holds files.new)) }
 {
-    if !is_plain(manner, None) {
-        return (Answer::Misused, device);
+    if let Some(other) = excluded_in(manner, None) {
+        return (Answer::Misused(Misuse::WithPart(other)), device);
     }
-    show(alloc, printing, names, target, input, files, device)
+    print_inputs(alloc, printing, names, target, input, files, device)
 }
 
 /// Prints this of the inputs of these names: as they come, or where a file is written, all of it at the end.
-fn show<'a, R: Read, S: Files, W: Write + Drop>(
+fn print_inputs<'a, R: Read, S: Files, W: Write + Drop>(
     alloc: Global,
     printing: Printing<'a>,
     names: &[&'a str],
@@ -299,12 +306,12 @@ fn show<'a, R: Read, S: Files, W: Write + Drop>(
             files,
             device,
         ),
-        Some(_) => show_in_file(alloc, printing, names, target, input, files, device),
+        Some(_) => print_to_file(alloc, printing, names, target, input, files, device),
     }
 }
 
 /// Prints this of the inputs of these names in the file that is written.
-fn show_in_file<'a, R: Read, S: Files, W: Write + Drop>(
+fn print_to_file<'a, R: Read, S: Files, W: Write + Drop>(
     alloc: Global,
     printing: Printing<'a>,
     names: &[&'a str],
@@ -344,7 +351,7 @@ fn diff<'a, R: Read, S: Files, W: Write + Drop>(
         (outlet target.entry (W.contents device) (W.contents result.1) (S.holds files.old) (S.holds files.new)) }
 {
     let [ours, theirs] = names else {
-        return (Answer::Misused, device);
+        return (Answer::Misused(misuse_of(names)), device);
     };
     let lines = match compare(alloc, *ours, *theirs, input, files) {
         Ok(lines) => lines,
@@ -378,6 +385,16 @@ fn seek<'a, R: Read, S: Files, W: Write + Drop>(
             let made = agree_of_lists(alloc, work, *ours, *theirs, input, files);
             answered(files, target, device, made, Answer::Done)
         }
-        _ => (Answer::Misused, device),
+        _ => (Answer::Misused(misuse_of(names)), device),
+    }
+}
+
+/// What is wrong with another number of inputs than a word takes.
+fn misuse_of<'a>(names: &[&'a str]) -> Misuse<'a>
+    ensures { result ≡ spec.misuse_of names.now }
+{
+    match names {
+        [_, _, other, ..] => Misuse::TooMany(*other),
+        _ => Misuse::TooFew,
     }
 }

@@ -1,17 +1,24 @@
-use Rattle.std.proofs.Common.{◌≡◌, ◌∙◌, ap, codes, inl, inr, subst}
+use Rattle.std.proofs.Common.{◌≡◌, ◌∙◌, ap, codes, inl, inr, option_map, subst}
 use Rattle.clap.specs.Walk.{rows_of}
 use Rattle.clap.specs.Words.{first_of, found_of}
 use Rattle.clap.proofs.WalkLemmas.{first_value-rows}
-use Rattle.pod_commands.specs.Requests.{AreColours, IsNoNumber, IsUnknownWhen, IsNumber, goes_to_terminal}
+use Rattle.pod_commands.specs.Requests.{AreColours, HasNoNumber, HasUnknownKey, HasUnknownWhen, IsKey, IsNumber, goes_to_terminal}
 use Rattle.pod_commands.proofs.request.options_of.Goals as goal
 
-pub returns-in_default-clause-none : goal.returns-in_default-clause-none
-returns-in_default-clause-none c =
-    inl (subst IsNoNumber (c.get_str.ensures ∙ first_value-rows (found_of c.args.given.now) (codes "nth")) c.in_default.ensures.none)
+pub returns-in-Err-clause-unknown : goal.returns-in-Err-clause-unknown
+returns-in-Err-clause-unknown c =
+    inl (subst (λ given. HasNoNumber given c.in-Err.why) (c.get_str.ensures ∙ first_value-rows (found_of c.args.given.now) (codes "nth"))
+    c.in-Err.ensures.unknown)
 
-pub returns-in_default-colours_of-clause-none : goal.returns-in_default-colours_of-clause-none
-returns-in_default-colours_of-clause-none c =
-    inr (subst IsUnknownWhen (c.get_str-3.ensures ∙ first_value-rows (found_of c.args.given.now) (codes "color")) c.in_default-colours_of.ensures.none)
+pub returns-in-Err-colours_of-clause-unknown : goal.returns-in-Err-colours_of-clause-unknown
+returns-in-Err-colours_of-clause-unknown c =
+    inr (inl (subst (λ given. HasUnknownWhen given c.in-Err-colours_of.why)
+    (c.get_str-3.ensures ∙ first_value-rows (found_of c.args.given.now) (codes "color")) c.in-Err-colours_of.ensures.unknown))
+
+pub returns-in-Err-key_of-clause-unknown : goal.returns-in-Err-key_of-clause-unknown
+returns-in-Err-key_of-clause-unknown c =
+    inr (inr (subst (λ given. HasUnknownKey given c.in-Err-key_of.why)
+    (c.get_str-4.ensures ∙ first_value-rows (found_of c.args.given.now) (codes "key")) c.in-Err-key_of.ensures.unknown))
 
 pub returns-clause-given : goal.returns-clause-given
 returns-clause-given c =
@@ -21,10 +28,11 @@ returns-clause-given c =
     record {
       layout = c.layout_of.ensures;
       colours =
-          subst (λ b. AreColours (first_of (codes "color") (rows_of found)) b c.in-Some-colours_of.colours) to
-          (subst (λ t. AreColours t c.goes_to_terminal-to_terminal.result c.in-Some-colours_of.colours)
-          (c.get_str-3.ensures ∙ first_value-rows found (codes "color")) c.in-Some-colours_of.ensures.colours);
+          subst (λ b. AreColours (first_of (codes "color") (rows_of found)) b c.in-Ok-colours_of.colours) to
+          (subst (λ t. AreColours t c.goes_to_terminal-to_terminal.result c.in-Ok-colours_of.colours)
+          (c.get_str-3.ensures ∙ first_value-rows found (codes "color")) c.in-Ok-colours_of.ensures.colours);
       hex = c.is_set.ensures;
-      nth = subst (λ t. IsNumber t c.in-Some.nth) (c.get_str.ensures ∙ first_value-rows found (codes "nth")) c.in-Some.ensures.number;
-      key = c.get_str-4.ensures ∙ first_value-rows found (codes "key");
+      nth = subst (λ t. IsNumber t c.in-Ok.nth) (c.get_str.ensures ∙ first_value-rows found (codes "nth")) c.in-Ok.ensures.number;
+      key = subst (λ given. IsKey given (option_map (λ s. s.now) c.in-Ok-key_of.key)) (c.get_str-4.ensures ∙ first_value-rows found (codes "key"))
+          c.in-Ok-key_of.ensures.key;
     }

@@ -1,4 +1,4 @@
-use Rattle.std.proofs.Common.{◌≡◌, ◌∙◌, ap, codes, inl, inr, subst, Some}
+use Rattle.std.proofs.Common.{◌≡◌, ◌∙◌, ap, codes, inl, inr, refl, subst, Some}
 use Rattle.clap.specs.Kinds.{HasKind}
 use Rattle.clap.specs.Faults.{fault_of}
 use Rattle.clap.specs.Walk.{rows_of, texts}
@@ -23,11 +23,11 @@ returns-in_default-word_of-clause-nothing c =
     c.in_ok-matches.ensures.matches c.in-Some.ensures.name c.in-Some.ensures.rows in
     record {
       accepted = no_fault app ws c.in_ok-command.ensures c.in_ok-matches.ensures.kinds;
-      nothing = inl (λ word rows i. c.in_default-word_of.ensures.none word (one_name (subcommand_of program ws) _ _ _ rows found i));
+      nothing = inl (refl, λ word rows i. c.in_default-word_of.ensures.none word (one_name (subcommand_of program ws) _ _ _ rows found i));
     }
 
-pub returns-in_default-options_of-clause-nothing : goal.returns-in_default-options_of-clause-nothing
-returns-in_default-options_of-clause-nothing c =
+pub returns-in-Err-clause-nothing : goal.returns-in-Err-clause-nothing
+returns-in-Err-clause-nothing c =
     let ws = texts c.args.words.now in
     let app = app_of c.in_ok-command.command in
     let found : subcommand_of program ws ≡ Some (c.in-Some.name.now, rows_of (found_of c.in-Some.given.now)) =
@@ -35,7 +35,7 @@ returns-in_default-options_of-clause-nothing c =
     c.in_ok-matches.ensures.matches c.in-Some.ensures.name c.in-Some.ensures.rows in
     record {
       accepted = no_fault app ws c.in_ok-command.ensures c.in_ok-matches.ensures.kinds;
-      nothing = inr (c.in-Some.name.now, rows_of (found_of c.in-Some.given.now), found, c.in_default-options_of.ensures.none);
+      nothing = inr (c.in-Some.name.now, rows_of (found_of c.in-Some.given.now), found, c.in-Err.ensures.unknown);
     }
 
 pub returns-clause-asked : goal.returns-clause-asked
@@ -50,8 +50,8 @@ returns-clause-asked c =
       accepted = no_fault app ws c.in_ok-command.ensures c.in_ok-matches.ensures.kinds;
       rows = rows;
       word = found ∙ ap (λ name. Some (name, rows)) c.in-Some-word_of.ensures.word;
-      options = c.in-Some-options_of.options;
-      given = c.in-Some-options_of.ensures.given;
+      options = c.in-Ok.options;
+      given = c.in-Ok.ensures.given;
       printout = c.in-Some-word_of.ensures.printout;
       manner = subst (λ fate. HasManner (reading_in rows) fate c.in-Some-word_of.word) c.manner_of.ensures.fate
           (subst (λ reading. HasManner reading c.manner_of.result.fate c.in-Some-word_of.word) c.manner_of.ensures.reading c.in-Some-word_of.ensures.manner);

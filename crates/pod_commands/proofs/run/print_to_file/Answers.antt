@@ -2,7 +2,7 @@ use Rattle.std.proofs.Common.{Some, subst}
 use Rattle.std.specs.Io.KnownBytes.{Appends}
 use Rattle.pod_commands.specs.Answers.{outlet}
 use Rattle.pod_commands.proofs.Streamed.{shown_in, unshown, unshown_lines}
-use Rattle.pod_commands.proofs.run.show_in_file.Goals as goal
+use Rattle.pod_commands.proofs.run.print_to_file.Goals as goal
 
 pub returns-in-Ok : goal.returns-in-Ok
 returns-in-Ok g c =

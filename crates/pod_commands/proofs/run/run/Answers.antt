@@ -7,12 +7,12 @@ use Rattle.pod_commands.proofs.run.run.Goals as goal
 pub returns-in-OutOfMemory : goal.returns-in-OutOfMemory
 returns-in-OutOfMemory g c = no_memory (keeps_itself _) (λ name. refl)
 
-pub returns-in-Ok-Some : goal.returns-in-Ok-Some
-returns-in-Ok-Some g c =
-    asked c.in-Ok-Some.request c.do_work.result.0 (rw c.in-Ok-Some.field-0-is at c.in-Ok-Some.ensures.asked) c.do_work.ensures
+pub returns-in-Ok-Ok : goal.returns-in-Ok-Ok
+returns-in-Ok-Ok g c =
+    asked c.in-Ok-Ok.request c.do_work.result.0 (rw c.in-Ok-Ok.field-0-is at c.in-Ok-Ok.ensures.asked) c.do_work.ensures
 
-pub returns-in-Ok-None : goal.returns-in-Ok-None
-returns-in-Ok-None g c = nothing (rw c.in-Ok-None.field-0-is at c.in-Ok-None.ensures.nothing) (keeps_itself _) (λ name. refl)
+pub returns-in-Ok-Err : goal.returns-in-Ok-Err
+returns-in-Ok-Err g c = nothing c.in-Ok-Err.why (rw c.in-Ok-Err.field-0-is at c.in-Ok-Err.ensures.nothing) (keeps_itself _) (λ name. refl)
 
 pub returns : goal.returns
 returns g c =

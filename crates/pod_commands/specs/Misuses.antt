@@ -1,0 +1,26 @@
+-- What is said of a wrong command line.
+use Rattle.std.specs.Prelude.{ℕ, List, ◌++◌, [], ◌∷◌, codes}
+use Rattle.pod_commands.specs.declared.misuse.Excluded.{Excluded}
+use Rattle.pod_commands.specs.declared.misuse.Excluded.TheVariants.{Lenient, KeepGoing, KeepRefused, Output}
+use Rattle.pod_commands.specs.declared.misuse.Misuse.{Misuse}
+use Rattle.pod_commands.specs.declared.misuse.Misuse.TheVariants.{NoWord, Nth, Color, Key, TooFew, TooMany, WithStream, WithPart}
+
+abbrev pub excluded_text : Excluded → List ℕ
+excluded_text Lenient = codes "--lenient"
+excluded_text KeepGoing = codes "--keep-going"
+excluded_text KeepRefused = codes "--keep-refused"
+excluded_text Output = codes "--output"
+
+abbrev pub misuse_text : Misuse → List ℕ
+misuse_text NoWord = codes "there is no command"
+misuse_text (Nth value) = codes "--nth takes a number from 1 on, not '" ++ (value.now ++ codes "'")
+misuse_text (Color value) = codes "--color takes auto, always or never, not '" ++ (value.now ++ codes "'")
+misuse_text (Key value) = codes "--key: no key has the name or number '" ++ (value.now ++ codes "'")
+misuse_text TooFew = codes "diff takes two FILEs"
+misuse_text (TooMany name) = codes "unexpected FILE '" ++ (name.now ++ codes "': two are the most")
+misuse_text (WithStream other) = codes "--stream can't be used with " ++ excluded_text other
+misuse_text (WithPart other) = codes "--nth, --key and --hex can't be used with " ++ excluded_text other
+
+-- the line that is written of it
+abbrev pub misuse_line : Misuse → List ℕ
+misuse_line why = codes "pod: " ++ (misuse_text why ++ (codes "; try 'pod --help'" ++ 10 ∷ []))

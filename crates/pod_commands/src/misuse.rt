@@ -1,0 +1,74 @@
+//! What is wrong with a command line that `clap` accepts.
+use std::fmt;
+
+/// An option that `--stream`, or those for parts of inputs, exclude.
+#[derive(Clone, Copy, Debug)]
+pub enum Excluded {
+    /// `--lenient`
+    Lenient,
+    /// `--keep-going`
+    KeepGoing,
+    /// `--keep-refused`
+    KeepRefused,
+    /// `-o`
+    Output,
+}
+
+/// What is wrong with a command line.
+#[derive(Clone, Copy, Debug)]
+pub enum Misuse<'a> {
+    /// It names no word of the program's, which `clap` refuses itself.
+    NoWord,
+    /// The value of `--nth` is no number, which `clap` refuses itself.
+    Nth(&'a str),
+    /// The value of `--color` isn't `auto`, `always` or `never`.
+    Color(&'a str),
+    /// The value of `--key` is neither the name nor the number of a key.
+    Key(&'a str),
+    /// `diff` has one file.
+    TooFew,
+    /// This is the third file of a word that takes two at most.
+    TooMany(&'a str),
+    /// `--stream` excludes this option.
+    WithStream(Excluded),
+    /// `--nth`, `--key` and `--hex` exclude this option.
+    WithPart(Excluded),
+}
+
+impl fmt::Display for Excluded {
+    ghost use Rattle.std.specs.Prelude.{Some};
+    ghost use Rattle.pod_commands.specs.Misuses.{excluded_text};
+
+    ghost output = { λ excluded. Some (excluded_text excluded) };
+
+    fn fmt<W: fmt::Write>(&self, f: &mut fmt::Formatter<W>) -> fmt::Result {
+        match self {
+            Excluded::Lenient => f.write_str("--lenient"),
+            Excluded::KeepGoing => f.write_str("--keep-going"),
+            Excluded::KeepRefused => f.write_str("--keep-refused"),
+            Excluded::Output => f.write_str("--output"),
+        }
+    }
+}
+
+impl fmt::Display for Misuse<'_> {
+    ghost use Rattle.std.specs.Prelude.{Some};
+    ghost use Rattle.pod_commands.specs.Misuses.{misuse_text};
+
+    ghost output = { λ misuse. Some (misuse_text misuse) };
+
+    fn fmt<W: fmt::Write>(&self, f: &mut fmt::Formatter<W>) -> fmt::Result {
+        match self {
+            Misuse::NoWord => f.write_str("there is no command"),
+            Misuse::Nth(value) => write!(f, "--nth takes a number from 1 on, not '{value}'"),
+            Misuse::Color(value) => write!(f, "--color takes auto, always or never, not '{value}'"),
+            Misuse::Key(value) => write!(f, "--key: no key has the name or number '{value}'"),
+            Misuse::TooFew => f.write_str("diff takes two FILEs"),
+            Misuse::TooMany(name) => write!(f, "unexpected FILE '{name}': two are the most"),
+            Misuse::WithStream(other) => write!(f, "--stream can't be used with {other}"),
+            Misuse::WithPart(other) => {
+                write!(f, "--nth, --key and --hex can't be used with {other}")
+            }
+        }
+    }
+}

@@ -6,7 +6,7 @@ use pod_commands::files::SystemFiles;
 use pod_commands::run::run;
 use std::alloc::AllocError;
 use std::env;
-use std::io::{self, ErrorKind, IsTerminal};
+use std::io::{self, ErrorKind, IsTerminal, Write};
 use std::process::ExitCode;
 
 /// Hands the words behind the program's name, the standard streams and the system's files to `run`, writes the line of its answer, and
@@ -24,8 +24,12 @@ fn status(rt: &HostRuntime) -> Option<u8> {
         .collect(rt.alloc());
     let words = words.ok()?;
     let mut files = SystemFiles { rt };
-    let output = rt.stdout();
-    let is_terminal = output.is_terminal();
+    let stdout = rt.stdout();
+    let is_terminal = stdout.is_terminal();
+    let output = Output {
+        device: stdout,
+        is_closed: false,
+    };
     let (answer, mut output) = run(
         rt.alloc(),
         words.as_slice(),
@@ -34,8 +38,37 @@ fn status(rt: &HostRuntime) -> Option<u8> {
         output,
         is_terminal,
     );
-    let _ = tell(&mut output, &mut rt.stderr(), &answer);
+    if !output.is_closed {
+        let _ = tell(&mut output, &mut rt.stderr(), &answer);
+    }
     Some(answer.status())
+}
+
+/// An output, and whether it is a pipe whose reader is gone, as `head` is after its lines. Nothing is said of that then.
+#[derive(Drop)]
+struct Output<W> {
+    device: W,
+    is_closed: bool,
+}
+
+impl<W: Write> Write for Output<W> {
+    ghost contents = { λ it. W.contents it.device };
+
+    fn write(&mut self, bytes: &[u8]) -> io::Result<usize> {
+        let answer = self.device.write(bytes);
+        if let Err(error) = &answer {
+            self.is_closed = error.kind() == ErrorKind::BrokenPipe;
+        }
+        answer
+    }
+
+    fn flush(&mut self) -> io::Result<()> {
+        let answer = self.device.flush();
+        if let Err(error) = &answer {
+            self.is_closed = error.kind() == ErrorKind::BrokenPipe;
+        }
+        answer
+    }
 }
 
 /// Writes the line of a run for which memory was refused, and gives its status, also where that line can't be written.

@@ -16,8 +16,8 @@ use Rattle.libspa.specs.Values as V
 use Rattle.libspa.specs.View.{array_view, choice_view, view}
 use Rattle.libspa.specs.Writable.{IsWritable}
 use Rattle.spa_negotiate.specs.Sides.{First, Second}
-use Rattle.spa_negotiate.specs.NegotiateError.{NegotiateError}
-use Rattle.spa_negotiate.specs.NegotiateErrors.{TypeMismatch, Unsupported, Disjoint, Unread, NotObject, TooLarge, OutOfMemory}
+use Rattle.spa_negotiate.specs.declared.error.NegotiateError.{NegotiateError}
+use Rattle.spa_negotiate.specs.declared.error.NegotiateError.TheVariants.{TypeMismatch, Unsupported, Disjoint, Unread, NotObject, TooLarge, OutOfMemory}
 use Rattle.spa_negotiate.specs.Meeting.{Meet}
 use Rattle.spa_negotiate.specs.Refusals.{AreRefused}
 use Rattle.spa_negotiate.specs.Fronts.{BeginBoth, BeginsObject, IsObject, IsFrontRefused, AreFrontsRefused, MeetIn}

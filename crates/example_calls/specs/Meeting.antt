@@ -3,8 +3,8 @@ use Rattle.std.specs.Prelude.{⊤, ◌≡◌}
 use Rattle.libspa.specs.Normal.{normal_of}
 use Rattle.libspa.specs.Tree.{Tree}
 use Rattle.libspa.specs.Writable.{HasNul, IsTooLarge}
-use Rattle.spa_negotiate.specs.NegotiateError.{NegotiateError}
-use Rattle.spa_negotiate.specs.NegotiateErrors.{TooLarge, OutOfMemory}
+use Rattle.spa_negotiate.specs.declared.error.NegotiateError.{NegotiateError}
+use Rattle.spa_negotiate.specs.declared.error.NegotiateError.TheVariants.{TooLarge, OutOfMemory}
 
 -- the value isn't refused for a text, and reads back as itself
 pub record ReadsBack (v : Tree) : Type 0 where

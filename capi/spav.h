@@ -187,7 +187,7 @@ int32_t spav_fd(const void *in, size_t n, uint32_t key, int64_t *value) SPAV_MUS
 int32_t spav_rectangle(const void *in, size_t n, uint32_t key, uint32_t *width, uint32_t *height) SPAV_MUST_USE SPAV_NONNULL(4, 5);
 int32_t spav_fraction(const void *in, size_t n, uint32_t key, uint32_t *num, uint32_t *denom) SPAV_MUST_USE SPAV_NONNULL(4, 5);
 
-/* The same of a string: what stands before its first NUL goes to `out`, with one NUL behind it.
+/* The text under the key: the bytes before its first NUL go to `out`, then one NUL.
  *   0        *len bytes and the NUL were written
  *   -ENOSPC  `cap` isn't more than *len
  *   -EPROTO  the value is no string, or one whose last byte isn't NUL

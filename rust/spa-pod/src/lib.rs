@@ -14,8 +14,8 @@ compile_error!("spa-pod counts bytes in a usize of 64 bits");
 mod api;
 // The text follows its proofs. What lints say of style goes unheeded; those of correctness stand.
 #[allow(unused_imports, unused_variables, dead_code, non_upper_case_globals, missing_docs)]
-// The proved text also drops what has nothing to drop in Rust.
-#[allow(clippy::style, clippy::complexity, clippy::perf, clippy::drop_non_drop)]
+// The proved text also drops what has nothing to drop in Rust, and makes empty arrays of what a call gives.
+#[allow(clippy::style, clippy::complexity, clippy::perf, clippy::drop_non_drop, clippy::zero_repeat_side_effects)]
 mod parts;
 mod shims;
 #[cfg(all(test, feature = "std"))]

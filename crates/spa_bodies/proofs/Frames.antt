@@ -6,9 +6,9 @@ use Rattle.spa_sink.specs.declared.gen_error.GenError.{GenError}
 use Rattle.spa_sink.specs.declared.gen_error.GenError.TheVariants.{TooLarge}
 use Rattle.spa_sink.specs.Writing.{RefusesWrite}
 use Rattle.spa_format.specs.Words.{header_size, padded_size, padding, size_limit, word_bytes}
-use Rattle.spa_format.specs.Encoding.{framed}
+use Rattle.spa_format.specs.Encoding.{encoded_pod}
 use Rattle.spa_bodies.specs.Written.{Appending, ClosesPod, IsClosed, IsExtended, IsPastLimit, IsWholeSize, Refusing, begun_length}
-use Rattle.spa_format.proofs.Encodings.{body_within, length-framed, length-word_bytes, two_words_length}
+use Rattle.spa_format.proofs.Encodings.{body_within, length-encoded_pod, length-word_bytes, two_words_length}
 use Rattle.spa_bodies.proofs.SinkRefusals.{IsSink, sink_refused}
 
 -- the body of a pod that was begun behind some bytes
@@ -23,7 +23,7 @@ begun_body old head body h =
 pub sized_encoding : (old body : List ℕ) (type : ℕ) → IsWholeSize (length body) →
     take (length old) (old ++ ((word_bytes 0 ++ word_bytes type) ++ body)) ++
     (word_bytes (length body) ++ drop (length old + 4) (old ++ ((word_bytes 0 ++ word_bytes type) ++ body)))
-    ≡ old ++ framed type body
+    ≡ old ++ encoded_pod type body
 sized_encoding old body type whole =
     let b = old ++ ((word_bytes 0 ++ word_bytes type) ++ body) in
     let front : take (length old) b ≡ old =
@@ -57,7 +57,7 @@ pub closed_encoding : {S : Type 0} {content : S → List ℕ} {refuses : Refusin
     (start type : ℕ) (body : List ℕ) → IsWholeSize (length body) → start ≡ length (content a) →
     IsExtended content refuses a ((word_bytes 0 ++ word_bytes type) ++ body) b →
     IsClosed content refuses b start c →
-    IsExtended content refuses a (framed type body) c × (length body < size_limit)
+    IsExtended content refuses a (encoded_pod type body) c × (length body < size_limit)
 closed_encoding {content = content} {refuses = refuses} a b c start type body whole s p q =
     let inside = (word_bytes 0 ++ word_bytes type) ++ body in
     let size = begun_size a b start type body s p in
@@ -67,7 +67,7 @@ closed_encoding {content = content} {refuses = refuses} a b c start type body wh
     ∙ ap
     (λ n. take n (content a ++ inside) ++ (word_bytes (length body) ++ drop (n + 4) (content a ++ inside)))
     s in
-    let e0 = length-framed type body in
+    let e0 = length-encoded_pod type body in
     let e1 = length-append (word_bytes 0 ++ word_bytes type) body in
     let e2 = two_words_length 0 type in
     let f = q.fits in (
@@ -75,7 +75,7 @@ closed_encoding {content = content} {refuses = refuses} a b c start type body wh
         bytes = here ∙ sized_encoding (content a) body type whole;
         room = λ after n e r.
             let P : ℕ → Type 0 = λ m. refuses a m after e in
-            let same : length inside + n ≡ length (framed type body) + n = omega (arith, whole) in
+            let same : length inside + n ≡ length (encoded_pod type body) + n = omega (arith, whole) in
             subst P same (p.room after n e (q.room after n e r));
       },
       omega arith,
@@ -96,11 +96,11 @@ past_limit content refuses b start l a type body p =
 -- the refusal of the header
 pub header_refused : {S : Type 0} {appends : Appending S} {refuses : Refusing S} →
     IsSink appends refuses → (nul large : Type 0) (a c : S) (type : ℕ) (body : List ℕ) (e : GenError) →
-    refuses a header_size c e → RefusesWrite nul large (refuses a (length (framed type body)) c) e
+    refuses a header_size c e → RefusesWrite nul large (refuses a (length (encoded_pod type body)) c) e
 header_refused s nul large a c type body e r =
     let w = body_within type body in
-    sink_refused s nul large a c (length (framed type body)) e
-    (s.longer a c header_size (length (framed type body)) e (omega arith) r)
+    sink_refused s nul large a c (length (encoded_pod type body)) e
+    (s.longer a c header_size (length (encoded_pod type body)) e (omega arith) r)
 
 -- the refusal of the size
 pub size_refused : (nul large : Type 0) (other : GenError → Type 0) (big : Type 0) → (big → large) →

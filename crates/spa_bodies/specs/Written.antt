@@ -4,7 +4,7 @@ use Rattle.spa_sink.specs.declared.gen_error.GenError.{GenError}
 use Rattle.spa_sink.specs.Writing.{Begun, RefusesPiece}
 use Rattle.spa_format.specs.Words.{header_size, padded_size, size_limit, word_bytes}
 use Rattle.spa_format.specs.Tree.{Tree, fixed, string, bytes, bitmap, array, choice, pointer, struct, object}
-use Rattle.spa_format.specs.Encoding.{encoding_of, framed}
+use Rattle.spa_format.specs.Encoding.{encoding_of, encoded_pod}
 use Rattle.spa_format.specs.Typed.{IsTyped}
 use Rattle.spa_format.specs.Writable.{IsWritable, HasNul, IsTooLarge}
 
@@ -81,7 +81,7 @@ pub record IsBegun {S : Type 0} (content : S → List ℕ) (refuses : Refusing S
 abbrev pub ClosesPod : {S : Type 0} → (S → List ℕ) → Refusing S → S → ℕ → S → Type 0
 ClosesPod {S = S} content refuses old start new = (before : S) (type : ℕ) (body : List ℕ) →
     IsBegun content refuses before start type body old → IsWholeSize (length body) →
-    IsExtended content refuses before (framed type body) new
+    IsExtended content refuses before (encoded_pod type body) new
 
 -- the length of the body of the open pod that begins at the offset `start` doesn't fit 32 bits
 abbrev pub IsPastLimit : {S : Type 0} → (S → List ℕ) → Refusing S → S → ℕ → Type 0

@@ -1,7 +1,7 @@
 //! Writes texts, bytes, bitmaps and pointers.
 ghost use Rattle.std.specs.Prelude.{◌≡◌, ◌+◌, ◌<◌, ◌≤◌, [], ◌∷◌, ◌++◌, Contains, ℕ, IfErr, OnErr, OnOk, length, replicate, take};
 ghost use Rattle.spa_sink.specs.Writing.{Begun, RefusesPiece};
-ghost use Rattle.spa_format.specs.Encoding.{encoding_of, framed};
+ghost use Rattle.spa_format.specs.Encoding.{encoding_of, encoded_pod};
 ghost use Rattle.spa_format.specs.Tree as tree;
 ghost use Rattle.spa_format.specs.Words.{padding, size_limit, wide_bytes, word_bytes};
 ghost use Rattle.spa_format.specs.Writable.{IsWritable};
@@ -74,11 +74,11 @@ pub fn put_bitmap<S: PodSink>(sink: &mut S, bytes: &[u8]) -> Result<(), GenError
 /// Appends a pod of this type whose body is these bytes.
 #[tactic(auto, using(spa_format::proofs::Encodings::header_within))]
 fn put_body<S: PodSink>(sink: &mut S, type_: u32, bytes: &[u8]) -> Result<(), GenError>
-    ensures put { OnOk result (S.appends sink.old (framed type_ bytes.now) sink.new) }
+    ensures put { OnOk result (S.appends sink.old (encoded_pod type_ bytes.now) sink.new) }
     ensures fits { OnOk result (length bytes.now < size_limit) }
-    ensures begun { OnErr result (Begun S.appends sink.old (framed type_ bytes.now) sink.new) }
+    ensures begun { OnErr result (Begun S.appends sink.old (encoded_pod type_ bytes.now) sink.new) }
     ensures refused { IfErr result (RefusesPiece ⊥ (size_limit ≤ length bytes.now)
-        (S.refuses sink.old (length (framed type_ bytes.now)) sink.new) sink.old sink.new) }
+        (S.refuses sink.old (length (encoded_pod type_ bytes.now)) sink.new) sink.old sink.new) }
 {
     let Ok(size) = u32::try_from(bytes.len()) else {
         return Err(GenError::TooLarge);

@@ -5,7 +5,7 @@ use Rattle.std.specs.Simd.{first_chunks}
 use Rattle.std.proofs.Math.Nat.{mul-mod_left}
 use Rattle.std.proofs.lemmas.List.{append-nil, nil_from_length, take_at}
 use Rattle.spa_fixed_sized.specs.Reading.{AreWhole}
-use Rattle.spa_format.specs.Encoding.{array_body, fixed_bodies, framed}
+use Rattle.spa_format.specs.Encoding.{array_body, fixed_bodies, encoded_pod}
 use Rattle.spa_format.specs.Tree.{array_type}
 use Rattle.spa_format.specs.Words.{padding, word_bytes}
 use Rattle.spa_format.proofs.Elements.{array_length, elements_length, length_of_elements}
@@ -146,7 +146,7 @@ regrouped o a b c d e p =
 pub array_written : {A E : Type 0} (r : Result A E) (k : Kind) (bodies old head mid new array child : List ℕ) (size type : ℕ) → head ≡ old ++ (array ++ child) →
     array ≡ word_bytes (8 + length bodies) ++ word_bytes array_type → child ≡ word_bytes size ++ word_bytes type → size ≡ body_size k → type ≡ type_number k →
     ((xs : List Fixed) → AreElements k xs bodies → mid ≡ head ++ fixed_bodies xs) → OnOk r (new ≡ mid ++ padding (8 + length bodies)) →
-    OnOk r ((xs : List Fixed) → AreElements k xs bodies → new ≡ old ++ framed array_type (array_body k xs))
+    OnOk r ((xs : List Fixed) → AreElements k xs bodies → new ≡ old ++ encoded_pod array_type (array_body k xs))
 array_written (Err e) k bodies old head mid new array child size type h a c s t m p = p
 array_written (Ok x) k bodies old head mid new array child size type h a c s t m p = λ xs e.
     let n = 8 + length bodies in

@@ -5,7 +5,7 @@ use Rattle.spa_format.specs.Words.{word_bytes, wide_bytes, extent, padded_size, 
 use Rattle.spa_format.specs.Kind.{Kind, body_size, type_number, Fixed, none, bool, id, int, long, float, double, rectangle, fraction, fd, kind_of, fixed_body}
 use Rattle.std.specs.Int.{w64, to_le_bytes}
 use Rattle.spa_format.specs.Tree.{pointer, pointer_type, Trees, no_trees, member, Properties, no_properties, property, type_of, join_members, join_properties}
-use Rattle.spa_format.specs.Encoding.{array_body, fixed_bodies, framed, encoded_body, encoding_of, member_encodings, property_encodings}
+use Rattle.spa_format.specs.Encoding.{array_body, fixed_bodies, encoded_pod, encoded_body, encoding_of, member_encodings, property_encodings}
 
 pub length-word_bytes : (n : ℕ) → length (word_bytes n) ≡ 4
 unfolding word_bytes
@@ -46,8 +46,8 @@ length-fixed (fd x) = length-wide_bytes _
 length-padding : (s : ℕ) → length (padding s) ≡ padded_size s - s
 length-padding s = length-replicate (padded_size s - s) 0
 
-pub length-framed : (t : ℕ) (b : List ℕ) → length (framed t b) ≡ extent (length b)
-length-framed t b =
+pub length-encoded_pod : (t : ℕ) (b : List ℕ) → length (encoded_pod t b) ≡ extent (length b)
+length-encoded_pod t b =
     let n = length b in
     let e0 = length-behind_two n t (b ++ padding n) in
     let e1 = length-append b (padding n) in
@@ -63,8 +63,8 @@ members_whole (member v vs) =
     let e = m.1 in
     let p = (length (encoded_body v) + 7) / 8 in (
       1 + p + m.0,
-      (let e0 = length-append (framed (type_of v) (encoded_body v)) (member_encodings vs) in
-          let e1 = length-framed (type_of v) (encoded_body v) in
+      (let e0 = length-append (encoded_pod (type_of v) (encoded_body v)) (member_encodings vs) in
+          let e1 = length-encoded_pod (type_of v) (encoded_body v) in
           omega arith),
     )
 
@@ -74,11 +74,11 @@ properties_whole (property k f v ps) =
     let m = properties_whole ps in
     let e = m.1 in
     let p = (length (encoded_body v) + 7) / 8 in
-    let t = framed (type_of v) (encoded_body v) in (
+    let t = encoded_pod (type_of v) (encoded_body v) in (
       2 + p + m.0,
       (let e0 = length-behind_two k f (t ++ property_encodings ps) in
           let e1 = length-append t (property_encodings ps) in
-          let e2 = length-framed (type_of v) (encoded_body v) in
+          let e2 = length-encoded_pod (type_of v) (encoded_body v) in
           omega arith),
     )
 
@@ -102,10 +102,10 @@ properties_joined (property k f v ps) qs =
     ∙ sym (append_assoc (word_bytes k) (word_bytes f ++ (t ++ a)) b)
 
 -- a pod from its parts
-pub framed_parts : (old front back a b c d : List ℕ) (type n : ℕ) → n ≡ length front + length back →
+pub pod_parts : (old front back a b c d : List ℕ) (type n : ℕ) → n ≡ length front + length back →
     a ≡ old ++ (word_bytes n ++ word_bytes type) → b ≡ a ++ front → c ≡ b ++ back →
-    d ≡ c ++ padding n → d ≡ old ++ framed type (front ++ back)
-framed_parts old front back a b c d type n l e1 e2 e3 e4 =
+    d ≡ c ++ padding n → d ≡ old ++ encoded_pod type (front ++ back)
+pod_parts old front back a b c d type n l e1 e2 e3 e4 =
     e4
     ∙ ap (λ x. x ++ padding n) (e3 ∙ ap (λ x. x ++ back) (e2 ∙ ap (λ x. x ++ front) e1))
     ∙ (simp append_assoc)

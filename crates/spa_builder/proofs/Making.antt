@@ -17,7 +17,7 @@ use Rattle.spa_builder.specs.Replay.{state_after_calls, state_from}
 use Rattle.spa_builder.specs.Making.{AreFixed, ComesTo, state_of_value, calls_for, member_calls, open_behind, property_calls}
 use Rattle.spa_utils.specs.declared.errno.Errno.{Errno}
 use Rattle.spa_utils.specs.declared.errno.TheConstants.Errno.{NOMEM}
-use Rattle.spa_builder.proofs.Lengths.{length-behind_two, length-fixed, length-framed, length-pointer, members_joined, properties_joined}
+use Rattle.spa_builder.proofs.Lengths.{length-behind_two, length-fixed, length-encoded_pod, length-pointer, members_joined, properties_joined}
 use Rattle.spa_builder.proofs.Steps.{after, begun_is, lt_test, no_element, placed_is}
 use Rattle.spa_builder.proofs.Valued.{clean}
 
@@ -86,14 +86,14 @@ properties_length ps qs = ap length (properties_joined ps qs) ∙ length-append 
 member_length : (v : Tree) (vs : Trees) →
     length (member_encodings (member v vs)) ≡ extent (length (encoded_body v)) + length (member_encodings vs)
 member_length v vs = length-append (encoding_of v) (member_encodings vs)
-    ∙ ap (λ n. n + length (member_encodings vs)) (length-framed (type_of v) (encoded_body v))
+    ∙ ap (λ n. n + length (member_encodings vs)) (length-encoded_pod (type_of v) (encoded_body v))
 
 property_length : (k f : ℕ) (v : Tree) (ps : Properties) →
     length (property_encodings (property k f v ps)) ≡
     8 + (extent (length (encoded_body v)) + length (property_encodings ps))
 property_length k f v ps = length-behind_two k f (encoding_of v ++ property_encodings ps)
     ∙ ap (λ n. 8 + n) (length-append (encoding_of v) (property_encodings ps)
-    ∙ ap (λ n. n + length (property_encodings ps)) (length-framed (type_of v) (encoded_body v)))
+    ∙ ap (λ n. n + length (property_encodings ps)) (length-encoded_pod (type_of v) (encoded_body v)))
 
 object_length : (t i : ℕ) (ps : Properties) →
     length (encoded_body (object t i ps)) ≡ 8 + length (property_encodings ps)

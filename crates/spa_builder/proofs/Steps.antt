@@ -9,8 +9,8 @@ use Rattle.spa_format.specs.Words.{word_bytes, extent, padding}
 use Rattle.spa_format.specs.Kind.{Fixed, kind_of, body_size, type_number}
 use Rattle.spa_format.specs.Pod.{least_count}
 use Rattle.spa_format.specs.Tree.{Shape, Tree, fixed, string, bytes, bitmap, array, pointer, Trees, no_trees, member, Properties, no_properties, property, struct, object, choice, type_of, array_type, choice_type, object_type, struct_type}
-use Rattle.spa_format.specs.Encoding.{framed, encoding_of, member_encodings, property_encodings, encoded_body}
-use Rattle.spa_builder.proofs.Lengths.{length-word_bytes, members_joined, properties_joined, length-framed}
+use Rattle.spa_format.specs.Encoding.{encoded_pod, encoding_of, member_encodings, property_encodings, encoded_body}
+use Rattle.spa_builder.proofs.Lengths.{length-word_bytes, members_joined, properties_joined, length-encoded_pod}
 use Rattle.spa_builder.specs.State.{Partial, open_struct, open_object, open_property, open_array, open_choice, State, start, with_tree, with_property}
 use Rattle.spa_builder.specs.Step.{all_fit, own_size, array_of, child_kind, takes_trees, state_with_value, state_with_key, state_with_tree, state_after_pop, closed_value, outcome_if_fits, outcome_of, Outcome, Accepts, Inval, Nospc}
 use Rattle.spa_builder.specs.Fields.{BuilderFields, fields_of, HasState, IsAt, IsNested, IsFair, so_far, all_so_far, body_so_far, type_of_partial, frames_of, what_of}
@@ -143,7 +143,7 @@ added_fit (p ∷ ps) v n l h k =
     one_size_decides (trees_with_value (p ∷ ps) v) (added_nested (p ∷ ps) v k)
     ∙ room_later (p ∷ ps) (trees_with_value (p ∷ ps) v) n (length-filled (p ∷ ps) v)
     (ap length (grows p ps v h) ∙ length-append (all_so_far (p ∷ ps)) (encoding_of v)
-    ∙ ap (λ m. length (all_so_far (p ∷ ps)) + m) (length-framed (type_of v) (encoded_body v)
+    ∙ ap (λ m. length (all_so_far (p ∷ ps)) + m) (length-encoded_pod (type_of v) (encoded_body v)
     ∙ sym l))
 
 -- the bytes got the value's encoding_of, and the frames know it
@@ -289,7 +289,7 @@ closing old closed (p ∷ rest) o at e =
 
 pub patched : (front body b : List ℕ) (k n start : ℕ) → start ≡ length front → n ≡ length body →
     b ≡ (front ++ (word_bytes 0 ++ (word_bytes k ++ body))) ++ padding n →
-    take start b ++ (word_bytes n ++ drop (start + 4) b) ≡ front ++ framed k body
+    take start b ++ (word_bytes n ++ drop (start + 4) b) ≡ front ++ encoded_pod k body
 patched front body b k n start s m e =
     let z = padding n in
     let e1 : b ≡ front ++ (word_bytes 0 ++ (word_bytes k ++ (body ++ z))) = e ∙ simp append_assoc in
@@ -307,7 +307,7 @@ patched front body b k n start s m e =
 -- the encoding of the choice that a tree becomes
 choice_encoding : (h : Shape) (f : ℕ) (x : Fixed) (xs : List Fixed) (v : Tree) (b : Bool) →
     cond b None (Some (choice h f (kind_of x) x xs)) ≡ Some v →
-    framed choice_type (body_so_far (open_choice h f (x ∷ xs))) ≡ encoding_of v
+    encoded_pod choice_type (body_so_far (open_choice h f (x ∷ xs))) ≡ encoding_of v
 choice_encoding h f x xs v true e = absurd (cc)
 choice_encoding h f x xs v false e = let i : v ≡ choice h f (kind_of x) x xs = cc in
     ap encoding_of (sym i)
@@ -325,14 +325,14 @@ same_none true = refl
 same_none false = refl
 
 pub finished_encoding : (p : Partial) (v : Tree) → closed_value p ≡ Some v → IsFair p →
-    framed (type_of_partial p) (body_so_far p) ≡ encoding_of v
+    encoded_pod (type_of_partial p) (body_so_far p) ≡ encoding_of v
 finished_encoding (open_struct vs) v e f = let i : v ≡ struct vs = cc in ap encoding_of (sym i)
 finished_encoding (open_object t i ps) v e f = let x : v ≡ object t i ps = cc in
     ap encoding_of (sym x)
 finished_encoding (open_property t i ps k g) v e f = absurd (cc)
 finished_encoding (open_array xs) v e f =
     let x : v ≡ array_of xs = cc in
-    ap (λ l. framed array_type
+    ap (λ l. encoded_pod array_type
     (word_bytes (body_size (child_kind xs)) ++ (word_bytes (type_number (child_kind xs)) ++ l)))
     (kept_bodies (child_kind xs) xs f) ∙ ap encoding_of (sym x)
 finished_encoding (open_choice h g []) v e f = absurd (cc)
@@ -402,7 +402,7 @@ closed_fit rest p v e f h k fit =
 
 pub is_closed : (old new : BuilderFields) (s : State) (o : BegunPod) (p : Partial) (rest : List Partial)
     (v : Tree) → Closing old s o p rest → closed_value p ≡ Some v →
-    new.bytes ≡ (member_encodings s.closed ++ all_so_far rest) ++ framed (type_of_partial p)
+    new.bytes ≡ (member_encodings s.closed ++ all_so_far rest) ++ encoded_pod (type_of_partial p)
     (body_so_far p) → new.frames ≡ frames_of (length (member_encodings s.closed)) (trees_with_value rest v) →
     IsAt new (after s.closed rest v)
 is_closed old new s o p rest v k e b f =

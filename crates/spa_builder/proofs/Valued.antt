@@ -27,7 +27,7 @@ use Rattle.spa_builder.specs.Innermost.{trees_with_value, has_room_for}
 use Rattle.spa_builder.specs.Answers.{Makes, MakesValue, RefusesValue, errno_of}
 use Rattle.spa_utils.specs.declared.errno.Errno.{Errno}
 use Rattle.spa_utils.specs.declared.errno.TheConstants.Errno.{INVAL, NOMEM, NOSPC}
-use Rattle.spa_builder.proofs.Lengths.{length-framed}
+use Rattle.spa_builder.proofs.Lengths.{length-encoded_pod}
 use Rattle.spa_builder.proofs.Steps.{added_fit, after, and_false, is_after, lt_test, nul_refused, kept, placed_is, sized_goes, sized_nospc, without_nul}
 
 -- ---- a beginning that was taken is taken back
@@ -141,7 +141,7 @@ misplaced s v old e =
 pub value_room : (s : State) (v : Tree) (old : BuilderFields) → IsAt old s → takes_trees s.opened ≡ true →
     all_fit 0 (trees_with_value s.opened v) ≡ has_room_for (length (encoding_of v)) s.opened
 value_room s v old at t = added_fit s.opened v (length (encoding_of v))
-    (length-framed (type_of v) (encoded_body v)) t at.nested
+    (length-encoded_pod (type_of v) (encoded_body v)) t at.nested
 
 pub value_added : (s : State) (v : Tree) (old new : BuilderFields) (x : Unit {0}) → IsAt old s →
     takes_trees s.opened ≡ true → IsWritable v →

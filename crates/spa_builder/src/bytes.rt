@@ -2,7 +2,7 @@
 //! but where its doc says so.
 ghost use Rattle.std.specs.Prelude.{◌≡◌, ◌+◌, ◌<◌, ◌≤◌, ◌*◌, ◌++◌, List, ℕ, length, replicate, take, drop, IfErr, OnErr, OnOk};
 ghost use Rattle.spa_fixed_sized.specs.Reading.{AreWhole};
-ghost use Rattle.spa_format.specs.Encoding.{array_body, encoding_of, fixed_bodies, framed};
+ghost use Rattle.spa_format.specs.Encoding.{array_body, encoding_of, fixed_bodies, encoded_pod};
 ghost use Rattle.spa_format.specs.Kind.{Fixed, fixed_body};
 ghost use Rattle.spa_format.specs.Pod.{AreElements};
 ghost use Rattle.spa_format.specs.Tree.{array_type, pointer};
@@ -43,7 +43,7 @@ pub(crate) fn put_fixed_pod<T: CanonicalFixedSizedPod>(
     bytes: &mut Written,
     value: &T,
 ) -> Result<(), Errno>
-    ensures ok { OnOk result (bytes.new ≡ bytes.old ++ framed T.TYPE (fixed_body (T.fixed value.now))) }
+    ensures ok { OnOk result (bytes.new ≡ bytes.old ++ encoded_pod T.TYPE (fixed_body (T.fixed value.now))) }
     ensures unchanged { OnErr result (bytes.new ≡ bytes.old) }
     ensures memory { IfErr result (λ e. e ≡ NOMEM) }
 {
@@ -59,7 +59,7 @@ pub(crate) fn put_pod(
     back: &[u8],
 ) -> Result<(), Errno>
     requires { length front.now + length back.now < size_limit }
-    ensures ok { OnOk result (bytes.new ≡ bytes.old ++ framed type_ (front.now ++ back.now)) }
+    ensures ok { OnOk result (bytes.new ≡ bytes.old ++ encoded_pod type_ (front.now ++ back.now)) }
     ensures unchanged { OnErr result (bytes.new ≡ bytes.old) }
     ensures memory { IfErr result (λ e. e ≡ NOMEM) }
 {
@@ -93,7 +93,7 @@ pub(crate) fn put_bodies<T: CanonicalFixedSizedPod>(
     requires whole { AreWhole T.SIZE bodies.now }
     requires small { header_size + length bodies.now < size_limit }
     ensures ok { OnOk result ((xs : List Fixed) → AreElements T.kind xs bodies.now
-        → bytes.new ≡ bytes.old ++ framed array_type (array_body T.kind xs)) }
+        → bytes.new ≡ bytes.old ++ encoded_pod array_type (array_body T.kind xs)) }
     ensures grown { IsGrown bytes.old bytes.new }
     ensures memory { IfErr result (λ e. e ≡ NOMEM) }
 {

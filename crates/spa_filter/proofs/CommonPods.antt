@@ -5,7 +5,7 @@ use Rattle.spa_format.specs.Tree.{Shape, none_choice, range_choice, step_choice,
 use Rattle.spa_format.specs.Pod.{IsBody, IsPod}
 use Rattle.spa_format.specs.Normal.{kept_flags}
 use Rattle.spa_format.specs.Typed.{IsTyped, IsTypedFixed}
-use Rattle.spa_format.specs.Encoding.{encoded_body, encoding_of, framed}
+use Rattle.spa_format.specs.Encoding.{encoded_body, encoding_of, encoded_pod}
 use Rattle.spa_format.proofs.Back.{encoding_is_pod}
 use Rattle.spa_format.proofs.Shapes.{choice_only, fixed_only}
 use Rattle.spa_format.proofs.Unique.{one_value, same_body}
@@ -51,13 +51,13 @@ appended_choice t old new e z h l p =
 
 -- and one of a content
 pub appended_fixed : (x : Fixed) (type : ℕ) (k : Kind) (old new : List ℕ) → type ≡ type_number k → kind_of x ≡ k → IsTypedFixed x →
-    new ≡ old ++ framed type (fixed_body x) → IsAppended (fixed x) old new
+    new ≡ old ++ encoded_pod type (fixed_body x) → IsAppended (fixed x) old new
 appended_fixed x type k old new t e h p =
     let its : IsPod (encoding_of (fixed x)) (fixed x) = encoding_is_pod (fixed x) h (record { no_nul = λ n. n; fits = λ n. n }) in
     record {
       pod = encoding_of (fixed x);
       written = record { its_pod = its; same = refl };
-      parts = p ∙ ap (λ n. old ++ framed n (fixed_body x)) (t ∙ ap type_number (sym e));
+      parts = p ∙ ap (λ n. old ++ encoded_pod n (fixed_body x)) (t ∙ ap type_number (sym e));
     }
 
 pub choice_typed : {T : Type 0} (k : Kind) (f : T → Fixed) (n : ℕ) (e : ChoiceEnum T) → type_of (choice_enum_tree k f n e) ≡ choice_type

@@ -3,7 +3,7 @@ use Rattle.std.proofs.Common.{◌≡◌, ℕ, ◌+◌, ◌*◌, List, ◌++◌, 
 use Rattle.spa_format.specs.Words.{word_bytes, padding}
 use Rattle.spa_format.specs.Kind.{Kind, type_number, body_size, Fixed, kind_of}
 use Rattle.spa_format.specs.Tree.{array_type}
-use Rattle.spa_format.specs.Encoding.{fixed_bodies, array_body, framed}
+use Rattle.spa_format.specs.Encoding.{fixed_bodies, array_body, encoded_pod}
 use Rattle.spa_format.proofs.Elements.{array_length}
 use Rattle.spa_fixed_sized.proofs.ElementWriting.{bodies_length}
 
@@ -18,7 +18,7 @@ length-array_body k f s vs t z =
 pub array_encoding : (k : Kind) (xs : List Fixed) (header : List ℕ) (n s t : ℕ) →
     header ≡ (word_bytes n ++ word_bytes array_type) ++ (word_bytes s ++ word_bytes t) →
     n ≡ length (array_body k xs) → s ≡ body_size k → t ≡ type_number k →
-    header ++ (fixed_bodies xs ++ padding n) ≡ framed array_type (array_body k xs)
+    header ++ (fixed_bodies xs ++ padding n) ≡ encoded_pod array_type (array_body k xs)
 array_encoding k xs header n s t e en es et =
     ap (λ l. l ++ (fixed_bodies xs ++ padding n)) e
     ∙ ap (λ x. ((word_bytes n ++ word_bytes array_type) ++ (word_bytes x ++ word_bytes t)) ++

@@ -5,7 +5,7 @@ use Rattle.std.proofs.Math.Seq.{take-append-add}
 use Rattle.spa_format.specs.Words.{word_bytes, padding}
 use Rattle.spa_format.specs.Kind.{Kind, type_number, body_size, Fixed, kind_of}
 use Rattle.spa_format.specs.Tree.{choice_type}
-use Rattle.spa_format.specs.Encoding.{fixed_bodies, array_body, framed}
+use Rattle.spa_format.specs.Encoding.{fixed_bodies, array_body, encoded_pod}
 use Rattle.spa_format.proofs.WordLemmas.{length-word_bytes}
 use Rattle.spa_format.proofs.Elements.{array_length, fixed_bodies-append}
 use Rattle.spa_fixed_sized.specs.Choices.{choice_body}
@@ -53,7 +53,7 @@ pub choice_encoding : (k : Kind) (xs ys : List Fixed) (pod choice child bodies s
     take m bodies ≡ fixed_bodies xs → pod ≡ word_bytes n ++ word_bytes choice_type →
     choice ≡ word_bytes shape ++ word_bytes flags → child ≡ word_bytes s ++ word_bytes t →
     n ≡ length (choice_body shape flags k (xs ++ ys)) → s ≡ body_size k → t ≡ type_number k →
-    take (24 + m) start ++ (fixed_bodies ys ++ padding n) ≡ framed choice_type
+    take (24 + m) start ++ (fixed_bodies ys ++ padding n) ≡ encoded_pod choice_type
     (choice_body shape flags k (xs ++ ys))
 choice_encoding k xs ys pod choice child bodies start n shape flags s t m e b p c h en es et =
     let head : List ℕ = (pod ++ choice) ++ child in
@@ -98,7 +98,7 @@ pub choice_put : {A : Type 0} {B : Type 0} (k : Kind) (e : A → Fixed) (f : B �
     n ≡ length (choice_body shape flags k (map e xs ++ map f ys)) → s ≡ body_size k →
     t ≡ type_number k →
     take (24 + length xs * read) start ++ (fixed_bodies (map f ys) ++ padding n) ≡
-    framed choice_type (choice_body shape flags k (map e xs ++ map f ys))
+    encoded_pod choice_type (choice_body shape flags k (map e xs ++ map f ys))
 choice_put k e f xs ys pod choice child bodies start n shape flags s t own read st b r p c h en es
     et =
     choice_encoding k (map e xs) (map f ys) pod choice child bodies start n shape flags s t

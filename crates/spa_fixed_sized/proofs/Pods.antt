@@ -6,7 +6,7 @@ use Rattle.std.proofs.lemmas.List.{append-nil, take_all, take_at, length-replica
 use Rattle.std.specs.Prelude.{replicate}
 use Rattle.spa_format.specs.Words.{word_bytes, padding, padded_size, extent}
 use Rattle.spa_format.specs.Kind.{Kind, body_size, Fixed, kind_of, fixed_body}
-use Rattle.spa_format.specs.Encoding.{framed}
+use Rattle.spa_format.specs.Encoding.{encoded_pod}
 use Rattle.spa_format.proofs.WordLemmas.{length-word_bytes}
 use Rattle.spa_format.proofs.FixedKinds.{length-fixed_body}
 
@@ -28,13 +28,13 @@ nothing (x ∷ b) e = absurd (omega arith)
 pub encoding_of_fixed : (size type : ℕ) (b header padded : List ℕ) → length b ≡ size → size ≤ 8 →
     take size padded ≡ b → drop size padded ≡ replicate (8 - size) 0 →
     header ≡ word_bytes size ++ word_bytes type →
-    take (extent size) (header ++ padded) ≡ framed type b
+    take (extent size) (header ++ padded) ≡ encoded_pod type b
 encoding_of_fixed zero type b header padded l w t d e =
     let n = nothing b l in
     ap (take 8) (ap (λ x. x ++ padded) e) ∙ take_at (word_bytes 0 ++ word_bytes type) padded 8
     (length-two_words 0 type)
     ∙ ap (λ x. word_bytes 0 ++ x) (sym (append-nil (word_bytes type)))
-    ∙ ap (framed type) (sym n)
+    ∙ ap (encoded_pod type) (sym n)
 encoding_of_fixed (suc m) type b header padded l w t d e =
     let size : ℕ = suc m in
     let p : padded_size size ≡ 8 = omega arith in

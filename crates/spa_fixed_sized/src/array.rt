@@ -5,7 +5,7 @@ ghost use Rattle.spa_format.specs.Faults.{IsWrongArray};
 ghost use Rattle.spa_format.specs.Kind.{IsFixedBody, body_size, content};
 ghost use Rattle.spa_format.specs.Pod.{AreElements, IsArray};
 ghost use Rattle.spa_sink.specs.Writing.{Begun, RefusesPiece};
-ghost use Rattle.spa_format.specs.Encoding.{array_body, framed};
+ghost use Rattle.spa_format.specs.Encoding.{array_body, encoded_pod};
 ghost use Rattle.spa_format.specs.Tree.{array_type};
 ghost use Rattle.spa_format.specs.Typed.{AreOf};
 ghost use Rattle.spa_format.specs.Words.{header_size, size_limit, word_at};
@@ -114,14 +114,14 @@ pub fn put_array<T: CanonicalFixedSizedPod, S: PodSink>(
     values: &[T],
 ) -> Result<(), GenError>
     ensures ok { OnOk result (S.appends sink.old
-        (framed array_type (array_body T.kind (map T.fixed values.now))) sink.new) }
+        (encoded_pod array_type (array_body T.kind (map T.fixed values.now))) sink.new) }
     ensures typed { OnOk result (AreOf T.kind (map T.fixed values.now)) }
     ensures fits { OnOk result (length (array_body T.kind (map T.fixed values.now)) < size_limit) }
     ensures begun { OnErr result (Begun S.appends sink.old
-        (framed array_type (array_body T.kind (map T.fixed values.now))) sink.new) }
+        (encoded_pod array_type (array_body T.kind (map T.fixed values.now))) sink.new) }
     ensures refused { IfErr result (RefusesPiece ⊥ (size_limit ≤ length (array_body T.kind (map T.fixed values.now)))
         (λ e. S.refuses sink.old (length
-        (framed array_type (array_body T.kind (map T.fixed values.now)))) sink.new e) sink.old sink.new) }
+        (encoded_pod array_type (array_body T.kind (map T.fixed values.now)))) sink.new e) sink.old sink.new) }
 {
     let Some(size) = body_len::<T>(HEADER_LEN, values.len()) else {
         return Err(GenError::TooLarge);

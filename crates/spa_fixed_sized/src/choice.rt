@@ -6,7 +6,7 @@ ghost use Rattle.spa_format.specs.Faults.{choice_header_size};
 ghost use Rattle.spa_format.specs.Kind.{IsFixedBody};
 ghost use Rattle.spa_format.specs.Pod.{AreElements, IsBody};
 ghost use Rattle.spa_sink.specs.Writing.{Begun, RefusesPiece};
-ghost use Rattle.spa_format.specs.Encoding.{encoded_body, encoding_of, fixed_bodies, framed};
+ghost use Rattle.spa_format.specs.Encoding.{encoded_body, encoding_of, fixed_bodies, encoded_pod};
 ghost use Rattle.spa_format.specs.Tree.{choice_type, enum_choice, none_choice, range_choice, step_choice};
 ghost use Rattle.spa_format.specs.Typed.{AreOf, IsTyped};
 ghost use Rattle.spa_format.specs.Words.{size_limit, word_at};
@@ -205,20 +205,20 @@ fn put_values<T: CanonicalFixedSizedPod, S: PodSink>(
 ) -> Result<(), GenError>
     requires { length first.now ≤ MOST_FIRST }
     ensures ok { OnOk result (S.appends sink.old
-        (framed choice_type (choice_body shape flags T.kind (map
+        (encoded_pod choice_type (choice_body shape flags T.kind (map
         (λ x. T.fixed x.now) first.now ++ map T.fixed more.now))) sink.new) }
     ensures typed { OnOk result ((flags < size_limit)
         × AreOf T.kind (map (λ x. T.fixed x.now) first.now ++ map T.fixed more.now)) }
     ensures fits { OnOk result (length (choice_body shape flags T.kind (map
         (λ x. T.fixed x.now) first.now ++ map T.fixed more.now)) < size_limit) }
     ensures begun { OnErr result (Begun S.appends sink.old
-        (framed choice_type (choice_body shape flags T.kind (map
+        (encoded_pod choice_type (choice_body shape flags T.kind (map
         (λ x. T.fixed x.now) first.now ++ map T.fixed more.now))) sink.new) }
     ensures refused { IfErr result (RefusesPiece ⊥
         (size_limit ≤ length (choice_body shape flags T.kind (map
         (λ x. T.fixed x.now) first.now ++ map T.fixed more.now)))
         (λ e. S.refuses sink.old (length
-        (framed choice_type (choice_body shape flags T.kind (map
+        (encoded_pod choice_type (choice_body shape flags T.kind (map
         (λ x. T.fixed x.now) first.now ++ map T.fixed more.now)))) sink.new e) sink.old sink.new) }
 {
     let first_len = first.len() * T::SIZE;

@@ -1,7 +1,7 @@
 //! Writes whole pods of the types of fixed size.
 ghost use Rattle.std.specs.Prelude.{◌≡◌, ◌++◌, ℕ, IfErr, OnErr, OnOk, length, take};
 ghost use Rattle.spa_format.specs.Kind.{fixed_body};
-ghost use Rattle.spa_format.specs.Encoding.{framed};
+ghost use Rattle.spa_format.specs.Encoding.{encoded_pod};
 ghost use Rattle.spa_format.specs.Typed.{IsTypedFixed};
 ghost use Rattle.spa_format.specs.Words.{extent};
 
@@ -17,12 +17,12 @@ pub fn put_fixed<T: CanonicalFixedSizedPod, S: PodSink>(
     sink: &mut S,
     value: &T,
 ) -> Result<(), GenError>
-    ensures ok { OnOk result (S.appends sink.old (framed T.TYPE (fixed_body (T.fixed value.now))) sink.new) }
+    ensures ok { OnOk result (S.appends sink.old (encoded_pod T.TYPE (fixed_body (T.fixed value.now))) sink.new) }
     ensures typed { IsTypedFixed (T.fixed value.now) }
     ensures begun { OnErr result ((count : ℕ)
-        × S.appends sink.old (take count (framed T.TYPE (fixed_body (T.fixed value.now)))) sink.new) }
+        × S.appends sink.old (take count (encoded_pod T.TYPE (fixed_body (T.fixed value.now)))) sink.new) }
     ensures cause { IfErr result
-        (λ e. S.refuses sink.old (length (framed T.TYPE (fixed_body (T.fixed value.now)))) sink.new e) }
+        (λ e. S.refuses sink.old (length (encoded_pod T.TYPE (fixed_body (T.fixed value.now)))) sink.new e) }
 {
     sink.append(&pod_bytes(value)[..extent_of(T::SIZE as u32)])
 }
@@ -30,7 +30,7 @@ pub fn put_fixed<T: CanonicalFixedSizedPod, S: PodSink>(
 /// The encoding of a value of fixed size, and zeros behind it up to sixteen bytes.
 #[inline(always)]
 pub fn pod_bytes<T: CanonicalFixedSizedPod>(value: &T) -> [u8; LONGEST_POD_LEN]
-    ensures encoding { take (extent T.SIZE) result ≡ framed T.TYPE (fixed_body (T.fixed value.now)) }
+    ensures encoding { take (extent T.SIZE) result ≡ encoded_pod T.TYPE (fixed_body (T.fixed value.now)) }
     ensures typed { IsTypedFixed (T.fixed value.now) }
 {
     let mut pod = [0; LONGEST_POD_LEN];

@@ -1,7 +1,7 @@
 //! Computes how long pods are, before a byte of them is written.
 ghost use Rattle.std.specs.Prelude.{◌≡◌, ◌+◌, ◌*◌, ◌<◌, ◌≤◌, IfNone, IfSome, length, map};
 ghost use Rattle.spa_fixed_sized.specs.Choices.{choice_tree};
-ghost use Rattle.spa_format.specs.Encoding.{array_body, encoded_body, framed};
+ghost use Rattle.spa_format.specs.Encoding.{array_body, encoded_body, encoded_pod};
 ghost use Rattle.spa_format.specs.Faults.{choice_header_size};
 ghost use Rattle.spa_format.specs.Kind.{fixed_body};
 ghost use Rattle.spa_format.specs.Words.{size_limit};
@@ -13,7 +13,7 @@ use spa_utils::{Choice, ChoiceEnum};
 
 /// The length in bytes of the encoding of a value of fixed size.
 pub fn pod_len<T: CanonicalFixedSizedPod>(_value: &T) -> usize
-    ensures { result ≡ length (framed T.TYPE (fixed_body (T.fixed _value.now))) }
+    ensures { result ≡ length (encoded_pod T.TYPE (fixed_body (T.fixed _value.now))) }
 {
     extent_of(T::SIZE as u32)
 }

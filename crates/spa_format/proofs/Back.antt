@@ -5,29 +5,29 @@ use Rattle.spa_format.specs.Words.{word_at, word_bytes, extent, padding, body_of
 use Rattle.spa_format.specs.Tree.{Tree, fixed, string, bytes, bitmap, array, choice, pointer, struct, object, Trees, no_trees, member, Properties, no_properties, property, type_of}
 use Rattle.spa_format.specs.Kind.{kind_of}
 use Rattle.spa_format.specs.Pod.{IsWhole, IsBody, AreMembers, AreProperties, IsPod}
-use Rattle.spa_format.specs.Encoding.{framed, encoded_body, member_encodings, property_encodings, encoding_of}
+use Rattle.spa_format.specs.Encoding.{encoded_pod, encoded_body, member_encodings, property_encodings, encoding_of}
 use Rattle.spa_format.specs.Normal.{normal_of, normal_members, normal_properties}
 use Rattle.spa_format.specs.Typed.{IsTyped, AllTyped, AllPropertiesTyped}
 use Rattle.spa_format.specs.Writable.{HasNul, SomeHasNul, SomeValueHasNul, IsTooLarge, SomeTooLarge, SomeValueTooLarge, IsWritable}
 use Rattle.spa_format.specs.Front.{front_of, Begins}
 use Rattle.spa_format.proofs.WordLemmas.{length-word_bytes, word_inside}
-use Rattle.spa_format.proofs.Short.{length-framed}
+use Rattle.spa_format.proofs.Short.{length-encoded_pod}
 use Rattle.spa_format.proofs.Fronts.{front_of_whole}
 use Rattle.spa_format.proofs.FixedKinds.{number_is, size_fits, fixed_back, length-fixed_body}
 use Rattle.spa_format.proofs.Elements.{array_back}
 use Rattle.spa_format.proofs.Choices.{choice_back, pointer_back, pointer_length}
 
--- what is framed is whole
-pub whole_frame : (t : ℕ) (b : List ℕ) (P : List ℕ → Type 0) → t < 2 ^ 32 → length b < 2 ^ 32 → P b → IsWhole (framed t b) t P
+-- an encoded pod is whole
+pub whole_frame : (t : ℕ) (b : List ℕ) (P : List ℕ → Type 0) → t < 2 ^ 32 → length b < 2 ^ 32 → P b → IsWhole (encoded_pod t b) t P
 whole_frame t b P lt lb p =
     let n = length b in
-    let body_size : word_at (framed t b) 0 ≡ n = word_inside [] (word_bytes t ++ (b ++ padding n)) n 0 refl lb in
-    let its_type : word_at (framed t b) 4 ≡ t = word_inside (word_bytes n) (b ++ padding n) t 4 (length-word_bytes n) lt in
+    let body_size : word_at (encoded_pod t b) 0 ≡ n = word_inside [] (word_bytes t ++ (b ++ padding n)) n 0 refl lb in
+    let its_type : word_at (encoded_pod t b) 4 ≡ t = word_inside (word_bytes n) (b ++ padding n) t 4 (length-word_bytes n) lt in
     let head = sym (append_assoc (word_bytes n) (word_bytes t) (b ++ padding n)) in
-    let behind : drop 8 (framed t b) ≡ b ++ padding n =
+    let behind : drop 8 (encoded_pod t b) ≡ b ++ padding n =
     ap (drop 8) head ∙ drop_at (word_bytes n ++ word_bytes t) (b ++ padding n) 8 (length-append (word_bytes n) (word_bytes t) ∙ (let e = length-word_bytes n in let f = length-word_bytes t in omega arith)) in
-    let inside : body_of (framed t b) ≡ b = ap (λ s. take s (drop 8 (framed t b))) body_size ∙ ap (take n) behind ∙ take_at b (padding n) n refl in
-    record { whole = length-framed t b ∙ ap extent (sym body_size); its_type = its_type; content = subst P (sym inside) p }
+    let inside : body_of (encoded_pod t b) ≡ b = ap (λ s. take s (drop 8 (encoded_pod t b))) body_size ∙ ap (take n) behind ∙ take_at b (padding n) n refl in
+    record { whole = length-encoded_pod t b ∙ ap extent (sym body_size); its_type = its_type; content = subst P (sym inside) p }
 
 pub same_type : (v : Tree) → type_of (normal_of v) ≡ type_of v
 same_type (fixed x) = refl
@@ -90,10 +90,10 @@ mutual
   back_members (member v vs) h n l =
       let here = back_body v h.0 (λ x. n (inl x)) (λ x. l (inl x)) in
       let whole = whole_frame (type_of v) (encoded_body v) (IsBody (normal_of v)) (type_fits v) (body_fits v (λ x. l (inl x))) here in (
-        framed (type_of v) (encoded_body v),
+        encoded_pod (type_of v) (encoded_body v),
         member_encodings vs,
         refl,
-        subst (λ t. IsWhole (framed (type_of v) (encoded_body v)) t (IsBody (normal_of v))) (sym (same_type v)) whole,
+        subst (λ t. IsWhole (encoded_pod (type_of v) (encoded_body v)) t (IsBody (normal_of v))) (sym (same_type v)) whole,
         back_members vs h.1 (λ x. n (inr x)) (λ x. l (inr x)),
       )
 
@@ -102,7 +102,7 @@ mutual
   back_props (property k f v ps) h n l =
       let here = back_body v h.2 (λ x. n (inl x)) (λ x. l (inl x)) in
       let whole = whole_frame (type_of v) (encoded_body v) (IsBody (normal_of v)) (type_fits v) (body_fits v (λ x. l (inl x))) here in
-      let t = framed (type_of v) (encoded_body v) in
+      let t = encoded_pod (type_of v) (encoded_body v) in
       let more = t ++ property_encodings ps in
       let b = property_encodings (property k f v ps) in
       let e0 = length-append (word_bytes k) (word_bytes f ++ more) in

@@ -3,7 +3,7 @@ use Rattle.std.proofs.Common.{◌≡◌, ℕ, ◌+◌, ◌-◌, ◌≤◌, List,
 use Rattle.std.proofs.lemmas.List.{append-nil, length-replicate}
 use Rattle.std.specs.Int.{w32, to_le_bytes}
 use Rattle.spa_format.specs.Words.{header_size, padded_size, padding, word_bytes, wide_bytes}
-use Rattle.spa_format.specs.Encoding.{encoded_body, encoding_of, framed, member_encodings, property_encodings}
+use Rattle.spa_format.specs.Encoding.{encoded_body, encoding_of, encoded_pod, member_encodings, property_encodings}
 use Rattle.spa_format.specs.Tree.{Tree, Trees, Properties, no_trees, member, no_properties, property, type_of, pointer, pointer_type}
 
 pub length-word_bytes : (n : ℕ) → length (word_bytes n) ≡ 4
@@ -18,9 +18,9 @@ pub length-padding : (size : ℕ) → length (padding size) ≡ padded_size size
 length-padding size = length-replicate (padded_size size - size) 0
 
 -- a header, then the body, rounded up
-pub length-framed : (type : ℕ) (body : List ℕ) →
-    length (framed type body) ≡ header_size + padded_size (length body)
-length-framed type body =
+pub length-encoded_pod : (type : ℕ) (body : List ℕ) →
+    length (encoded_pod type body) ≡ header_size + padded_size (length body)
+length-encoded_pod type body =
     let n = length body in
     let e0 = length-append (word_bytes n) (word_bytes type ++ (body ++ padding n)) in
     let e1 = length-append (word_bytes type) (body ++ padding n) in
@@ -33,10 +33,10 @@ length-framed type body =
 
 -- the header and the body are within the encoding
 pub body_within : (type : ℕ) (body : List ℕ) →
-    header_size + length body ≤ length (framed type body)
-body_within type body = omega (arith, length-framed type body)
+    header_size + length body ≤ length (encoded_pod type body)
+body_within type body = omega (arith, length-encoded_pod type body)
 
-pub header_within : (type : ℕ) (body : List ℕ) → header_size ≤ length (framed type body)
+pub header_within : (type : ℕ) (body : List ℕ) → header_size ≤ length (encoded_pod type body)
 header_within type body = omega (arith, body_within type body)
 
 pub two_words_length : (m n : ℕ) → length (word_bytes m ++ word_bytes n) ≡ 8
@@ -67,15 +67,15 @@ pointer_encoding t a =
 pub pointer_encoding_length : (t a : ℕ) → length (encoding_of (pointer t a)) ≡ 24
 pointer_encoding_length t a =
     omega
-    (arith, length-framed pointer_type (word_bytes t ++ (word_bytes 0 ++ wide_bytes a)), length-pointer t a)
+    (arith, length-encoded_pod pointer_type (word_bytes t ++ (word_bytes 0 ++ wide_bytes a)), length-pointer t a)
 
 pub word_bytes_is : (n : ℕ) → word_bytes n ≡ to_le_bytes w32 n
 unfolding word_bytes
 word_bytes_is n = refl
 
 -- an encoding takes whole padded bytes
-pub whole_encoding : (type : ℕ) (body : List ℕ) → padded_size (length (framed type body)) ≡ length (framed type body)
-whole_encoding type body = let e = length-framed type body in omega arith
+pub whole_encoding : (type : ℕ) (body : List ℕ) → padded_size (length (encoded_pod type body)) ≡ length (encoded_pod type body)
+whole_encoding type body = let e = length-encoded_pod type body in omega arith
 
 pub whole_members : (vs : Trees) → padded_size (length (member_encodings vs)) ≡ length (member_encodings vs)
 whole_members no_trees = refl

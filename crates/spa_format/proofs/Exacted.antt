@@ -7,13 +7,13 @@ use Rattle.spa_format.specs.Kind.{Kind, Fixed, fixed_body}
 use Rattle.spa_format.specs.Pod.{IsBody, AreMembers, AreProperties, IsPod}
 use Rattle.spa_format.specs.Typed.{IsBytes, AreOf, IsTyped, AllTyped, AllPropertiesTyped}
 use Rattle.spa_format.specs.Writable.{IsWritable}
-use Rattle.spa_format.specs.Encoding.{encoding_of, encoded_body, array_body, framed}
+use Rattle.spa_format.specs.Encoding.{encoding_of, encoded_body, array_body, encoded_pod}
 use Rattle.spa_format.specs.Lenient.{HasChild, HasFixedChild, ConveysChoice, ConveysBody, ConveyMembers, ConveyProperties, Conveys}
 use Rattle.spa_format.proofs.WordLemmas.{length-word_bytes, word_at-append, word_at-take, word_fits, IsBytes-drop}
 use Rattle.spa_format.proofs.FixedKinds.{kind_of_body, typed_fixed, fixed_length}
 use Rattle.spa_format.proofs.Elements.{array_length}
 use Rattle.spa_format.proofs.Choices.{choice_back}
-use Rattle.spa_format.proofs.Short.{length-framed, shortest, without_nul, not_too_large}
+use Rattle.spa_format.proofs.Short.{length-encoded_pod, shortest, without_nul, not_too_large}
 use Rattle.spa_format.proofs.Back.{whole_frame, type_fits, encoding_is_pod}
 use Rattle.spa_format.proofs.Origin.{IsBytes-body_of, IsBytes-first, IsBytes-others, normal, typed_body}
 use Rattle.spa_format.proofs.Conveyed.{by_shape}
@@ -91,13 +91,13 @@ choice_exact s g k x xs b f h =
     (by_shape s g k x xs b h)
 
 -- the body that was found, as a whole pod
-framed_exact : (v : Tree) (c b : List ℕ) (n : ℕ) → length c ≤ n → n < 2 ^ 32 → length b ≡ extent n → HasExact v c → HasPod v b
-framed_exact v c b n l fits whole r =
-    let e0 = length-framed (type_of v) r.body in
+pod_exact : (v : Tree) (c b : List ℕ) (n : ℕ) → length c ≤ n → n < 2 ^ 32 → length b ≡ extent n → HasExact v c → HasPod v b
+pod_exact v c b n l fits whole r =
+    let e0 = length-encoded_pod (type_of v) r.body in
     let short = r.shorter in
     let m : padded_size (length r.body) ≤ padded_size n = omega arith in
     record {
-      pod = framed (type_of v) r.body;
+      pod = encoded_pod (type_of v) r.body;
       is = whole_frame (type_of v) r.body (IsBody v) (type_fits v) (omega arith) r.says;
       typed = r.typed;
       writable = record { no_nul = without_nul v r.body r.says; fits = not_too_large v r.body (omega arith) r.says };
@@ -114,10 +114,10 @@ exact_in v b f inner h =
     let l = length_of_content b h.whole in
     let y = IsBytes-body_of b f in
     ⊎_elim
-    (λ m. framed_exact v (body_of b) b n l fits h.whole (inner (body_of b) y m.1))
+    (λ m. pod_exact v (body_of b) b n l fits h.whole (inner (body_of b) y m.1))
     (λ m. let c = length_of_child _ m.2 (body_of b) m.3 in
     let c0 = c.1 in
-    framed_exact v m.2 b n (omega arith) fits h.whole (inner m.2 (bytes_of_child _ m.2 (body_of b) y m.3) m.4))
+    pod_exact v m.2 b n (omega arith) fits h.whole (inner m.2 (bytes_of_child _ m.2 (body_of b) y m.3) m.4))
     h.content
 
 -- two words, and what is behind them

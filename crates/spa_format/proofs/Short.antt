@@ -5,7 +5,7 @@ use Rattle.spa_format.specs.Words.{word_at, word_bytes, extent, padded_size, pad
 use Rattle.spa_format.specs.Tree.{Tree, fixed, string, bytes, bitmap, array, choice, pointer, struct, object, Trees, no_trees, member, Properties, no_properties, property, type_of}
 use Rattle.spa_format.specs.Kind.{kind_of, fixed_body}
 use Rattle.spa_format.specs.Pod.{IsWhole, IsBody, AreMembers, AreProperties, IsPod}
-use Rattle.spa_format.specs.Encoding.{framed, encoded_body, member_encodings, property_encodings, encoding_of}
+use Rattle.spa_format.specs.Encoding.{encoded_pod, encoded_body, member_encodings, property_encodings, encoding_of}
 use Rattle.spa_format.specs.Writable.{HasNul, SomeHasNul, SomeValueHasNul, IsTooLarge, SomeTooLarge, SomeValueTooLarge}
 use Rattle.spa_format.proofs.WordLemmas.{length-word_bytes}
 use Rattle.spa_format.proofs.FixedKinds.{fixed_length}
@@ -21,8 +21,8 @@ padded_above s = omega arith
 pub padded_mono : (s t : ℕ) → s ≤ t → padded_size s ≤ padded_size t
 padded_mono s t h = omega arith
 
-pub length-framed : (t : ℕ) (b : List ℕ) → length (framed t b) ≡ extent (length b)
-length-framed t b =
+pub length-encoded_pod : (t : ℕ) (b : List ℕ) → length (encoded_pod t b) ≡ extent (length b)
+length-encoded_pod t b =
     let n = length b in
     let e0 = length-append (word_bytes n) (word_bytes t ++ (b ++ padding n)) in
     let e1 = length-append (word_bytes t) (b ++ padding n) in
@@ -43,9 +43,9 @@ length_of_body b t P h =
     let e = length-take n (drop 8 b) in
     omega arith
 
-short_frame : (first : List ℕ) (t u : ℕ) (P : List ℕ → Type 0) (c : List ℕ) → IsWhole first t P → padded_size (length c) ≤ padded_size (length (body_of first)) → length (framed u c) ≤ length first
+short_frame : (first : List ℕ) (t u : ℕ) (P : List ℕ → Type 0) (c : List ℕ) → IsWhole first t P → padded_size (length c) ≤ padded_size (length (body_of first)) → length (encoded_pod u c) ≤ length first
 short_frame first t u P c h le =
-    let e = length-framed u c in
+    let e = length-encoded_pod u c in
     let l = length_of_body first t P h in
     let x = h.whole in
     let m = ap padded_size l in
@@ -82,7 +82,7 @@ mutual
   short_members (member v vs) b h =
       let here = short_frame h.0 (type_of v) (type_of v) (IsBody v) (encoded_body v) h.3 (short_body v (body_of h.0) h.3.content) in
       let there = short_members vs h.1 h.4 in
-      let e0 = length-append (framed (type_of v) (encoded_body v)) (member_encodings vs) in
+      let e0 = length-append (encoded_pod (type_of v) (encoded_body v)) (member_encodings vs) in
       let e1 = ap length h.2 in
       let e2 = length-append h.0 h.1 in
       omega arith
@@ -92,7 +92,7 @@ mutual
   short_props (property k f v ps) b h =
       let here = short_frame h.3 (type_of v) (type_of v) (IsBody v) (encoded_body v) h.6 (short_body v (body_of h.3) h.6.content) in
       let there = short_props ps h.4 h.7 in
-      let t = framed (type_of v) (encoded_body v) in
+      let t = encoded_pod (type_of v) (encoded_body v) in
       let e0 = length-append (word_bytes k) (word_bytes f ++ (t ++ property_encodings ps)) in
       let e1 = length-append (word_bytes f) (t ++ property_encodings ps) in
       let e2 = length-append t (property_encodings ps) in

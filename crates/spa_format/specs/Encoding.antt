@@ -14,8 +14,8 @@ abbrev pub array_body : Kind → List Fixed → List ℕ
 array_body k xs = word_bytes (body_size k) ++ (word_bytes (type_number k) ++ fixed_bodies xs)
 
 -- a pod from its body: size word, type word, body, and zeros up to a multiple of 8 bytes
-abbrev pub framed : ℕ → List ℕ → List ℕ
-framed type b = word_bytes (length b) ++ (word_bytes type ++ (b ++ padding (length b)))
+abbrev pub encoded_pod : ℕ → List ℕ → List ℕ
+encoded_pod type b = word_bytes (length b) ++ (word_bytes type ++ (b ++ padding (length b)))
 
 -- the body of a value's encoding
 abbrev mutual
@@ -32,12 +32,12 @@ abbrev mutual
 
   pub member_encodings : Trees → List ℕ
   member_encodings no_trees = []
-  member_encodings (member v vs) = framed (type_of v) (encoded_body v) ++ member_encodings vs
+  member_encodings (member v vs) = encoded_pod (type_of v) (encoded_body v) ++ member_encodings vs
 
   pub property_encodings : Properties → List ℕ
   property_encodings no_properties = []
-  property_encodings (property key flags v ps) = word_bytes key ++ (word_bytes flags ++ (framed (type_of v) (encoded_body v) ++ property_encodings ps))
+  property_encodings (property key flags v ps) = word_bytes key ++ (word_bytes flags ++ (encoded_pod (type_of v) (encoded_body v) ++ property_encodings ps))
 
 -- the encoding of a value: the one pod as which it is written
 abbrev pub encoding_of : Tree → List ℕ
-encoding_of v = framed (type_of v) (encoded_body v)
+encoding_of v = encoded_pod (type_of v) (encoded_body v)

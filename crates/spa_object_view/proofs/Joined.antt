@@ -5,7 +5,7 @@ use Rattle.std.proofs.lemmas.List.{append-nil, drop_at}
 use Rattle.spa_format.specs.Words.{word_at, word_bytes, padded_size, padding, size_limit}
 use Rattle.spa_format.specs.Tree.{Tree, object, Properties, no_properties, property, join_properties}
 use Rattle.spa_format.specs.Pod.{AreProperties, IsBody, IsPod, IsWhole}
-use Rattle.spa_format.specs.Encoding.{encoding_of, framed, property_encodings}
+use Rattle.spa_format.specs.Encoding.{encoding_of, encoded_pod, property_encodings}
 use Rattle.spa_format.specs.Writable.{IsTooLarge}
 use Rattle.spa_format.proofs.Back.{whole_frame}
 use Rattle.spa_format.proofs.Encodings.{key_words, property_encoding, whole_properties}
@@ -114,17 +114,17 @@ object_written t i met out b ft fi h f e =
     ap (drop 4) (o ∙ front) ∙ drop_at (word_bytes 0) (word_bytes 15 ++ (head ++ bytes)) 4 (length-word_bytes 0) in
     let whole : head ++ bytes ≡ body ++ padding (length body) =
     ap (λ y. head ++ y) w.same ∙ joined ∙ sym (append-nil body) ∙ ap (λ m. body ++ replicate m 0) (sym none) in
-    let encoding : b ≡ framed 15 body =
+    let encoding : b ≡ encoded_pod 15 body =
     e ∙ ap (λ y. word_bytes (length out - 8) ++ y) (behind ∙ ap (λ y. word_bytes 15 ++ y) whole) ∙ ap (λ m. word_bytes m ++ (word_bytes 15 ++ (body ++ padding (length body)))) size in
     let w0 : word_at body 0 ≡ t = word_inside [] (word_bytes i ++ property_encodings met) t 0 refl ft in
     let w4 : word_at body 4 ≡ i = word_inside (word_bytes t) (property_encodings met) i 4 e2 fi in
     let long : 8 ≤ length body = omega arith in
     let fits : length body < 2 ^ 32 = omega arith in
     let list : AreProperties met (drop 8 body) = subst (AreProperties met) (w.same ∙ sym inside) w.properties in
-    let framed_pod : IsWhole (framed 15 body) 15 (IsBody (object t i met)) = whole_frame 15 body (IsBody (object t i met)) (omega arith) fits (long, sym w0, sym w4, list) in
+    let joined_pod : IsWhole (encoded_pod 15 body) 15 (IsBody (object t i met)) = whole_frame 15 body (IsBody (object t i met)) (omega arith) fits (long, sym w0, sym w4, list) in
     record {
       encoding = encoding;
-      pod = subst (λ c. IsPod c (object t i met)) (sym encoding) framed_pod;
+      pod = subst (λ c. IsPod c (object t i met)) (sym encoding) joined_pod;
     }
 
 -- an object whose size can't be put there can't be written

@@ -4,7 +4,7 @@ use Rattle.std.proofs.lemmas.List.{drop_at}
 use Rattle.spa_format.specs.Words.{word_at, word_bytes, extent, header_size}
 use Rattle.spa_format.specs.Tree.{Tree, type_of, Properties, no_properties, property}
 use Rattle.spa_format.specs.Pod.{AreProperties, IsBody, IsPod, IsWhole}
-use Rattle.spa_format.specs.Encoding.{framed, encoded_body, property_encodings}
+use Rattle.spa_format.specs.Encoding.{encoded_pod, encoded_body, property_encodings}
 use Rattle.spa_format.specs.Front.{HasFront, front_of, rest_of}
 use Rattle.spa_format.specs.Typed.{IsBytes}
 use Rattle.spa_format.proofs.Back.{body_fits, type_fits, whole_frame}
@@ -37,7 +37,7 @@ listed (property key flags v ps) b h m s =
     let bytes = IsBytes-drop header_size b h in
     let f = front_of_whole behind m.3 m.4 (type_of v) (IsBody v) m.5 m.6 in
     let pod : IsPod (front_of behind) v = subst (λ c. IsPod c v) f.1 m.6 in
-    let frame = framed (type_of v) (encoded_body v) in
+    let frame = encoded_pod (type_of v) (encoded_body v) in
     let more = frame ++ property_encodings ps in
     let w : IsWhole frame (type_of v) (λ c. c ≡ encoded_body v) =
     whole_frame (type_of v) (encoded_body v) (λ c. c ≡ encoded_body v) (type_fits v)

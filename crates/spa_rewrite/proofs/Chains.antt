@@ -13,7 +13,7 @@ use Rattle.spa_format.specs.Typed.{IsBytes}
 use Rattle.spa_format.proofs.Encodings.{length-property_encoding, length-word_bytes, two_words_length, whole_members, whole_properties}
 use Rattle.spa_format.proofs.Fronts.{front_and_rest, front_of_whole, length-body_of, of_whole_front}
 use Rattle.spa_format.proofs.Shapes.{object_only, struct_only}
-use Rattle.spa_format.proofs.Short.{length-framed, short_members, short_props, shortest}
+use Rattle.spa_format.proofs.Short.{length-encoded_pod, short_members, short_props, shortest}
 use Rattle.spa_format.proofs.WordLemmas.{IsBytes-drop}
 use Rattle.spa_bytes.specs.Opening.{Opens}
 use Rattle.spa_rewrite.specs.Shorter.{AreShorter, AreShorterInside, IsShorterBody}
@@ -42,7 +42,7 @@ one_shorter : (here body rest : List ℕ) (type own : ℕ) (v : Tree) → Opens 
 one_shorter here body rest type own v o p l =
     let q = of_whole_front here (type_of v) (IsBody v) p in
     let size : length body ≡ word_at here 0 = ap length o.its_body ∙ length-body_of here o.there in
-    let a = length-framed (type_of v) (encoded_body v) in
+    let a = length-encoded_pod (type_of v) (encoded_body v) in
     let b = length-take-le (extent (word_at here 0)) here o.there.whole in
     let c = ap padded_size size in
     record { value = v; its_type = sym q.0 ∙ sym o.its_type; its_body = subst (IsBody v) (sym o.its_body) q.1; long = omega arith }

@@ -12,14 +12,14 @@ use Rattle.spa_format.specs.Kind.{Fixed, IsFixedBody, Kind, body_size, bool, boo
 use Rattle.spa_format.specs.Tree.{Shape, none_choice, range_choice, step_choice, enum_choice, flags_choice, Tree, array, array_type, bitmap, bytes, choice, choice_type, fixed, object, object_type, pointer, pointer_type, shape_number, string, struct, struct_type, type_of}
 use Rattle.spa_format.specs.Normal.{kept_flags}
 use Rattle.spa_format.specs.Pod.{AreElements, IsArray, IsBody, IsChoice, IsPod, IsPointer, least_count, values_taken}
-use Rattle.spa_format.specs.Encoding.{array_body, encoded_body, encoding_of, fixed_bodies, framed}
+use Rattle.spa_format.specs.Encoding.{array_body, encoded_body, encoding_of, fixed_bodies, encoded_pod}
 use Rattle.spa_format.specs.Typed.{IsBytes}
 use Rattle.spa_format.proofs.Choices.{same_pointer}
 use Rattle.spa_format.proofs.Elements.{array_length, length_of_elements, same_elements}
 use Rattle.spa_format.proofs.Encodings.{length-word_bytes, pointer_encoding}
 use Rattle.spa_format.proofs.FixedKinds.{fixed_length, same_kind}
 use Rattle.spa_format.proofs.Shapes.{array_only, choice_only, fixed_only, pointer_only}
-use Rattle.spa_format.proofs.Short.{length-framed, padded_above}
+use Rattle.spa_format.proofs.Short.{length-encoded_pod, padded_above}
 use Rattle.spa_format.proofs.WordLemmas.{IsBytes-drop, IsBytes-take, wide_at-drop, word_at-drop, word_at-take}
 use Rattle.spa_scan.proofs.Words.{content_kept}
 use Rattle.spa_scan.specs.Canonical.{AreCanonicalElements}
@@ -27,7 +27,7 @@ use Rattle.spa_scan.proofs.Parts.{no_elements, whole_elements}
 use Rattle.spa_rewrite.specs.Elements.{AreTruths}
 use Rattle.spa_rewrite.specs.Patched.{IsPatched, IsPodOf, TakesValues, TurnsWritten, bytes_taken}
 use Rattle.spa_rewrite.proofs.Bodies.{choice_parts, first_elements}
-use Rattle.spa_rewrite.proofs.Patches.{behind_bytes, framed_again, front_bytes, length_put, says_body, two_words_of}
+use Rattle.spa_rewrite.proofs.Patches.{behind_bytes, pod_again, front_bytes, length_put, says_body, two_words_of}
 
 -- types whose bodies are written as they lie
 pub record IsUnpatchedType (type : ℕ) : Type 0 where
@@ -72,8 +72,8 @@ unpatched_body pod new type size h p k e = λ v w long.
     (IsBytes-take (8 + size) new h) in
     let same : body ≡ encoded_body v =
     as_it_lies v body (behind_bytes 8 size (8 + size) pod refl front) b.its_body (subst IsUnpatchedType (sym b.its_type) k) in
-    e ∙ cleared pod type size p ∙ framed_again pod body type size (front_bytes 8 (8 + size) pod (omega arith) front) p b.long ∙ ap (framed type) same
-    ∙ ap (λ t. framed t (encoded_body v)) (sym b.its_type)
+    e ∙ cleared pod type size p ∙ pod_again pod body type size (front_bytes 8 (8 + size) pod (omega arith) front) p b.long ∙ ap (encoded_pod type) same
+    ∙ ap (λ t. encoded_pod t (encoded_body v)) (sym b.its_type)
 
 -- a truth value
 pub bool_patched : (pod y word : List ℕ) (t : Bool) (size k : ℕ) → IsBytes (put_mid 8 k pod y) → IsPodOf pod (type_number bool_kind) size → size ≡ 4 →
@@ -96,9 +96,9 @@ bool_patched pod y word t size k h p four w c a d eight = λ v pd long.
     let size_is : length (fixed_body (bool t)) ≡ size =
     ap (λ x. length (fixed_body x)) (sym is) ∙ fixed_length (kind_of o.0) body o.0 its ∙ b.long in
     ap (λ x. take 8 pod ++ (y ++ x)) none ∙ ap (λ x. take 8 pod ++ x) (append-nil y ∙ bytes)
-    ∙ framed_again pod (fixed_body (bool t)) (type_number bool_kind) size front p size_is
-    ∙ ap (framed (type_number bool_kind)) (ap fixed_body (sym is))
-    ∙ ap (λ j. framed (type_number j) (fixed_body o.0)) (sym o.1) ∙ ap encoding_of (sym o.2)
+    ∙ pod_again pod (fixed_body (bool t)) (type_number bool_kind) size front p size_is
+    ∙ ap (encoded_pod (type_number bool_kind)) (ap fixed_body (sym is))
+    ∙ ap (λ j. encoded_pod (type_number j) (fixed_body o.0)) (sym o.1) ∙ ap encoding_of (sym o.2)
 
 -- a pointer
 pub pointer_patched : (pod first last body : List ℕ) (t a size k n : ℕ) → IsPodOf pod pointer_type size → k ≡ size →
@@ -209,7 +209,7 @@ array_patched pod els new number size k h p big z w t len e = λ v pd long.
     ∙ ap (λ q. ((take 8 pod ++ take 8 body) ++ els) ++ q) zeros
     ∙ array_parts (take 8 pod) (take 8 body) els (padding size)
     ∙ ap (λ q. take 8 pod ++ (q ++ padding size)) all
-    ∙ framed_again pod x array_type size (front_bytes 8 16 pod (omega arith) sixteen) p size_is ∙ ap encoding_of (sym o.2)
+    ∙ pod_again pod x array_type size (front_bytes 8 16 pod (omega arith) sixteen) p size_is ∙ ap encoding_of (sym o.2)
   where
     array_parts : (a b c d : List ℕ) → ((a ++ b) ++ c) ++ d ≡ a ++ ((b ++ c) ++ d)
     array_parts a b c d = simp append_assoc
@@ -315,7 +315,7 @@ choice_patched pod first els new number size n k shape flags child h p big w8 w1
     let size_is : length body_is ≡ 16 + n = omega arith in
     let padded : padded_size (16 + n) ≡ padded_size size =
     let f = ap (λ x. length (encoding_of x)) (sym o.5) ∙ long in
-    let q = length-framed choice_type body_is in
+    let q = length-encoded_pod choice_type body_is in
     let r = ap padded_size size_is in
     omega arith in
     let zeros : replicate (length whole - (8 + (16 + n))) 0 ≡ padding (16 + n) =

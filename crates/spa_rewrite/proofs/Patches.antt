@@ -7,13 +7,13 @@ use borrow.Rule.Slice.PartMut.{put_mid}
 use Rattle.spa_format.specs.Words.{padded_size, padding, word_at, word_bytes}
 use Rattle.spa_format.specs.Tree.{Tree, Trees, Properties, member, no_properties, no_trees, object, object_type, property, struct, struct_type, type_of}
 use Rattle.spa_format.specs.Pod.{AreMembers, AreProperties, IsBody, IsPod}
-use Rattle.spa_format.specs.Encoding.{encoded_body, encoding_of, framed, member_encodings, property_encodings}
+use Rattle.spa_format.specs.Encoding.{encoded_body, encoding_of, encoded_pod, member_encodings, property_encodings}
 use Rattle.spa_format.specs.Front.{HasFront, front_of, rest_of}
 use Rattle.spa_format.specs.Typed.{IsBytes}
 use Rattle.spa_format.proofs.Encodings.{length-padding, length-property_encoding, length-word_bytes, whole_members, whole_properties}
 use Rattle.spa_format.proofs.Fronts.{front_of_whole}
 use Rattle.spa_format.proofs.Shapes.{object_only, struct_only}
-use Rattle.spa_format.proofs.Short.{length-framed, padded_above, short_members, short_props, shortest}
+use Rattle.spa_format.proofs.Short.{length-encoded_pod, padded_above, short_members, short_props, shortest}
 use Rattle.spa_format.proofs.WordLemmas.{IsBytes-drop, IsBytes-take, word_at-take}
 use Rattle.spa_scan.proofs.Words.{two_words_back}
 use Rattle.spa_events.specs.Inside.{key_size}
@@ -26,9 +26,9 @@ two_words_of b h l =
     ∙ ap (λ n. word_bytes (word_at b 0) ++ word_bytes n) (word_at-take 8 4 b (omega arith))
 
 -- the header of a pod, another body of its size, and padding
-pub framed_again : (pod x : List ℕ) (type size : ℕ) → IsBytes (take 8 pod) → IsPodOf pod type size → length x ≡ size →
-    take 8 pod ++ (x ++ padding size) ≡ framed type x
-framed_again pod x type size h p e =
+pub pod_again : (pod x : List ℕ) (type size : ℕ) → IsBytes (take 8 pod) → IsPodOf pod type size → length x ≡ size →
+    take 8 pod ++ (x ++ padding size) ≡ encoded_pod type x
+pod_again pod x type size h p e =
     let l = p.long in
     let words : take 8 pod ≡ word_bytes size ++ word_bytes type =
     two_words_of pod h (omega arith) ∙ ap (λ n. word_bytes n ++ word_bytes (word_at pod 4)) p.its_size
@@ -101,7 +101,7 @@ struct_same : (pod inner : List ℕ) (size : ℕ) (vs : Trees) → IsBytes (take
 struct_same pod inner size vs h p m l e q =
     let s = short_members vs (take size (drop 8 pod)) m in
     let w = whole_members vs in
-    let f = length-framed struct_type (member_encodings vs) in
+    let f = length-encoded_pod struct_type (member_encodings vs) in
     let g = p.long in
     let u = padded_above size in
     let d = length-drop 8 pod in
@@ -112,7 +112,7 @@ struct_same pod inner size vs h p m l e q =
     let none : padding size ≡ [] = nil_from_length (padding size) (length-padding size ∙ (let z : padded_size size - size ≡ 0 = omega arith in z)) in
     let long : length inner ≡ size = ap length is ∙ same in
     ap (λ x. take 8 pod ++ x) (sym (append-nil inner) ∙ ap (λ x. inner ++ x) (sym none))
-    ∙ framed_again pod inner struct_type size h p long ∙ ap (framed struct_type) is
+    ∙ pod_again pod inner struct_type size h p long ∙ ap (encoded_pod struct_type) is
 
 pub struct_patched : (pod inner : List ℕ) (size : ℕ) → IsBytes (take 8 pod) → IsPodOf pod struct_type size →
     ArePatched false (drop 8 pod) inner → IsPatched pod (take 8 pod ++ inner)
@@ -132,7 +132,7 @@ object_same pod inner size t i ps h p m l e q =
     let body = take size (drop 8 pod) in
     let s = short_props ps (drop 8 body) m.3 in
     let w = whole_properties ps in
-    let f = length-framed object_type (encoded_body (object t i ps)) in
+    let f = length-encoded_pod object_type (encoded_body (object t i ps)) in
     let e0 = length-append (word_bytes t) (word_bytes i ++ property_encodings ps) in
     let e1 = length-append (word_bytes i) (property_encodings ps) in
     let e2 = length-word_bytes t in
@@ -160,7 +160,7 @@ object_same pod inner size t i ps h p m l e q =
     ap (λ y. y ++ inner) front ∙ append_assoc (take 8 pod) (word_bytes t ++ word_bytes i) inner
     ∙ ap (λ y. take 8 pod ++ y) (append_assoc (word_bytes t) (word_bytes i) inner ∙ ap (λ y. word_bytes t ++ (word_bytes i ++ y)) is)
     ∙ ap (λ y. take 8 pod ++ y) (sym (append-nil x) ∙ ap (λ y. x ++ y) (sym none))
-    ∙ framed_again pod x object_type size (front_bytes 8 16 pod (omega arith) h) p long
+    ∙ pod_again pod x object_type size (front_bytes 8 16 pod (omega arith) h) p long
 
 pub object_patched : (pod inner : List ℕ) (size : ℕ) → IsBytes (take 16 pod) → IsPodOf pod object_type size →
     ArePatched true (drop 16 pod) inner → IsPatched pod (take 16 pod ++ inner)

@@ -10,7 +10,7 @@ use Rattle.spa_format.specs.Encoding.{encoded_body, encoding_of, fixed_bodies}
 use Rattle.spa_format.proofs.Elements.{elements_length}
 use Rattle.spa_format.proofs.Encodings.{length-word_bytes}
 use Rattle.spa_format.proofs.Shapes.{choice_only}
-use Rattle.spa_format.proofs.Short.{length-framed, padded_above}
+use Rattle.spa_format.proofs.Short.{length-encoded_pod, padded_above}
 use Rattle.spa_format.proofs.WordLemmas.{word_at-append, word_at-drop, word_at-take, word_at-word_bytes}
 use Rattle.spa_rewrite.specs.Placed.{IsPlaced, WritesPod}
 use Rattle.spa_rewrite.specs.Patched.{IsPatched, IsPodOf, TakesValues, bytes_taken}
@@ -34,7 +34,7 @@ leaf_long pod type size v p t w =
     let d = leaf_depth v body (λ e. t.no_struct (sym b.its_type ∙ e)) (λ e. absurd (t.no_object (sym b.its_type ∙ e))) b.its_body in
     let s = same_padded v body b.its_body d (λ e. t.no_choice (sym b.its_type ∙ e)) in
     let l = ap padded_size b.long in
-    let f = length-framed (type_of v) (encoded_body v) in
+    let f = length-encoded_pod (type_of v) (encoded_body v) in
     let g = p.long in
     omega arith
 
@@ -196,7 +196,7 @@ choice_same pod word sub end n size shape child p less e w w8 w16 taken q = λ v
       content = subst (λ x. IsBody x (take (word_at part 0) (drop 8 part))) (sym o.5) content;
     } in
     let same : length (encoding_of v) ≡ length part =
-    ap (λ x. length (encoding_of x)) o.5 ∙ length-framed choice_type (encoded_body (choice o.0 o.1 o.2 o.3 o.4))
+    ap (λ x. length (encoding_of x)) o.5 ∙ length-encoded_pod choice_type (encoded_body (choice o.0 o.1 o.2 o.3 o.4))
     ∙ ap extent (choice_length o.0 o.1 o.2 o.3 o.4 ∙ ap (λ m. 16 + m) k.long) ∙ sym its.long in
     q v again same
 

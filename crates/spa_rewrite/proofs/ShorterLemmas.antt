@@ -15,7 +15,7 @@ use Rattle.spa_format.proofs.Encodings.{length-property_encoding, length-word_by
 use Rattle.spa_format.proofs.FixedKinds.{fixed_length}
 use Rattle.spa_format.proofs.Fronts.{front_of_whole, length-body_of}
 use Rattle.spa_format.proofs.Shapes.{object_only, struct_only}
-use Rattle.spa_format.proofs.Short.{length-framed}
+use Rattle.spa_format.proofs.Short.{length-encoded_pod}
 use Rattle.spa_bytes.specs.Opening.{Opens}
 use Rattle.spa_bodies.proofs.Steps.{pod_read}
 use Rattle.spa_scan.specs.Canonical.{AreCanonical, IsFixedLen}
@@ -57,7 +57,7 @@ pub shorter_opened : (input body rest : List ℕ) (type n : ℕ) → Opens input
 shorter_opened input body rest type n o s =
     let v = s.value in
     let size : length body ≡ word_at input 0 = ap length o.its_body ∙ length-body_of input o.there in
-    let a = length-framed (type_of v) (encoded_body v) in
+    let a = length-encoded_pod (type_of v) (encoded_body v) in
     let b = length-take-le (extent (word_at input 0)) input o.there.whole in
     let c = ap padded_size size in
     let l = s.long in

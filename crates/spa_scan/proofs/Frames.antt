@@ -1,11 +1,11 @@
--- The front with zeros as its padding is a framed encoding.
+-- The front with zeros as its padding is an encoded pod.
 use Rattle.std.proofs.Common.{List, [], ap, append_assoc, arith, drop, inr, length, length-append, length-drop, refl, subst, sym, take, ℕ, ◌++◌, ◌+◌, ◌-◌, ◌<◌, ◌∙◌, ◌≡◌, ◌≤◌}
 use Rattle.std.proofs.Math.Seq.{take-add}
 use Rattle.std.proofs.lemmas.List.{length-take-le, take_at, nil_from_length, take-append-drop}
 use Rattle.spa_format.specs.Words.{body_of, extent, header_size, padded_size, padding, wide_at, wide_bytes, word_at, word_bytes}
 use Rattle.spa_format.specs.Tree.{Tree, Trees, fixed, member, no_properties, no_trees, object, object_type, pointer, pointer_type, property, type_of}
 use Rattle.spa_format.specs.Pod.{AreMembers, AreProperties, IsBody}
-use Rattle.spa_format.specs.Encoding.{framed, encoded_body, property_encodings}
+use Rattle.spa_format.specs.Encoding.{encoded_pod, encoded_body, property_encodings}
 use Rattle.spa_format.specs.Typed.{IsBytes}
 use Rattle.spa_format.specs.Front.{HasFront, front_of}
 use Rattle.spa_format.proofs.Fronts.{front_of_whole, length-body_of, front_and_rest}
@@ -19,8 +19,8 @@ use Rattle.spa_format.specs.Kind.{none, Kind, bool_kind, IsFixedBody, type_numbe
 use Rattle.spa_format.proofs.FixedKinds.{kind_of_content}
 use Rattle.spa_scan.proofs.Words.{content_kept, two_words_back, wide_back, word_there}
 
-pub framed_front : (b : List ℕ) → IsBytes b → HasFront b → HasZeros (drop 8 b) (word_at b 0) → front_of b ≡ framed (word_at b 4) (body_of b)
-framed_front b h f z =
+pub pod_front : (b : List ℕ) → IsBytes b → HasFront b → HasZeros (drop 8 b) (word_at b 0) → front_of b ≡ encoded_pod (word_at b 4) (body_of b)
+pod_front b h f z =
     let n = word_at b 0 in
     let t = word_at b 4 in
     let p = padded_size n in
@@ -47,8 +47,8 @@ canonical_front input behind body rest type h o d z c =
     record {
       value = v;
       begins = pod_read input body rest type v o c.its_type c.its_body;
-      same = framed_front input h o.there zeros ∙ ap (λ t. framed t (body_of input)) (sym o.its_type ∙ sym c.its_type)
-          ∙ ap (framed (type_of v)) (sym o.its_body ∙ c.same);
+      same = pod_front input h o.there zeros ∙ ap (λ t. encoded_pod t (body_of input)) (sym o.its_type ∙ sym c.its_type)
+          ∙ ap (encoded_pod (type_of v)) (sym o.its_body ∙ c.same);
     }
 
 pub no_members : AreCanonical []
@@ -67,7 +67,7 @@ one_more input rest c r =
     record {
       values = member v r.values;
       members = (front_of input, rest, p, c.begins.begins.pod, r.members);
-      same = p ∙ ap (λ x. x ++ rest) c.same ∙ ap (λ x. framed (type_of v) (encoded_body v) ++ x) r.same;
+      same = p ∙ ap (λ x. x ++ rest) c.same ∙ ap (λ x. encoded_pod (type_of v) (encoded_body v) ++ x) r.same;
     }
 
 pub one_more_property : (input behind rest : List ℕ) → IsBytes input → header_size ≤ length input → behind ≡ drop header_size input → BeginsCanonical behind rest → AreCanonicalProperties rest → AreCanonicalProperties input
@@ -76,7 +76,7 @@ one_more_property input behind rest h l d c r =
     let p = parted behind v rest c.begins in
     let head : take 8 input ≡ word_bytes (word_at input 0) ++ word_bytes (word_at input 4) =
     take-add 4 4 input ∙ ap (λ x. x ++ take 4 (drop 4 input)) (sym (word_there input 0 h (omega arith))) ∙ ap (λ x. word_bytes (word_at input 0) ++ x) (sym (word_there input 4 h (omega arith))) in
-    let encoding = framed (type_of v) (encoded_body v) in
+    let encoding = encoded_pod (type_of v) (encoded_body v) in
     let all : behind ≡ encoding ++ property_encodings r.values = p ∙ ap (λ x. x ++ rest) c.same ∙ ap (λ x. encoding ++ x) r.same in
     record {
       values = property (word_at input 0) (word_at input 4) v r.values;
@@ -185,7 +185,7 @@ more_stretch input rest left c s =
       record {
         values = member c.value r.values;
         members = (front, s.0, refl, c.begins.begins.pod, r.members);
-        same = ap (λ x. x ++ s.0) c.same ∙ ap (λ x. framed (type_of c.value) (encoded_body c.value) ++ x) r.same;
+        same = ap (λ x. x ++ s.0) c.same ∙ ap (λ x. encoded_pod (type_of c.value) (encoded_body c.value) ++ x) r.same;
       },
     )
 

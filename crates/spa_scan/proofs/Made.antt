@@ -5,7 +5,7 @@ use Rattle.std.proofs.lemmas.List.{drop-drop, drop-take, drop_at}
 use Rattle.spa_format.specs.Words.{word_at, word_bytes, padded_size, extent, padding, body_of, header_size}
 use Rattle.spa_format.specs.Tree.{Tree, type_of, Trees, no_trees, member, Properties, no_properties, property}
 use Rattle.spa_format.specs.Pod.{AreMembers, AreProperties, IsBody, IsPod, IsWhole}
-use Rattle.spa_format.specs.Encoding.{framed, encoded_body, member_encodings, property_encodings}
+use Rattle.spa_format.specs.Encoding.{encoded_pod, encoded_body, member_encodings, property_encodings}
 use Rattle.spa_format.specs.Front.{HasFront, front_of, rest_of}
 use Rattle.spa_format.specs.Typed.{IsBytes}
 use Rattle.spa_format.proofs.Back.{body_fits, type_fits, whole_frame}
@@ -17,22 +17,22 @@ use Rattle.spa_bytes.specs.Opening.{Opens}
 use Rattle.spa_scan.specs.Canonical.{AreCanonical, AreCanonicalProperties, BeginsCanonical, HasZeros, IsCanonicalBody}
 use Rattle.spa_scan.specs.Depth.{depth_of, member_depth, property_depth}
 
--- the pod of a value that is there is framed as that value's encoding is
-pub its_frame : (b : List ℕ) (v : Tree) → IsBytes b → IsPod b v → IsWhole (framed (type_of v) (encoded_body v)) (type_of v) (λ c. c ≡ encoded_body v)
+-- the pod of a value that is there has the size word, type and padding of its encoding
+pub its_frame : (b : List ℕ) (v : Tree) → IsBytes b → IsPod b v → IsWhole (encoded_pod (type_of v) (encoded_body v)) (type_of v) (λ c. c ≡ encoded_body v)
 its_frame b v h p =
     whole_frame (type_of v) (encoded_body v) (λ c. c ≡ encoded_body v) (type_fits v) (body_fits v (writable b v h p).fits) refl
 
--- the padding of a framed front
-framed_zeros : (input : List ℕ) (t : ℕ) (body : List ℕ) → front_of input ≡ framed t body → word_at input 0 ≡ length body → HasZeros (drop 8 input) (length body)
-framed_zeros input t body e s =
+-- the padding of an encoded pod
+pod_zeros : (input : List ℕ) (t : ℕ) (body : List ℕ) → front_of input ≡ encoded_pod t body → word_at input 0 ≡ length body → HasZeros (drop 8 input) (length body)
+pod_zeros input t body e s =
     let n = length body in
     let p = padded_size n in
     let up = padded_above n in
     let m : (8 + n) + (p - n) ≡ 8 + p = omega arith in
     let place : drop n (drop 8 input) ≡ drop (8 + n) input = drop-drop n 8 input in
-    let same : take (8 + p) input ≡ framed t body = ap (λ k. take (extent k) input) (sym s) ∙ e in
+    let same : take (8 + p) input ≡ encoded_pod t body = ap (λ k. take (extent k) input) (sym s) ∙ e in
     let head = word_bytes n ++ (word_bytes t ++ body) in
-    let two : framed t body ≡ head ++ padding n =
+    let two : encoded_pod t body ≡ head ++ padding n =
     ap (λ x. word_bytes n ++ x) (sym (append_assoc (word_bytes t) body (padding n))) ∙ sym (append_assoc (word_bytes n) (word_bytes t ++ body) (padding n)) in
     let e0 = length-append (word_bytes n) (word_bytes t ++ body) in
     let e1 = length-append (word_bytes t) body in
@@ -64,7 +64,7 @@ made_front input rest h c =
       its_type = q.0;
       its_body = (of_whole_front input (type_of v) (IsBody v) p).1;
       same = q.1;
-      zeros = subst (λ b. HasZeros (drop 8 input) (length b)) (sym q.1) (framed_zeros input (type_of v) (encoded_body v) c.same size);
+      zeros = subst (λ b. HasZeros (drop 8 input) (length b)) (sym q.1) (pod_zeros input (type_of v) (encoded_body v) c.same size);
     }
 
 -- the body of such a front, opened
@@ -100,7 +100,7 @@ made_members left h l c = of_values c.values c.members c.same
         let f = front_of_whole left m.0 m.1 (type_of v) (IsBody v) m.2 m.3 in
         let pod : IsPod (front_of left) v = subst (λ b. IsPod b v) f.1 m.3 in
         let w = its_frame (front_of left) v (IsBytes-take (extent (word_at left 0)) left h) pod in
-        let g = front_of_whole left (framed (type_of v) (encoded_body v)) (member_encodings vs) (type_of v) (λ b. b ≡ encoded_body v) s w in
+        let g = front_of_whole left (encoded_pod (type_of v) (encoded_body v)) (member_encodings vs) (type_of v) (λ b. b ≡ encoded_body v) s w in
         record {
           first = record { value = v; begins = record { begins = record { there = f.0; pod = pod }; follows = refl }; same = sym g.1 };
           others = record { values = vs; members = subst (AreMembers vs) f.2 m.4; same = sym g.2 };
@@ -125,7 +125,7 @@ made_properties left h l c = of_values c.values c.properties c.same
         let f = front_of_whole behind m.3 m.4 (type_of v) (IsBody v) m.5 m.6 in
         let pod : IsPod (front_of behind) v = subst (λ b. IsPod b v) f.1 m.6 in
         let w = its_frame (front_of behind) v (IsBytes-take (extent (word_at behind 0)) behind bytes) pod in
-        let frame = framed (type_of v) (encoded_body v) in
+        let frame = encoded_pod (type_of v) (encoded_body v) in
         let more = frame ++ property_encodings ps in
         let e0 = length-append (word_bytes key) (word_bytes flags) in
         let e1 = length-word_bytes key in

@@ -6,9 +6,9 @@ use Rattle.spa_sink.specs.declared.gen_error.GenError.TheVariants.{Full, TooLarg
 use Rattle.spa_sink.specs.Writing.{MayRefuse, RefusedFor, RefusesWrite}
 use Rattle.spa_format.specs.Words.{header_size, size_limit, word_bytes}
 use Rattle.spa_format.specs.Tree.{Tree, Trees, Properties, member, no_trees, no_properties, object, object_type, property, struct, struct_type}
-use Rattle.spa_format.specs.Encoding.{encoded_body, encoding_of, framed, member_encodings, property_encodings}
+use Rattle.spa_format.specs.Encoding.{encoded_body, encoding_of, encoded_pod, member_encodings, property_encodings}
 use Rattle.spa_format.specs.Writable.{HasNul, IsTooLarge, SomeHasNul, SomeTooLarge, SomeValueHasNul, SomeValueTooLarge}
-use Rattle.spa_format.proofs.Encodings.{key_words, length-framed, length-property_encoding, property_encoding, two_words_length, whole_members, whole_properties}
+use Rattle.spa_format.proofs.Encodings.{key_words, length-encoded_pod, length-property_encoding, property_encoding, two_words_length, whole_members, whole_properties}
 use Rattle.spa_sink.proofs.Sending.{RefusesAfter, RefusesLonger}
 use Rattle.spa_typed_write.specs.Complete.{AreWritten, ArePropertiesWritten, IsWritten, RefusesBytes, RefusesMembers, RefusesProperties, RefusesValue}
 use Rattle.spa_bodies.specs.Written.{Appending, IsClosed, IsExtended, IsPut, RefusesLeaf, Refusing, begun_length}
@@ -222,7 +222,7 @@ struct_written a b c d start vs s p h q =
     }
 
 pub struct_length : (vs : Trees) → length (encoding_of (struct vs)) ≡ header_size + length (member_encodings vs)
-struct_length vs = omega (arith, length-framed struct_type (member_encodings vs), whole_members vs)
+struct_length vs = omega (arith, length-encoded_pod struct_type (member_encodings vs), whole_members vs)
 
 pub header_refused : {S : Type 0} {refuses : Refusing S} → RefusesLonger refuses → (a c : S) (vs : Trees) (e : GenError) →
     refuses a header_size c e → RefusesValue refuses a (struct vs) e
@@ -264,7 +264,7 @@ object_length type id ps =
 pub object_size : (type id : ℕ) (ps : Properties) →
     length (encoding_of (object type id ps)) ≡ header_size + (header_size + length (property_encodings ps))
 object_size type id ps =
-    omega (arith, length-framed object_type (encoded_body (object type id ps)), object_length type id ps, whole_properties ps)
+    omega (arith, length-encoded_pod object_type (encoded_body (object type id ps)), object_length type id ps, whole_properties ps)
 
 -- all that was written of it so far
 object_begun : {S : Type 0} {content : S → List ℕ} {refuses : Refusing S} (a b c d : S) (type id : ℕ) (ps : Properties) →

@@ -3,7 +3,7 @@ use Rattle.std.proofs.Common.{◌≡◌, ℕ, ◌+◌, ◌-◌, ◌*◌, ◌<◌
 use Rattle.std.proofs.Math.Nat.{add-mul}
 use Rattle.std.proofs.lemmas.List.{drop-append-le, drop_at, length-take-le, take-append-le, take_at}
 use Rattle.spa_format.specs.Words.{header_size, padding, size_limit, word_bytes}
-use Rattle.spa_format.specs.Encoding.{framed}
+use Rattle.spa_format.specs.Encoding.{encoded_pod}
 use Rattle.spa_format.specs.Tree.{array_type}
 use Rattle.spa_typed_write.specs.Unfinished.{IsUnfinishedArray, UnfinishedArray, array_at, array_output_bytes}
 use Rattle.spa_format.proofs.Encodings.{two_words_length}
@@ -78,7 +78,7 @@ array_grown_at size start left b t c h is =
 -- all elements, and the padding behind them
 pub array_ended_there : (size start left n : ℕ) (b c : List ℕ) → IsUnfinishedArray size start left b → left ≡ 0 →
     n ≡ length b - (start + header_size) → c ≡ b ++ padding n →
-    c ≡ take start b ++ framed array_type (drop (start + header_size) b)
+    c ≡ take start b ++ encoded_pod array_type (drop (start + header_size) b)
 array_ended_there size start left n b c h none k is =
     let old = take start b in
     let body = drop (start + header_size) b in
@@ -95,8 +95,8 @@ array_ended_there size start left n b c h none k is =
 
 pub array_ended_count : (size start left n : ℕ) (b c : List ℕ) → IsUnfinishedArray size start left b → left ≡ 0 →
     n ≡ length b - (start + header_size) → c ≡ b ++ padding n →
-    length c - start ≡ length (framed array_type (drop (start + header_size) b))
+    length c - start ≡ length (encoded_pod array_type (drop (start + header_size) b))
 array_ended_count size start left n b c h none k is =
     let body = drop (start + header_size) b in
     let kept : length (take start b) ≡ start = length-take-le start b (omega (arith, h.room)) in
-    omega (arith, ap length (array_ended_there size start left n b c h none k is), length-append (take start b) (framed array_type body), kept)
+    omega (arith, ap length (array_ended_there size start left n b c h none k is), length-append (take start b) (encoded_pod array_type body), kept)

@@ -2,11 +2,11 @@
 use Rattle.std.proofs.Common.{◌≡◌, ℕ, ◌+◌, ◌-◌, ◌≤◌, List, [], ◌++◌, length, take, drop, refl, sym, ap, ◌∙◌, subst, arith, append_assoc, length-append, length-drop}
 use Rattle.std.proofs.lemmas.List.{append-nil, drop-append-le, drop_all, length-take-le, take-append-le, take_at}
 use Rattle.spa_format.specs.Words.{header_size, word_bytes}
-use Rattle.spa_format.specs.Encoding.{encoded_body, encoding_of, framed}
+use Rattle.spa_format.specs.Encoding.{encoded_body, encoding_of, encoded_pod}
 use Rattle.spa_format.specs.Tree.{Tree, type_of}
 use Rattle.spa_bodies.specs.Written.{IsWholeSize, begun_length}
 use Rattle.spa_typed_write.specs.Unfinished.{IsUnfinished, Unfinished, output_bytes, open_pod_at}
-use Rattle.spa_format.proofs.Encodings.{length-framed, two_words_length}
+use Rattle.spa_format.proofs.Encodings.{length-encoded_pod, two_words_length}
 use Rattle.spa_bodies.proofs.Frames.{sized_encoding}
 
 -- bytes behind others
@@ -78,7 +78,7 @@ property_length key flags a b c t words put =
 
 -- each encoding needs no padding
 pub whole_encoding : (v : Tree) → IsWholeSize (length (encoding_of v))
-whole_encoding v = omega (arith, length-framed (type_of v) (encoded_body v))
+whole_encoding v = omega (arith, length-encoded_pod (type_of v) (encoded_body v))
 
 pub whole_words : (m n : ℕ) → IsWholeSize (length (word_bytes m ++ word_bytes n))
 whole_words m n = rw (two_words_length m n) refl
@@ -91,7 +91,7 @@ begun_is_body type start b h = omega (arith, h.room, length-drop (start + header
 -- the size word written
 pub closed_there : (type start : ℕ) (b c : List ℕ) → IsUnfinished type start b →
     c ≡ take start b ++ (word_bytes (begun_length b start) ++ drop (start + 4) b) →
-    c ≡ take start b ++ framed type (drop (start + header_size) b)
+    c ≡ take start b ++ encoded_pod type (drop (start + header_size) b)
 closed_there type start b c h e =
     let old = take start b in
     let body = drop (start + header_size) b in
@@ -106,11 +106,11 @@ closed_there type start b c h e =
 
 pub closed_count : (type start : ℕ) (b c : List ℕ) → IsUnfinished type start b →
     c ≡ take start b ++ (word_bytes (begun_length b start) ++ drop (start + 4) b) →
-    length c - start ≡ length (framed type (drop (start + header_size) b))
+    length c - start ≡ length (encoded_pod type (drop (start + header_size) b))
 closed_count type start b c h e =
     let body = drop (start + header_size) b in
     let kept : length (take start b) ≡ start = length-take-le start b (omega (arith, h.room)) in
-    omega (arith, ap length (closed_there type start b c h e), length-append (take start b) (framed type body), kept)
+    omega (arith, ap length (closed_there type start b c h e), length-append (take start b) (encoded_pod type body), kept)
 
 pub closed_behind : (type start : ℕ) (b c : List ℕ) → IsUnfinished type start b →
     c ≡ take start b ++ (word_bytes (begun_length b start) ++ drop (start + 4) b) → start ≤ length c

@@ -2,7 +2,7 @@
 ghost use Rattle.std.specs.Prelude.{◌≡◌, ◌+◌, ◌*◌, ◌<◌, ◌≤◌, ◌++◌, ◌⊎◌, IfErr, IfOk, MatchOption, None, OnErr, OnOk, Some, length};
 ghost use Rattle.spa_sink.specs.Writing.{MayRefuse};
 ghost use Rattle.spa_sink.specs.declared.gen_error.GenError.TheVariants.{Failed, TooLarge, WrongCount};
-ghost use Rattle.spa_format.specs.Encoding.{framed};
+ghost use Rattle.spa_format.specs.Encoding.{encoded_pod};
 ghost use Rattle.spa_format.specs.Kind.{fixed_body};
 ghost use Rattle.spa_format.specs.Tree.{array_type};
 ghost use Rattle.spa_format.specs.Typed.{IsTypedFixed};
@@ -99,8 +99,8 @@ impl<O: PodOutput, P: FixedSizedPod> ArrayPodSerializer<O, P> {
     pub fn end(self) -> Result<SerializeSuccess<O>, GenError>
         ensures all { OnOk result (MatchOption self ⊥ (λ w. w.left ≡ 0)) }
         ensures pod { IfOk result (λ s. MatchOption self ⊥
-            (λ w. O.content s.output ≡ w.before ++ framed array_type w.body)) }
-        ensures count { IfOk result (λ s. MatchOption self ⊥ (λ w. s.count ≡ length (framed array_type w.body))) }
+            (λ w. O.content s.output ≡ w.before ++ encoded_pod array_type w.body)) }
+        ensures count { IfOk result (λ s. MatchOption self ⊥ (λ w. s.count ≡ length (encoded_pod array_type w.body))) }
         ensures fits { OnOk result (MatchOption self ⊥ (λ w. length w.body < size_limit)) }
         ensures cause { IfErr result (λ e. MatchOption self (e ≡ Failed)
             (λ w. ((0 < w.left) × (e ≡ WrongCount))

@@ -2,7 +2,7 @@
 ghost use Rattle.std.specs.Prelude.{◌≡◌, ◌+◌, ◌<◌, ◌≤◌, [], ◌++◌, ◌⊎◌, IfErr, IfOk, MatchOption, None, OnErr, OnOk, Some, length};
 ghost use Rattle.spa_sink.specs.Writing.{MayRefuse};
 ghost use Rattle.spa_sink.specs.declared.gen_error.GenError.TheVariants.{Failed, TooLarge};
-ghost use Rattle.spa_format.specs.Encoding.{encoding_of, framed};
+ghost use Rattle.spa_format.specs.Encoding.{encoding_of, encoded_pod};
 ghost use Rattle.spa_format.specs.Tree.{object_type, struct_type};
 ghost use Rattle.spa_format.specs.Typed.{IsTyped};
 ghost use Rattle.spa_format.specs.Words.{header_size, size_limit, word_bytes};
@@ -101,8 +101,8 @@ impl<O: PodOutput> StructPodSerializer<O> {
     #[inline(always)]
     pub fn end(self) -> Result<SerializeSuccess<O>, GenError>
         ensures pod { IfOk result (λ s. MatchOption self ⊥
-            (λ w. O.content s.output ≡ w.before ++ framed w.type w.body)) }
-        ensures count { IfOk result (λ s. MatchOption self ⊥ (λ w. s.count ≡ length (framed w.type w.body))) }
+            (λ w. O.content s.output ≡ w.before ++ encoded_pod w.type w.body)) }
+        ensures count { IfOk result (λ s. MatchOption self ⊥ (λ w. s.count ≡ length (encoded_pod w.type w.body))) }
         ensures fits { OnOk result (MatchOption self ⊥ (λ w. length w.body < size_limit)) }
         ensures cause { IfErr result (λ e. MatchOption self (e ≡ Failed)
             (λ w. (e ≡ TooLarge) × (size_limit ≤ length w.body))) }
@@ -143,8 +143,8 @@ impl<O: PodOutput> ObjectPodSerializer<O> {
     #[inline(always)]
     pub fn end(self) -> Result<SerializeSuccess<O>, GenError>
         ensures pod { IfOk result (λ s. MatchOption self ⊥
-            (λ w. O.content s.output ≡ w.before ++ framed w.type w.body)) }
-        ensures count { IfOk result (λ s. MatchOption self ⊥ (λ w. s.count ≡ length (framed w.type w.body))) }
+            (λ w. O.content s.output ≡ w.before ++ encoded_pod w.type w.body)) }
+        ensures count { IfOk result (λ s. MatchOption self ⊥ (λ w. s.count ≡ length (encoded_pod w.type w.body))) }
         ensures fits { OnOk result (MatchOption self ⊥ (λ w. length w.body < size_limit)) }
         ensures cause { IfErr result (λ e. MatchOption self (e ≡ Failed)
             (λ w. (e ≡ TooLarge) × (size_limit ≤ length w.body))) }

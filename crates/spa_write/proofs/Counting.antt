@@ -8,7 +8,7 @@ use Rattle.spa_value.specs.declared.object.Property.{Property}
 use Rattle.spa_value.specs.View.{view}
 use Rattle.spa_value.specs.Views.{views, property_views}
 use Rattle.spa_value.proofs.ViewLaws.{views-at, views-take_more, property_views-at, property_views-take_more}
-use Rattle.spa_format.proofs.Encodings.{header_within, length-framed, length-property_encoding}
+use Rattle.spa_format.proofs.Encodings.{header_within, length-encoded_pod, length-property_encoding}
 use Rattle.spa_write.proofs.PropertyLists.{length-object}
 
 -- a value is counted itself
@@ -92,11 +92,11 @@ mutual
       let h = header_within (type_of (choice s f k x xs)) (encoded_body (choice s f k x xs)) in omega (arith, h)
   eight_each (pointer t a) = let h = header_within (type_of (pointer t a)) (encoded_body (pointer t a)) in omega (arith, h)
   eight_each (struct vs) =
-      let h = length-framed struct_type (member_encodings vs) in
+      let h = length-encoded_pod struct_type (member_encodings vs) in
       let inside = members_eight_each vs in
       omega (arith, h, inside)
   eight_each (object t i ps) =
-      let h = length-framed object_type (encoded_body (object t i ps)) in
+      let h = length-encoded_pod object_type (encoded_body (object t i ps)) in
       let body = length-object t i ps in
       let inside = properties_eight_each ps in
       omega (arith, h, body, inside)

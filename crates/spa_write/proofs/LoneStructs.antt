@@ -10,7 +10,7 @@ use Rattle.spa_format.specs.Tree.{struct, struct_type, Trees, no_trees, member}
 use Rattle.spa_format.specs.Encoding.{encoding_of, member_encodings}
 use Rattle.spa_format.specs.Typed.{AllTyped}
 use Rattle.spa_format.specs.Writable.{HasNul, IsTooLarge, IsWritable, SomeHasNul}
-use Rattle.spa_format.proofs.Encodings.{length-framed, whole_members}
+use Rattle.spa_format.proofs.Encodings.{length-encoded_pod, whole_members}
 use Rattle.spa_bodies.specs.Written.{Appending, Refusing, Stops}
 use Rattle.spa_bodies.proofs.Frames.{size_refused}
 use Rattle.spa_bodies.proofs.Parts.{TakesParts, stop_as, stop_behind, stop_first}
@@ -31,7 +31,7 @@ pub lone_length : (ws us : Trees) → ws ≡ member (struct us) no_trees →
 lone_length ws us is =
     ap (λ x. length (member_encodings x)) is
     ∙ ap length (append-nil (encoding_of (struct us)))
-    ∙ (let f = length-framed struct_type (member_encodings us) in let w = whole_members us in omega arith)
+    ∙ (let f = length-encoded_pod struct_type (member_encodings us) in let w = whole_members us in omega arith)
 
 -- what is too large of a struct that stands alone
 abbrev LoneTooLarge : Trees → Trees → Type 0

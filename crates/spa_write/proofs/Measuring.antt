@@ -6,7 +6,7 @@ use Rattle.spa_format.specs.Words.{extent, size_limit}
 use Rattle.spa_format.specs.Tree.{Tree, pointer, type_of}
 use Rattle.spa_format.specs.Encoding.{encoded_body}
 use Rattle.spa_format.specs.Writable.{HasNul, IsTooLarge}
-use Rattle.spa_format.proofs.Encodings.{length-framed, pointer_encoding_length}
+use Rattle.spa_format.proofs.Encodings.{length-encoded_pod, pointer_encoding_length}
 use Rattle.spa_utils.specs.declared.choice.ChoiceEnum.{ChoiceEnum}
 use Rattle.spa_utils.specs.declared.choice.ChoiceEnum.TheVariants as E
 use Rattle.spa_fixed_sized.specs.Choices.{choice_enum_tree}
@@ -16,14 +16,14 @@ use Rattle.spa_write.specs.Measured.{IsMeasured}
 pub measured_as : (v : Tree) (n : ℕ) → n ≡ extent (length (encoded_body v)) → ¬ (HasNul v) →
     ¬ (IsTooLarge v) → IsMeasured v n
 measured_as v n e f g =
-    record { size = e ∙ sym (length-framed (type_of v) (encoded_body v)); writable = record { no_nul = f; fits = g } }
+    record { size = e ∙ sym (length-encoded_pod (type_of v) (encoded_body v)); writable = record { no_nul = f; fits = g } }
 
 -- where that may be too large
-pub framed_measured : (r : Result ℕ GenError) (size : ℕ) (v : Tree) → size ≡ length (encoded_body v) →
+pub pod_measured : (r : Result ℕ GenError) (size : ℕ) (v : Tree) → size ≡ length (encoded_body v) →
     ¬ (HasNul v) → (size < size_limit → ¬ (IsTooLarge v)) → IfOk r (λ n. n ≡ extent size) →
     IfOk r (λ _. size < size_limit) → IfOk r (λ n. IsMeasured v n)
-framed_measured (Ok n) size v e f g x s = measured_as v n (x ∙ ap extent e) f (g s)
-framed_measured (Err d) size v e f g x s = tt
+pod_measured (Ok n) size v e f g x s = measured_as v n (x ∙ ap extent e) f (g s)
+pod_measured (Err d) size v e f g x s = tt
 
 pub pointer_measured : (t a n : ℕ) → n ≡ 24 → IsMeasured (pointer t a) n
 pointer_measured t a n e =

@@ -14,7 +14,7 @@ use Rattle.spa_value.specs.View.{view}
 use Rattle.spa_value.specs.Views.{views}
 use Rattle.spa_value.proofs.ViewLaws.{views-at, views-take_more}
 use Rattle.spa_write.specs.Measured.{AreMeasured, IsMeasured}
-use Rattle.spa_format.proofs.Encodings.{length-framed, whole_members}
+use Rattle.spa_format.proofs.Encodings.{length-encoded_pod, whole_members}
 use Rattle.spa_bodies.proofs.Frames.{size_refused}
 use Rattle.spa_bodies.proofs.SinkRefusals.{unwritable_through}
 
@@ -163,7 +163,7 @@ pub struct_measured : (v : Tree) (vs : Trees) (n : ℕ) → v ≡ struct vs → 
     IsMeasured v (header_size + n)
 struct_measured v vs n is h =
     subst (λ w. IsMeasured w (header_size + n)) (sym is) (record {
-      size = omega (arith, h.size, length-framed struct_type (member_encodings vs), whole_members vs);
+      size = omega (arith, h.size, length-encoded_pod struct_type (member_encodings vs), whole_members vs);
       writable = h.writable;
     })
 

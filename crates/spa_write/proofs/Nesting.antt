@@ -8,14 +8,14 @@ use Rattle.spa_sink.specs.declared.gen_error.GenError.TheVariants.{Full, TooLarg
 use Rattle.spa_sink.specs.Writing.{RefusesWrite}
 use Rattle.spa_format.specs.Words.{header_size, size_limit, word_bytes}
 use Rattle.spa_format.specs.Tree.{Tree, struct, object, struct_type, object_type, Properties}
-use Rattle.spa_format.specs.Encoding.{encoded_body, encoding_of, framed, member_encodings, property_encodings}
+use Rattle.spa_format.specs.Encoding.{encoded_body, encoding_of, encoded_pod, member_encodings, property_encodings}
 use Rattle.spa_format.specs.Typed.{AllPropertiesTyped, AllTyped}
 use Rattle.spa_format.specs.Writable.{HasNul, IsTooLarge, SomeHasNul, SomeTooLarge, SomeValueHasNul, SomeValueTooLarge}
 use Rattle.spa_value.specs.declared.value.Value.{Value}
 use Rattle.spa_value.specs.declared.object.Property.{Property}
 use Rattle.spa_value.specs.View.{view}
 use Rattle.spa_value.specs.Views.{views, property_views}
-use Rattle.spa_format.proofs.Encodings.{key_words, length-framed, property_encoding, two_words_length, whole_members, whole_properties}
+use Rattle.spa_format.proofs.Encodings.{key_words, length-encoded_pod, property_encoding, two_words_length, whole_members, whole_properties}
 use Rattle.spa_bodies.specs.Written.{IsWholeSize, begun_length}
 use Rattle.spa_write.specs.Nesting.{AwaitsAllClosing, AwaitsClosing, Begins, IsAppended, LeftHasNul, LeftIsWritable, LeftTooLarge, LeftTyped, PutsAll, StopsAt, bytes_left, closed_at, left_encodings}
 use Rattle.spa_write.specs.declared.left.Left.{Left}
@@ -57,7 +57,7 @@ begun_size old all body type start s e =
 
 pub closed_whole : (old all body : List ℕ) (type start : ℕ) → start ≡ length old →
     all ≡ old ++ ((word_bytes 0 ++ word_bytes type) ++ body) → IsWholeSize (length body) →
-    closed_at start all ≡ old ++ framed type body
+    closed_at start all ≡ old ++ encoded_pod type body
 closed_whole old all body type start s e whole =
     let size = begun_size old all body type start s e in
     let made = old ++ ((word_bytes 0 ++ word_bytes type) ++ body) in
@@ -76,7 +76,7 @@ begins_struct vs start old now s e =
     let size = ap length e ∙ length-append old head in
     let two = two_words_length 0 struct_type in
     let inside = begun_size old (now ++ body) body struct_type start s all in
-    let framed_size = length-framed struct_type body in
+    let pod_size = length-encoded_pod struct_type body in
     record {
       room = omega (arith, s, size, two);
       closed = closed_whole old (now ++ body) body struct_type start s all (whole_members (views vs.now));
@@ -84,7 +84,7 @@ begins_struct vs start old now s e =
       typed = λ t. t;
       nul = (λ n. n, λ n. n);
       large = (λ n. n, λ n. n);
-      shorter = omega (arith, framed_size, whole_members (views vs.now));
+      shorter = omega (arith, pod_size, whole_members (views vs.now));
     }
 
 object_size : (t i : ℕ) (ps : Properties) →
@@ -115,7 +115,7 @@ begins_object t i ps start old head now tf jf s e0 e1 =
     let two = two_words_length 0 object_type in
     let inside = begun_size old (now ++ left) body object_type start s all in
     let body_size = object_size t i (property_views ps.now) in
-    let framed_size = length-framed object_type body in
+    let pod_size = length-encoded_pod object_type body in
     let whole : IsWholeSize (length body) = omega (arith, body_size, whole_properties (property_views ps.now)) in
     record {
       room = omega (arith, s, size0, size1, two);
@@ -124,7 +124,7 @@ begins_object t i ps start old head now tf jf s e0 e1 =
       typed = λ h. (tf, jf, h);
       nul = (λ n. n, λ n. n);
       large = (λ n. n, λ n. n);
-      shorter = omega (arith, framed_size, body_size, whole_properties (property_views ps.now));
+      shorter = omega (arith, pod_size, body_size, whole_properties (property_views ps.now));
     }
 
 -- Members and properties, one after another.

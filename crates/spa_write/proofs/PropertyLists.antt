@@ -14,7 +14,7 @@ use Rattle.spa_value.specs.View.{view}
 use Rattle.spa_value.specs.Views.{property_view, property_views}
 use Rattle.spa_value.proofs.ViewLaws.{property_views-at, property_views-take_more}
 use Rattle.spa_write.specs.Measured.{IsMeasured, PropertiesAreMeasured, PropertiesAreWritable}
-use Rattle.spa_format.proofs.Encodings.{key_words, length-framed, property_encoding, two_words_length, whole_properties}
+use Rattle.spa_format.proofs.Encodings.{key_words, length-encoded_pod, property_encoding, two_words_length, whole_properties}
 use Rattle.spa_bodies.proofs.Frames.{size_refused}
 use Rattle.spa_bodies.proofs.SinkRefusals.{unwritable_through}
 
@@ -195,7 +195,7 @@ pub object_measured : (v : Tree) (t i : ℕ) (ps : Properties) (n k : ℕ) → v
 object_measured v t i ps n k is h sum short =
     let body = length-object t i ps in
     let whole = whole_properties ps in
-    let frame = length-framed object_type (encoded_body (object t i ps)) in
+    let frame = length-encoded_pod object_type (encoded_body (object t i ps)) in
     subst (λ w. IsMeasured w (header_size + k)) (sym is) (record {
       size = omega (arith, h.size, sum, body, whole, frame);
       writable = record {

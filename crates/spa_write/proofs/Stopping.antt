@@ -18,7 +18,7 @@ use Rattle.spa_value.specs.Views.{property_views, views}
 use Rattle.spa_write.specs.Measured.{ArePropertiesPut, ArePut}
 use Rattle.spa_bodies.specs.Written.{Appending, IsPut, Refusing, Stops}
 use Rattle.spa_bodies.proofs.Parts.{TakesParts, stop_as, stop_behind, stop_by, stop_first, two_stop}
-use Rattle.spa_format.proofs.Encodings.{key_words, length-framed, two_words_length, whole_members, whole_properties}
+use Rattle.spa_format.proofs.Encodings.{key_words, length-encoded_pod, two_words_length, whole_members, whole_properties}
 use Rattle.spa_write.proofs.MemberLists.{members_cut, members_length, members_next, members_next_typed}
 use Rattle.spa_write.proofs.PropertyLists.{keyed_encoding, length-object, not_long, properties_cut, properties_length, properties_next, properties_next_typed}
 
@@ -162,13 +162,13 @@ pub size_of_struct : (v : Tree) (vs : Trees) (n : ℕ) → v ≡ struct vs → n
     n ≡ header_size + length (member_encodings vs)
 size_of_struct v vs n is e =
     e ∙ ap (λ w. length (encoding_of w)) is
-    ∙ (let f = length-framed struct_type (member_encodings vs) in let w = whole_members vs in omega arith)
+    ∙ (let f = length-encoded_pod struct_type (member_encodings vs) in let w = whole_members vs in omega arith)
 
 pub size_of_object : (v : Tree) (t i : ℕ) (ps : Properties) (n : ℕ) → v ≡ object t i ps → n ≡ length (encoding_of v) →
     n ≡ header_size + (header_size + length (property_encodings ps))
 size_of_object v t i ps n is e =
     e ∙ ap (λ w. length (encoding_of w)) is
-    ∙ (let f = length-framed object_type (encoded_body (object t i ps)) in
+    ∙ (let f = length-encoded_pod object_type (encoded_body (object t i ps)) in
     let w = whole_properties ps in
     let b = length-object t i ps in
     omega arith)

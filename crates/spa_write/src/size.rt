@@ -174,7 +174,7 @@ fn number_len<T: CanonicalFixedSizedPod>(value: &T) -> Result<u64, GenError>
 }
 
 /// The length in bytes of a pod whose body has `size` bytes. Refused as `TooLarge` where that is 4294967296 or more.
-fn framed_len(size: usize) -> Result<u64, GenError>
+fn encoded_pod_len(size: usize) -> Result<u64, GenError>
     ensures extent { IfOk result (λ n. n ≡ extent size) }
     ensures short { IfOk result (λ _. size < size_limit) }
     ensures long { IfErr result (λ e. (e ≡ TooLarge) × (size_limit ≤ size)) }
@@ -195,7 +195,7 @@ fn text_len(text: &str) -> Result<u64, GenError>
     if bytes.contains(&0) {
         return Err(GenError::NulInText);
     }
-    framed_len(bytes.len() + 1)
+    encoded_pod_len(bytes.len() + 1)
 }
 
 /// The length in bytes of the encoding of bytes. Refused as `TooLarge`.
@@ -204,7 +204,7 @@ fn bytes_len(bytes: &[u8]) -> Result<u64, GenError>
     ensures cause { IfErr result
         (λ e. RefusesWrite (HasNul (tree.bytes bytes.now)) (IsTooLarge (tree.bytes bytes.now)) (λ _. ⊥) e) }
 {
-    framed_len(bytes.len())
+    encoded_pod_len(bytes.len())
 }
 
 /// The length in bytes of the encoding of a bitmap. Refused as `TooLarge`.
@@ -213,7 +213,7 @@ fn bitmap_len(bytes: &[u8]) -> Result<u64, GenError>
     ensures cause { IfErr result
         (λ e. RefusesWrite (HasNul (tree.bitmap bytes.now)) (IsTooLarge (tree.bitmap bytes.now)) (λ _. ⊥) e) }
 {
-    framed_len(bytes.len())
+    encoded_pod_len(bytes.len())
 }
 
 /// The length in bytes of the encoding of a pointer.

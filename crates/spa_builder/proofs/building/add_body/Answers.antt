@@ -1,5 +1,5 @@
 use Rattle.std.proofs.Common.{◌++◌, length, ap, sym, ◌∙◌, Err, arith, length-append}
-use Rattle.spa_format.specs.Encoding.{framed, member_encodings}
+use Rattle.spa_format.specs.Encoding.{encoded_pod, member_encodings}
 use Rattle.spa_format.specs.Tree.{type_of}
 use Rattle.spa_builder.specs.Fields.{BuilderFields, fields_of}
 use Rattle.spa_builder.proofs.Steps.{has_its_room, base_and_more}
@@ -48,8 +48,8 @@ returns c s v at k b n =
     (c.in_ok-admit.ensures (length (member_encodings s.closed)) s.opened (at.frames)
     (c.len.ensures ∙ base_and_more old s at))
     (c.in_ok-put_pod.ensures.ok
-    ∙ ap (λ t. c.args.bytes.now ++ framed t (c.args.front.now ++ c.args.back.now)) (sym k)
-    ∙ ap (λ l. c.args.bytes.now ++ framed (type_of v) l) (sym b))
+    ∙ ap (λ t. c.args.bytes.now ++ encoded_pod t (c.args.front.now ++ c.args.back.now)) (sym k)
+    ∙ ap (λ l. c.args.bytes.now ++ encoded_pod (type_of v) l) (sym b))
     (λ t. c.fill.ensures (length (member_encodings s.closed)) s.opened v t at.frames
     (c.innermost-innermost.ensures.last (length (member_encodings s.closed)) s.opened
     at.frames))

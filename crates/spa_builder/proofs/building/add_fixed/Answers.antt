@@ -1,6 +1,6 @@
 use Rattle.std.proofs.Common.{◌≡◌, ◌≤◌, ◌++◌, Err, length, ap, sym, ◌∙◌, subst}
 use Rattle.spa_format.specs.Kind.{body_size, fixed_body, type_number}
-use Rattle.spa_format.specs.Encoding.{framed, member_encodings}
+use Rattle.spa_format.specs.Encoding.{encoded_pod, member_encodings}
 use Rattle.spa_format.specs.Tree.{fixed}
 use Rattle.spa_format.specs.Words.{size_limit}
 use Rattle.spa_builder.specs.Fields.{BuilderFields, fields_of}
@@ -76,7 +76,7 @@ returns g c s at =
     admitted s v old (fields_of c.put_fixed_pod.new.bytes c.fill.new.frames) _ _ _ at size
     (c.in_ok-admit.ensures (length (member_encodings s.closed)) s.opened (at.frames)
     (c.len.ensures ∙ base_and_more old s at))
-    (c.in_ok-put_fixed_pod.ensures.ok ∙ ap (λ t. c.args.bytes.now ++ framed t (fixed_body x))
+    (c.in_ok-put_fixed_pod.ensures.ok ∙ ap (λ t. c.args.bytes.now ++ encoded_pod t (fixed_body x))
     (g.met.T.CanonicalFixedSizedPod.its_type ∙ ap type_number (sym k)))
     (λ t. c.fill.ensures (length (member_encodings s.closed)) s.opened v t at.frames
     (c.innermost-innermost.ensures.last (length (member_encodings s.closed)) s.opened

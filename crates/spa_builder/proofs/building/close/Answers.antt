@@ -1,7 +1,7 @@
 use Rattle.std.proofs.Common.{◌≡◌, ◌+◌, ◌-◌, ◌++◌, ℕ, false, length, nat_eq, ap, sym, ◌∙◌, arith, length-append}
 use Rattle.std.proofs.lemmas.Bool.Decides.{nat_tests}
 use Rattle.spa_format.specs.Words.{padding}
-use Rattle.spa_format.specs.Encoding.{member_encodings, framed}
+use Rattle.spa_format.specs.Encoding.{member_encodings, encoded_pod}
 use Rattle.spa_builder.specs.Step.{closed_value}
 use Rattle.spa_builder.specs.Fields.{BuilderFields, fields_of, all_so_far, body_so_far, frames_of, type_of_partial}
 use Rattle.spa_builder.proofs.FrameLists.{length-frames_of}
@@ -116,7 +116,7 @@ returns c s at =
     ap (λ l. l - (c.in-Some.open.start + 8)) e ∙ k.2.size in
     let padded_size = c.in_ok-put_padding.ensures.ok
     ∙ ap (λ l. l ++ padding (c.len-2.result - (c.in-Some.open.start + 8))) k.2.bytes in
-    let bytes : new.bytes ≡ front ++ framed (type_of_partial k.0) (body_so_far k.0) =
+    let bytes : new.bytes ≡ front ++ encoded_pod (type_of_partial k.0) (body_so_far k.0) =
     c.patch.ensures ∙ patched front (body_so_far k.0) c.put_padding.new.bytes
     (type_of_partial k.0) _ c.in-Some.open.start k.2.start size padded_size in
     let popped = c.pop.ensures (length (member_encodings s.closed)) k.0 k.1

@@ -7,7 +7,7 @@ use Rattle.spa_value.specs.View.{view}
 use Rattle.spa_builder.specs.Fields.{BuilderFields, fields_of}
 use Rattle.spa_builder.specs.Step.{takes_trees}
 use Rattle.spa_builder.specs.Innermost.{has_room_for}
-use Rattle.spa_builder.proofs.Lengths.{length-framed}
+use Rattle.spa_builder.proofs.Lengths.{length-encoded_pod}
 use Rattle.spa_builder.proofs.Placing.{passed}
 use Rattle.spa_builder.proofs.Steps.{base_and_more, has_its_room, no_element}
 use Rattle.spa_builder.proofs.Valued.{made_value, misplaced, value_added, value_beyond, value_refused}
@@ -47,7 +47,7 @@ has_room-requires-clause-more c =
     let v = view c.args.value.now in
     let l = body_fits v c.in_ok-len.ensures.writable.fits in
     let n = c.in_ok-len.ensures.length in
-    let f = length-framed (type_of v) (encoded_body v) in
+    let f = length-encoded_pod (type_of v) (encoded_body v) in
     omega arith
 
 pub returns-then-not-has_room : goal.returns-then-not-has_room

@@ -1,7 +1,7 @@
 use Rattle.std.proofs.Common.{◌≡◌, refl, ◌∙◌, ◌++◌, ◌<◌, ◌≤◌, length, map, sym, subst}
 use Rattle.std.proofs.lemmas.Result.{IfErr-weaker, on_err_weaker, on_ok_weaker}
 use Rattle.spa_format.specs.Words.{word_bytes, size_limit}
-use Rattle.spa_format.specs.Encoding.{array_body, framed}
+use Rattle.spa_format.specs.Encoding.{array_body, encoded_pod}
 use Rattle.spa_format.specs.Tree.{array_type}
 use Rattle.spa_sink.proofs.Sending.{begun_as, begun_none, by_sink, refused_encoding}
 use Rattle.spa_fixed_sized.proofs.ArrayWriting.{length-array_body, array_encoding}
@@ -78,6 +78,6 @@ returns-clause-refused g c =
     (c.SIZE.ensures ∙ met.its_size) (c.TYPE.ensures ∙ met.its_type) in
     IfErr-weaker c.put_parts.result _ _ (λ e r. by_sink g.S.PodSink.refuses
     g.met.S.PodSink.never_nul g.met.S.PodSink.never_large c.args.sink.now _
-    (length (framed array_type (array_body g.T.CanonicalFixedSizedPod.kind xs))) e
+    (length (encoded_pod array_type (array_body g.T.CanonicalFixedSizedPod.kind xs))) e
     (refused_encoding g.S.PodSink.refuses c.args.sink.now _ _ _ e encoding r))
     c.put_parts.ensures.cause

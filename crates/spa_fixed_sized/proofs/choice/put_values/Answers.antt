@@ -1,7 +1,7 @@
 use Rattle.std.proofs.Common.{refl, ◌∙◌, ◌++◌, ◌<◌, ◌≤◌, length, map, subst}
 use Rattle.std.proofs.lemmas.Result.{IfErr-weaker, on_err_weaker, on_ok_weaker}
 use Rattle.spa_format.specs.Words.{size_limit}
-use Rattle.spa_format.specs.Encoding.{framed}
+use Rattle.spa_format.specs.Encoding.{encoded_pod}
 use Rattle.spa_format.specs.Tree.{choice_type}
 use Rattle.spa_fixed_sized.specs.Choices.{choice_body}
 use Rattle.spa_sink.proofs.Sending.{begun_as, begun_none, by_sink, refused_encoding}
@@ -111,7 +111,7 @@ returns-clause-refused g c =
     (c.TYPE.ensures ∙ met.its_type) in
     IfErr-weaker c.put_parts.result _ _ (λ e r. by_sink g.S.PodSink.refuses
     g.met.S.PodSink.never_nul g.met.S.PodSink.never_large c.args.sink.now _
-    (length (framed choice_type (choice_body c.args.shape
+    (length (encoded_pod choice_type (choice_body c.args.shape
     c.args.flags g.T.CanonicalFixedSizedPod.kind (xs ++ ys)))) e
     (refused_encoding g.S.PodSink.refuses c.args.sink.now _ _ _ e encoding r))
     c.put_parts.ensures.cause

@@ -1,7 +1,7 @@
 use Rattle.std.proofs.Common.{◌≡◌, ◌+◌, ◌++◌, ◌∷◌, [], ◌∙◌, ap, sym, arith, length, length-append, rules}
 use Rattle.spa_format.specs.Tree.{string}
 use Rattle.spa_format.specs.Writable.{HasNul}
-use Rattle.spa_write.proofs.Measuring.{framed_measured}
+use Rattle.spa_write.proofs.Measuring.{pod_measured}
 use Rattle.spa_write.proofs.size.text_len.Goals as goal
 
 pub returns-clause-measured : goal.returns-clause-measured
@@ -11,5 +11,5 @@ returns-clause-measured c =
     let size : length b + 1 ≡ length (s ++ 0 ∷ []) =
     ap (λ l. length l + 1) c.as_bytes-bytes.ensures.value ∙ sym (length-append s (0 ∷ [])) in
     let nul : ¬ (HasNul (string s)) = search rules in
-    framed_measured _ (length b + 1) (string s) size nul
-    (λ short large. omega (arith, short, large, size)) c.framed_len.ensures.extent c.framed_len.ensures.short
+    pod_measured _ (length b + 1) (string s) size nul
+    (λ short large. omega (arith, short, large, size)) c.encoded_pod_len.ensures.extent c.encoded_pod_len.ensures.short

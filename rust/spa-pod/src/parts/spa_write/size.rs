@@ -121,7 +121,7 @@ fn number_len<T: CanonicalFixedSizedPod>(value: &T) -> Result<u64, GenError> {
 }
 
 /// The length in bytes of a pod whose body has `size` bytes. Refused as `TooLarge` where that is 4294967296 or more.
-fn framed_len(size: usize) -> Result<u64, GenError> {
+fn encoded_pod_len(size: usize) -> Result<u64, GenError> {
     match u32::try_from(size) {
         Ok(size) => Ok(extent_of(size) as u64),
         Err(_) => Err(GenError::TooLarge),
@@ -134,17 +134,17 @@ fn text_len(text: &str) -> Result<u64, GenError> {
     if bytes.has_nul() {
         return Err(GenError::NulInText);
     }
-    framed_len(bytes.len() + 1)
+    encoded_pod_len(bytes.len() + 1)
 }
 
 /// The length in bytes of the encoding of bytes. Refused as `TooLarge`.
 fn bytes_len(bytes: &[u8]) -> Result<u64, GenError> {
-    framed_len(bytes.len())
+    encoded_pod_len(bytes.len())
 }
 
 /// The length in bytes of the encoding of a bitmap. Refused as `TooLarge`.
 fn bitmap_len(bytes: &[u8]) -> Result<u64, GenError> {
-    framed_len(bytes.len())
+    encoded_pod_len(bytes.len())
 }
 
 /// The length in bytes of the encoding of a pointer.

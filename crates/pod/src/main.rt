@@ -1,7 +1,7 @@
 //! `pod WORD [-o FILE] [FILE ..]`: pods are shown, printed as JSON, read from it, rewritten, fixated, checked, compared, or sought to agree.
 #![tactic(auto)]
 
-use pod_commands::answer::{Answer, Failure, tell};
+use pod_commands::answer::{Answer, Failure, report};
 use pod_commands::files::SystemFiles;
 use pod_commands::run::run;
 use std::alloc::AllocError;
@@ -39,7 +39,7 @@ fn status(rt: &HostRuntime) -> Option<u8> {
         is_terminal,
     );
     if !output.is_closed {
-        let _ = tell(&mut output, &mut rt.stderr(), &answer);
+        let _ = report(&mut output, &mut rt.stderr(), &answer);
     }
     Some(answer.status())
 }
@@ -74,7 +74,7 @@ impl<W: Write> Write for Output<W> {
 /// Writes the line of a run for which memory was refused, and gives its status, also where that line can't be written.
 fn refused(rt: &HostRuntime) -> u8 {
     let answer = Answer::Refused(Failure::OutOfMemory);
-    let _ = tell(&mut rt.stdout(), &mut rt.stderr(), &answer);
+    let _ = report(&mut rt.stdout(), &mut rt.stderr(), &answer);
     answer.status()
 }
 

@@ -121,7 +121,7 @@ impl From<AllocError> for Failure<'_> {
 
 /// Writes what is said of this answer: help and the version to the output, a refusal or a misuse to the other writer, of work that was
 /// done nothing.
-pub fn tell<W: Write, E: Write>(
+pub fn report<W: Write, E: Write>(
     output: &mut W,
     faults: &mut E,
     answer: &Answer<'_>,
@@ -129,10 +129,10 @@ pub fn tell<W: Write, E: Write>(
     match answer {
         Answer::Done => Ok(()),
         Answer::Differs => Ok(()),
-        Answer::Passed(pods) => tell_pods(faults, pods.as_slice()),
-        Answer::Shown(refused) => tell_count(faults, *refused),
-        Answer::Refused(why) => tell_failure(faults, why),
-        Answer::Misused(why) => tell_misuse(faults, why),
+        Answer::Passed(pods) => report_pods(faults, pods.as_slice()),
+        Answer::Shown(refused) => report_count(faults, *refused),
+        Answer::Refused(why) => report_failure(faults, why),
+        Answer::Misused(why) => report_misuse(faults, why),
         Answer::Said(error) => {
             if error.use_stderr() {
                 write!(faults, "{error}")
@@ -145,39 +145,39 @@ pub fn tell<W: Write, E: Write>(
 }
 
 /// Writes a line of each of these refused pods, and how many they are.
-pub fn tell_pods<E: Write>(faults: &mut E, pods: &[NamedRefusal<'_>]) -> io::Result<()>
+pub fn report_pods<E: Write>(faults: &mut E, pods: &[NamedRefusal<'_>]) -> io::Result<()>
     ensures written { OnOk result (Appends (E.contents faults.old) (E.contents faults.new)
         (lines_of_pods pods.now ++ count_line (length pods.now))) }
 {
     for pod in pods {
-        tell_pod(faults, pod)?;
+        report_pod(faults, pod)?;
     }
-    tell_count(faults, pods.len())
+    report_count(faults, pods.len())
 }
 
 /// Writes the line that says how many pods are refused.
-fn tell_count<E: Write>(faults: &mut E, count: usize) -> io::Result<()>
+fn report_count<E: Write>(faults: &mut E, count: usize) -> io::Result<()>
     ensures written { OnOk result (Appends (E.contents faults.old) (E.contents faults.new) (count_line count)) }
 {
     writeln!(faults, "pod: refused pods: {count}")
 }
 
 /// Writes the line of a refused pod.
-fn tell_pod<E: Write>(faults: &mut E, pod: &NamedRefusal<'_>) -> io::Result<()>
+fn report_pod<E: Write>(faults: &mut E, pod: &NamedRefusal<'_>) -> io::Result<()>
     ensures written { OnOk result (Appends (E.contents faults.old) (E.contents faults.new) (line_of_pod pod.now)) }
 {
     writeln!(faults, "pod: {}: {}", shown_name(pod.name), pod.refusal)
 }
 
 /// Writes the line of a wrong command line.
-pub fn tell_misuse<E: Write>(faults: &mut E, why: &Misuse<'_>) -> io::Result<()>
+pub fn report_misuse<E: Write>(faults: &mut E, why: &Misuse<'_>) -> io::Result<()>
     ensures written { OnOk result (Appends (E.contents faults.old) (E.contents faults.new) (misuse_line why.now)) }
 {
     writeln!(faults, "pod: {why}; try 'pod --help'")
 }
 
 /// Writes the line of a refusal.
-pub fn tell_failure<E: Write>(faults: &mut E, why: &Failure<'_>) -> io::Result<()>
+pub fn report_failure<E: Write>(faults: &mut E, why: &Failure<'_>) -> io::Result<()>
     ensures written { OnOk result (Appends (E.contents faults.old) (E.contents faults.new) (line_of why.now)) }
 {
     writeln!(faults, "pod: {why}")

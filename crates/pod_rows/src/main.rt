@@ -4,7 +4,7 @@
 //! The label of a run to a terminal begins with `terminal`. `%` among what is given is an input that can't be read. A file that is written stands behind what is written, with its name.
 #![tactic(auto)]
 
-use pod_commands::answer::tell;
+use pod_commands::answer::report;
 use pod_commands::files::Files;
 use pod_commands::run::run;
 use std::alloc::Global;
@@ -119,7 +119,7 @@ fn answer_run(
     );
     let mut said = [0; ROOM];
     let mut faults = Device::new(&mut said, ALL);
-    tell(&mut device, &mut faults, &answer)?;
+    report(&mut device, &mut faults, &answer)?;
     write!(answers, "{} ", answer.status())?;
     add_text(answers, faults.taken())?;
     write!(answers, " |")?;

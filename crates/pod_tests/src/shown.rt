@@ -1,6 +1,6 @@
 //! Inputs shown.
 use crate::streams::{Broken, WANTING};
-use pod_commands::answer::tell;
+use pod_commands::answer::report;
 use pod_commands::run::run;
 use std::alloc::{AllocError, Global};
 use std::io::ErrorKind;
@@ -28,12 +28,12 @@ fn shows(
     );
     let mut line = [0; 100];
     let mut faults = Device::new(&mut line, PIECE);
-    let is_told = tell(&mut device, &mut faults, &answer).is_ok();
+    let is_reported = report(&mut device, &mut faults, &answer).is_ok();
     if faults.taken() == WANTING.as_bytes() {
         return Err(AllocError);
     }
     let (end, said, status) = wanted;
-    let is_said = is_told && faults.taken() == said && answer.status() == status;
+    let is_said = is_reported && faults.taken() == said && answer.status() == status;
     Ok(is_said && device.taken().ends_with(end))
 }
 

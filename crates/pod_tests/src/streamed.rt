@@ -1,6 +1,6 @@
 //! Inputs that are written of as they come.
 use crate::streams::{Broken, WANTING};
-use pod_commands::answer::tell;
+use pod_commands::answer::report;
 use pod_commands::run::run;
 use std::alloc::{AllocError, Global};
 use test_streams::{ALL, Device, PIECE, Source};
@@ -36,12 +36,12 @@ fn streams(
     let (answer, mut device) = run(rt.alloc(), words, &mut source, &mut Broken, device, false);
     let mut line = [0; 200];
     let mut faults = Device::new(&mut line, PIECE);
-    let is_told = tell(&mut device, &mut faults, &answer).is_ok();
+    let is_reported = report(&mut device, &mut faults, &answer).is_ok();
     let (written, said, status) = wanted;
     if faults.taken() == WANTING.as_bytes() && written.starts_with(device.taken()) {
         return Err(AllocError);
     }
-    let is_said = is_told && faults.taken() == said && answer.status() == status;
+    let is_said = is_reported && faults.taken() == said && answer.status() == status;
     Ok(is_said && device.taken() == written)
 }
 

@@ -1,5 +1,5 @@
 //! Streams and files that break off, are full, or can't be flushed.
-use pod_commands::answer::tell;
+use pod_commands::answer::report;
 use pod_commands::files::Files;
 use pod_commands::run::run;
 use std::alloc::{AllocError, Global};
@@ -72,7 +72,7 @@ fn assert_run(
     let mut faults = Device::new(line_room, PIECE);
     let (answer, mut output) = run(alloc, &*words, &mut input, &mut Broken, device, false);
     // Where the line can't be written, nothing changes.
-    let _ = tell(&mut output, &mut faults, &answer);
+    let _ = report(&mut output, &mut faults, &answer);
     let line = if faults.taken() == INPUT_WANTING.as_bytes() {
         INPUT_WANTING
     } else {

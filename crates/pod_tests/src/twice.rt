@@ -1,6 +1,6 @@
 //! Files that are read twice.
 use crate::streams::WANTING;
-use pod_commands::answer::tell;
+use pod_commands::answer::report;
 use pod_commands::files::Files;
 use pod_commands::run::run;
 use std::alloc::{AllocError, Global};
@@ -69,12 +69,12 @@ fn rewrites(rt: &HostRuntime, words: &[&str], wanted: Wanted<'_>) -> Result<bool
     let (answer, mut device) = run(rt.alloc(), words, &mut input, &mut files, device, false);
     let mut line = [0; 200];
     let mut faults = Device::new(&mut line, PIECE);
-    let is_told = tell(&mut device, &mut faults, &answer).is_ok();
+    let is_reported = report(&mut device, &mut faults, &answer).is_ok();
     let (status, said, written) = wanted;
     if faults.taken() == WANTING.as_bytes() && written.starts_with(device.taken()) {
         return Err(AllocError);
     }
-    let is_said = is_told && faults.taken() == said.as_bytes() && answer.status() == status;
+    let is_said = is_reported && faults.taken() == said.as_bytes() && answer.status() == status;
     Ok(is_said && device.taken() == written)
 }
 

@@ -1,7 +1,7 @@
 //! `podtool rewrite|fixate|show`: pods from standard input are rewritten, fixated or listed on standard output.
 #![tactic(auto)]
 
-use spa_pod_commands::answer::{Answer, Failure, tell};
+use spa_pod_commands::answer::{Answer, Failure, report};
 use spa_pod_commands::run::run;
 use std::alloc::AllocError;
 use std::env;
@@ -33,7 +33,7 @@ fn status(rt: &HostRuntime) -> Option<u8> {
 /// The status of a run for which memory ran out, which it reports. Where the line can't be written, nothing changes.
 fn refused(rt: &HostRuntime) -> u8 {
     let answer = Answer::Refused(Failure::OutOfMemory);
-    let _ = tell(&mut rt.stderr(), &answer);
+    let _ = report(&mut rt.stderr(), &answer);
     answer.status()
 }
 

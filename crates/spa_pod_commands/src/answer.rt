@@ -81,7 +81,7 @@ const LINE_LIMIT: usize = 64;
 
 /// Writes the line of this answer, of work that was done nothing.
 #[tactic(auto, using(crate::proofs::Running::begins_nothing))]
-pub fn tell<E: Write>(faults: &mut E, answer: &Answer) -> Result<(), Failure>
+pub fn report<E: Write>(faults: &mut E, answer: &Answer) -> Result<(), Failure>
     ensures written { OnOk result (Appends (E.contents faults.old) (E.contents faults.new) (line_of answer.now)) }
     ensures begun { OnErr result ((n : ℕ)
         × Appends (E.contents faults.old) (E.contents faults.new) (take n (line_of answer.now))) }

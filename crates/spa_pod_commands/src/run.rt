@@ -6,7 +6,7 @@ ghost use Rattle.spa_pod_commands.specs.Lines.{Lists};
 ghost use Rattle.spa_pod_commands.specs.Runs.{EndsBy, IsAnswer};
 ghost use Rattle.spa_pod_commands.specs.declared.answer.Answer.TheVariants.{Misused};
 
-use crate::answer::{Answer, Failure, tell};
+use crate::answer::{Answer, Failure, report};
 use crate::listing::list;
 use crate::making::{fixated, rewritten};
 use crate::output::{answered, write};
@@ -30,7 +30,7 @@ pub fn run<R: Read, W: Write, E: Write>(
         (E.contents faults.old) (E.contents faults.new) }
 {
     let answer = answer(alloc, words, input, output);
-    let _ = tell(faults, &answer);
+    let _ = report(faults, &answer);
     answer.status()
 }
 

@@ -1,4 +1,5 @@
 //! Typed reads, visitors and a user's own readers.
+mod answering;
 pub(crate) mod answers;
 mod built;
 mod declining;
@@ -6,5 +7,4 @@ mod elements;
 mod objects;
 mod settled;
 mod structs;
-mod telling;
 mod visitors;

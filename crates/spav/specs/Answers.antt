@@ -34,8 +34,8 @@ abbrev pub IsChecked : ℤ → Type 0
 IsChecked answer = IsDone answer ⊎ IsNoMemory answer ⊎ IsInvalid answer
 
 -- the answers of a question that takes no memory
-abbrev pub IsTold : ℤ → Type 0
-IsTold answer = IsDone answer ⊎ IsYes answer
+abbrev pub IsNoOrYes : ℤ → Type 0
+IsNoOrYes answer = IsDone answer ⊎ IsYes answer
 
 -- -ELOOP
 abbrev pub IsTooDeep : ℤ → Type 0
@@ -43,11 +43,11 @@ IsTooDeep answer = IsFailure 40 answer
 
 -- the answers of the question of the nesting depth
 abbrev pub IsNested : ℤ → Type 0
-IsNested answer = IsTold answer ⊎ IsTooDeep answer
+IsNested answer = IsNoOrYes answer ⊎ IsTooDeep answer
 
 -- the answers of a question that may take memory
 abbrev pub IsDecided : ℤ → Type 0
-IsDecided answer = IsTold answer ⊎ IsNoMemory answer
+IsDecided answer = IsNoOrYes answer ⊎ IsNoMemory answer
 
 -- the answers of a change in place
 abbrev pub IsChanged : ℤ → Type 0

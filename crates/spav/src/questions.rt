@@ -4,7 +4,7 @@ ghost use Rattle.spa_format.specs.Front.{Begins, rest_of};
 ghost use Rattle.spa_format.specs.Tree.{Tree};
 ghost use Rattle.spa_scan.specs.Canonical.{BeginsCanonical};
 ghost use Rattle.spa_scan.specs.Depth.{NestsDeeper, depth_of, levels_looked_into};
-ghost use Rattle.spav.specs.Answers.{IsDecided, IsDone, IsNested, IsNoMemory, IsTold, IsTooDeep, IsYes};
+ghost use Rattle.spav.specs.Answers.{IsDecided, IsDone, IsNested, IsNoMemory, IsNoOrYes, IsTooDeep, IsYes};
 
 use crate::answers::{DONE, NO_MEMORY, TOO_DEEP, YES};
 use spa_rewrite::is_canonical;
@@ -39,7 +39,7 @@ pub extern "C" fn spav_is_canonical(alloc: Global, input: &[u8]) -> i32
 #[unsafe(no_mangle)]
 pub extern "C" fn spav_nests_within(input: &[u8], levels: u32) -> i32
     // Of an accepted front, unless -ELOOP is answered, 1 exactly where the depth of its value is at most `levels`.
-    ensures exactly { (v : Tree) → Begins input.now v → IsTold result → IsYes result ↔ (depth_of v ≤ levels) }
+    ensures exactly { (v : Tree) → Begins input.now v → IsNoOrYes result → IsYes result ↔ (depth_of v ≤ levels) }
     // On any bytes 0 only where the depth is above `levels`, and 1 only where it isn't.
     ensures deeper { IsDone result → NestsDeeper levels input.now }
     ensures within { IsYes result → ¬ (NestsDeeper levels input.now) }

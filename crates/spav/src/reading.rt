@@ -6,7 +6,7 @@ ghost use Rattle.spa_format.specs.Front.{HasFront};
 ghost use Rattle.spa_format.specs.Kind as k;
 ghost use Rattle.spa_format.specs.Words.{extent, word_at};
 ghost use Rattle.spa_view.specs.View.{pod_bytes};
-ghost use Rattle.spav.specs.Answers.{IsChanged, IsDone, IsInvalid, IsMissing, IsNoRoom, IsOther, IsPut, IsRead, IsTextRead, IsTold, IsUnfound, IsYes};
+ghost use Rattle.spav.specs.Answers.{IsChanged, IsDone, IsInvalid, IsMissing, IsNoRoom, IsOther, IsPut, IsRead, IsTextRead, IsNoOrYes, IsUnfound, IsYes};
 ghost use Rattle.spav.specs.Reading.{BeginsObject, HasNoTextUnder, HasNoneUnder, HasOtherUnder, HasTextUnder, IsUnder, SaysObject, SaysUnder};
 
 use crate::answers::{DONE, INVALID, MISSING, NO_ROOM, OTHER, YES};
@@ -27,7 +27,7 @@ pub extern "C" fn spav_front(
     ensures type_of { IsYes result → type_.new ≡ word_at input.now 4 }
     ensures size_of { IsYes result → size.new ≡ word_at input.now 0 }
     ensures whole_of { IsYes result → whole.new ≡ extent (word_at input.now 0) }
-    ensures answers { IsTold result }
+    ensures answers { IsNoOrYes result }
     ensures unchanged { IsDone result → (type_.new ≡ type_.old) × (size.new ≡ size.old) × (whole.new ≡ whole.old) }
 {
     let Some(front) = open(input) else {

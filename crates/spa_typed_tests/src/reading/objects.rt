@@ -3,8 +3,8 @@ ghost use Rattle.std.specs.Prelude.{⊤, ◌≡◌, ℕ, IfErr, IfOk};
 ghost use Rattle.spa_format.specs.Kind.{float, int};
 ghost use Rattle.spa_format.specs.Tree.{fixed, no_properties, object, property, string};
 
+use crate::reading::answering::declined;
 use crate::reading::answers::refused;
-use crate::reading::telling::declined;
 use spa_fixed_sized::DeserializeError;
 use spa_typed_read::{
     DeserializeSuccess, Never, ObjectPodDeserializer, PodDeserialize, PodDeserializer,

@@ -1,7 +1,7 @@
 //! Visitors that read no member of a struct, or go on after a refusal.
 ghost use Rattle.std.specs.Prelude.{⊤, IfErr, IfOk};
 
-use crate::reading::telling::declined;
+use crate::reading::answering::declined;
 use spa_fixed_sized::DeserializeError;
 use spa_typed_read::{
     DeserializeSuccess, Never, ObjectPodDeserializer, PodDeserialize, PodDeserializer,

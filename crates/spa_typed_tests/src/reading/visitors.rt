@@ -3,9 +3,9 @@ ghost use Rattle.std.specs.Prelude.{⊤, ◌≡◌, IfOk, IsOk, OnOk};
 ghost use Rattle.spa_bodies.specs.Reading.{IsRead};
 
 use crate::compare::assert_said;
+use crate::reading::answering::AnsweringVisitor;
 use crate::reading::answers::refused;
 use crate::reading::declining::{declined, number_visitor};
-use crate::reading::telling::TellingVisitor;
 use spa_fixed_sized::DeserializeError;
 use spa_typed_read::{DeserializeSuccess, PodDeserialize, PodDeserializer};
 use spa_visitors::{
@@ -120,8 +120,8 @@ fn value_call<'de, const CALL: u8>(
             deserializer.deserialize_choice(ValueVisitor { alloc }),
         ),
         21 => as_answer(alloc, deserializer.deserialize_int(BoolVisitor)),
-        22 => as_answer(alloc, deserializer.deserialize_struct(TellingVisitor)),
-        23 => as_answer(alloc, deserializer.deserialize_object(TellingVisitor)),
+        22 => as_answer(alloc, deserializer.deserialize_struct(AnsweringVisitor)),
+        23 => as_answer(alloc, deserializer.deserialize_object(AnsweringVisitor)),
         _ => choice_call::<CALL>(alloc, deserializer),
     }
 }

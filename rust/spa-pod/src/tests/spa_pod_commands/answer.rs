@@ -66,7 +66,7 @@ impl From<ReadError> for Failure {
 const LINE_LIMIT: usize = 64;
 
 /// Writes the line of this answer, of work that was done nothing.
-pub fn tell<E: Write>(faults: &mut E, answer: &Answer) -> Result<(), Failure> {
+pub fn report<E: Write>(faults: &mut E, answer: &Answer) -> Result<(), Failure> {
     let mut line = ArrayVec::new();
     if add_line(&mut line, answer).is_err() {
         return Err(Failure::WriteFailed);

@@ -1,7 +1,7 @@
 //! The program's work, over a reader and two writers.
 
 use crate::shims::prelude::*;
-use crate::tests::spa_pod_commands::answer::{Answer, Failure, tell};
+use crate::tests::spa_pod_commands::answer::{Answer, Failure, report};
 use crate::tests::spa_pod_commands::listing::list;
 use crate::tests::spa_pod_commands::making::{fixated, rewritten};
 use crate::tests::spa_pod_commands::output::{answered, write};
@@ -20,7 +20,7 @@ pub fn run<R: Read, W: Write, E: Write>(
     faults: &mut E,
 ) -> u8 {
     let answer = answer(words, input, output);
-    let _ = tell(faults, &answer);
+    let _ = report(faults, &answer);
     answer.status()
 }
 

@@ -1,5 +1,6 @@
 //! Typed reads, visitors and a user's own readers.
 use crate::shims::prelude::*;
+mod answering;
 pub(crate) mod answers;
 mod built;
 mod declining;
@@ -7,5 +8,4 @@ mod elements;
 mod objects;
 mod settled;
 mod structs;
-mod telling;
 mod visitors;

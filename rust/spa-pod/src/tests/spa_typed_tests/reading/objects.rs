@@ -1,8 +1,8 @@
 //! A user's own object, read property by property.
 
 use crate::shims::prelude::*;
+use crate::tests::spa_typed_tests::reading::answering::declined;
 use crate::tests::spa_typed_tests::reading::answers::refused;
-use crate::tests::spa_typed_tests::reading::telling::declined;
 use crate::parts::spa_fixed_sized::DeserializeError;
 use crate::parts::spa_typed_read::{
     DeserializeSuccess, Never, ObjectPodDeserializer, PodDeserialize, PodDeserializer,

@@ -1,7 +1,7 @@
 //! Visitors that read no member of a struct, or go on after a refusal.
 
 use crate::shims::prelude::*;
-use crate::tests::spa_typed_tests::reading::telling::declined;
+use crate::tests::spa_typed_tests::reading::answering::declined;
 use crate::parts::spa_fixed_sized::DeserializeError;
 use crate::parts::spa_typed_read::{
     DeserializeSuccess, Never, ObjectPodDeserializer, PodDeserialize, PodDeserializer,

@@ -2,9 +2,9 @@
 
 use crate::shims::prelude::*;
 use crate::tests::spa_typed_tests::compare::assert_said;
+use crate::tests::spa_typed_tests::reading::answering::AnsweringVisitor;
 use crate::tests::spa_typed_tests::reading::answers::refused;
 use crate::tests::spa_typed_tests::reading::declining::{declined, number_visitor};
-use crate::tests::spa_typed_tests::reading::telling::TellingVisitor;
 use crate::parts::spa_fixed_sized::DeserializeError;
 use crate::parts::spa_typed_read::{DeserializeSuccess, PodDeserialize, PodDeserializer};
 use crate::parts::spa_visitors::{
@@ -93,8 +93,8 @@ fn value_call<'de, const CALL: u8>(
             deserializer.deserialize_choice(ValueVisitor {}),
         ),
         21 => as_answer(deserializer.deserialize_int(BoolVisitor)),
-        22 => as_answer(deserializer.deserialize_struct(TellingVisitor)),
-        23 => as_answer(deserializer.deserialize_object(TellingVisitor)),
+        22 => as_answer(deserializer.deserialize_struct(AnsweringVisitor)),
+        23 => as_answer(deserializer.deserialize_object(AnsweringVisitor)),
         _ => choice_call::<CALL>(deserializer),
     }
 }

@@ -1,4 +1,4 @@
-//! A visitor that tells what the readers of members and of properties answer.
+//! A visitor that returns the answers of the readers of members and of properties as text.
 
 use crate::shims::prelude::*;
 use crate::parts::spa_fixed_sized::DeserializeError;
@@ -9,10 +9,10 @@ pub(crate) fn declined<'de>(_given: Visit<'de, Never>) -> DeserializeError<&'de 
     DeserializeError::UnsupportedType
 }
 
-/// Reads two members or two properties, and tells what was answered. The text is in memory that the reader names.
-pub(crate) struct TellingVisitor;
+/// Reads two members or two properties, and returns the two answers as text. The text is in the reader's memory.
+pub(crate) struct AnsweringVisitor;
 
-impl<'de> Visitor<'de> for TellingVisitor {
+impl<'de> Visitor<'de> for AnsweringVisitor {
     type Value = String;
 
     type ArrayElem = Never;

@@ -1,5 +1,5 @@
 use Rattle.spa_typed_read.proofs.Stepping.{all_left_in, further_in_trans}
-use Rattle.spa_typed_tests.proofs.reading.telling.TellingVisitorVisitor.visit_object.Goals as goal
+use Rattle.spa_typed_tests.proofs.reading.answering.AnsweringVisitorVisitor.visit_object.Goals as goal
 
 pub returns-clause-made : goal.returns-clause-made
 returns-clause-made c =

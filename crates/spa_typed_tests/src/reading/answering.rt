@@ -1,4 +1,4 @@
-//! A visitor that tells what the readers of members and of properties answer.
+//! A visitor that returns the answers of the readers of members and of properties as text.
 ghost use Rattle.std.specs.Prelude.{⊤, IfErr, IfOk};
 
 use spa_fixed_sized::DeserializeError;
@@ -9,11 +9,11 @@ pub(crate) fn declined<'de>(_given: Visit<'de, Never>) -> DeserializeError<&'de 
     DeserializeError::UnsupportedType
 }
 
-/// Reads two members or two properties, and tells what was answered. The text is in memory that the reader names.
+/// Reads two members or two properties, and returns the two answers as text. The text is in the reader's memory.
 #[derive(Drop)]
-pub(crate) struct TellingVisitor;
+pub(crate) struct AnsweringVisitor;
 
-impl<'de> Visitor<'de> for TellingVisitor {
+impl<'de> Visitor<'de> for AnsweringVisitor {
     type Value = String;
 
     type ArrayElem = Never;

@@ -1,5 +1,5 @@
 use Rattle.spa_typed_read.proofs.Stepping.{all_left, further_trans}
-use Rattle.spa_typed_tests.proofs.reading.telling.TellingVisitorVisitor.visit_struct.Goals as goal
+use Rattle.spa_typed_tests.proofs.reading.answering.AnsweringVisitorVisitor.visit_struct.Goals as goal
 
 pub returns-clause-made : goal.returns-clause-made
 returns-clause-made c =

@@ -1,7 +1,7 @@
 use Rattle.std.proofs.Common.{◌∷◌, ◌∙◌, ◌+◌, ap, drop, sym}
 use Rattle.pod_commands.proofs.Made.{next_left}
 use Rattle.pod_commands.proofs.Listed.{begins, further}
-use Rattle.pod_commands.proofs.answer.tell_pods.Goals as goal
+use Rattle.pod_commands.proofs.answer.report_pods.Goals as goal
 
 pub loop-pod-init : goal.loop-pod-init
 loop-pod-init g c = begins _ _
@@ -11,4 +11,4 @@ loop-pod-preserved g c =
     let pods = c.args.pods.now in
     let i = c.loop-pod.pod-index in
     let next = next_left pods i c.pod-item.result c.loop-pod-test.true ∙ ap (λ z. z ∷ drop (i + 1) pods) (sym c.pod-item.is) in
-    further _ _ _ _ _ _ _ next c.in_ok-tell_pod.ensures.written c.loop-pod.invariant
+    further _ _ _ _ _ _ _ next c.in_ok-report_pod.ensures.written c.loop-pod.invariant

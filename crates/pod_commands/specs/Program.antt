@@ -28,21 +28,13 @@ nth = record (valued (codes "nth")) { parser = Some (Unsigned 1 (2 ^ 64 - 1)) }
 abbrev pub stream : Rule
 stream = flag (codes "stream")
 
--- a word that reads files
-abbrev pub reader : Text → App
-reader name = with_rule (new_app name) files
-
--- a word that writes, too
+-- a word that takes files
 abbrev pub word : Text → App
-word name = with_rule (reader name) output
+word name = with_rule (with_rule (new_app name) files) output
 
 -- a word that goes over pods takes `--lenient` and `--keep-going` too
 abbrev pub over_pods : App → App
 over_pods app = with_rule (with_rule app (flag (codes "lenient"))) (flag (codes "keep-going"))
-
--- `check` writes nothing
-abbrev pub check : App
-check = over_pods (reader (codes "check"))
 
 -- one that writes pods for pods takes `--keep-refused` too
 abbrev pub to_pods : Text → App
@@ -85,7 +77,8 @@ with_json app = with_subcommand (with_subcommand app json.top) read.top
 
 abbrev pub with_writers : App → App
 with_writers app =
-    with_subcommand (with_subcommand (with_subcommand app rewrite.top) (to_pods (codes "fixate")).top) check.top
+    with_subcommand (with_subcommand (with_subcommand app rewrite.top) (to_pods (codes "fixate")).top)
+    (over_pods (word (codes "check"))).top
 
 abbrev pub with_pairs : App → App
 with_pairs app = with_word (with_word (with_word app (codes "diff")) (codes "meet")) (codes "filter")

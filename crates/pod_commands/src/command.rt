@@ -1,5 +1,5 @@
 //! The command line: the program's words, what each takes, and its help.
-ghost use Rattle.std.specs.Prelude.{◌≡◌, IfOk, false};
+ghost use Rattle.std.specs.Prelude.{◌≡◌, IfOk, codes, false};
 ghost use Rattle.clap.specs.Words.{app_of, rule_of, with_rule};
 ghost use Rattle.clap.specs.declared.builder.command.Command.TheViews.{out-Command};
 ghost use Rattle.pod_commands.specs.Program as spec;
@@ -78,21 +78,7 @@ fn nth<'a>(alloc: Global) -> Arg<'a>
     valued(alloc, "nth", "N", help).value_parser(ValueParser::Unsigned(1, u64::MAX))
 }
 
-/// A word that reads files, with what help says of it and an example.
-fn reader<'a>(
-    alloc: Global,
-    name: &'a str,
-    about: &'a str,
-    example: &'a str,
-) -> Result<Command<'a>, AllocError>
-    ensures app { IfOk result (λ it. app_of it ≡ spec.reader name.entry.now) }
-    ensures local { IfOk result (λ it. (out-Command it).has_globals ≡ false) }
-{
-    let bare = Command::new(alloc, name).about(about).after_help(example);
-    bare.arg(files(alloc))
-}
-
-/// A word that reads files and writes, with what help says of it and an example.
+/// A word of the program, with what help says of it and an example.
 fn word<'a>(
     alloc: Global,
     name: &'a str,
@@ -102,8 +88,9 @@ fn word<'a>(
     ensures app { IfOk result (λ it. app_of it ≡ spec.word name.entry.now) }
     ensures local { IfOk result (λ it. (out-Command it).has_globals ≡ false) }
 {
-    let plain = reader(alloc, name, about, example)?;
-    plain.arg(output(alloc))
+    let bare = Command::new(alloc, name).about(about).after_help(example);
+    let with_files = bare.arg(files(alloc))?;
+    with_files.arg(output(alloc))
 }
 
 /// A command with this flag, too.
@@ -228,16 +215,16 @@ fn rewrite<'a>(alloc: Global) -> Result<Command<'a>, AllocError>
 
 /// The word `check`.
 fn check<'a>(alloc: Global) -> Result<Command<'a>, AllocError>
-    ensures app { IfOk result (λ it. app_of it ≡ spec.check) }
+    ensures app { IfOk result (λ it. app_of it ≡ spec.over_pods (spec.word (codes "check"))) }
     ensures local { IfOk result (λ it. (out-Command it).has_globals ≡ false) }
 {
-    let bare = reader(
+    let plain = word(
         alloc,
         "check",
         "Checks that each input consists of pods that are accepted; writes nothing",
         "Example: pod check *.pod && echo all are pods",
     )?;
-    over_pods(alloc, bare)
+    over_pods(alloc, plain)
 }
 
 /// The word `json`.

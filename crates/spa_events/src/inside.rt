@@ -1,5 +1,5 @@
 //! The pods inside containers: the members of a struct; the properties of an object, with a key and flags before each.
-ghost use Rattle.std.specs.Prelude.{◌≡◌, ◌≢◌, ◌<◌, Bool, Decides, IfNone, IfSome, length, true};
+ghost use Rattle.std.specs.Prelude.{◌≡◌, ◌≢◌, ◌<◌, Bool, Decides, IfNone, IfSome, false, length, true};
 ghost use Rattle.spa_format.specs.Tree.{object_type, struct_type};
 ghost use Rattle.spa_format.specs.Walk.{extent_behind};
 ghost use Rattle.spa_format.specs.Words.{header_size};
@@ -20,7 +20,8 @@ pub struct Inside<'a> {
 /// Whether pods of this type are containers: structs or objects.
 #[inline(always)]
 pub fn is_container(type_: u32) -> bool
-    ensures { Decides result (IsContainer type_) }
+    ensures exactly { Decides result (IsContainer type_) }
+    ensures other { result ≡ false → (type_ ≢ struct_type) × (type_ ≢ object_type) }
 {
     type_ == SpaTypes::Struct.0 || type_ == SpaTypes::Object.0
 }

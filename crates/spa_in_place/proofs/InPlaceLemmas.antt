@@ -62,8 +62,8 @@ moved_fact F place error.OutOfMemory h = h
 -- the offset that the look gives
 pub offset_known : (input left : List ℕ) (top at : ℕ) (place : Bor (List ℕ)) (why : Refusal) → drop top input ≡ left → IsFaultAt left place.now at why →
     NamesOffset input top (moved (Some (top + at)) (error_of place why))
-offset_known input left top at place refusal.Short d f = (at, refl, subst (StandsAt Short from_pod at) (sym d) f.1)
-offset_known input left top at place refusal.Text d f = (at, refl, subst (StandsAt Text from_pod at) (sym d) f.1)
+offset_known input left top at place refusal.Short d f = (at, refl, subst (StandsAt Short from_pod at) (sym d) f.offset)
+offset_known input left top at place refusal.Text d f = (at, refl, subst (StandsAt Text from_pod at) (sym d) f.offset)
 offset_known input left top at place refusal.InvalidType d f = tt
 offset_known input left top at place refusal.InvalidChoiceType d f = tt
 offset_known input left top at place refusal.MissingChoiceValues d f = tt

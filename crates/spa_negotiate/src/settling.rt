@@ -18,6 +18,7 @@ use crate::negotiation::common;
 use crate::offer_view::{first_common, offer_view};
 use crate::support::is_supported;
 use spa_bytes::{joined, open, two_words, u32_at, u64_at, wide_body, word_body};
+use spa_events::is_container;
 use spa_format::laws::pods_have_one_value;
 use spa_object_view::{are_same, is_plain, put_key, put_pod};
 use spa_read::read_leaf;
@@ -134,10 +135,7 @@ fn leaf_at(alloc: Global, pod: &[u8]) -> Result<Option<Held>, NegotiateError>
     let Some(front) = open(pod) else {
         return Ok(None);
     };
-    if front.type_ == SpaTypes::Struct.0 {
-        return Ok(None);
-    }
-    if front.type_ == SpaTypes::Object.0 {
+    if is_container(front.type_) {
         return Ok(None);
     }
     match read_leaf(alloc, front.type_, front.body) {

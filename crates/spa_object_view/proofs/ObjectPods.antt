@@ -21,7 +21,6 @@ use Rattle.spa_rewrite.specs.Rewriting.{IsRewriting}
 use Rattle.spa_events.specs.Inside.{IsInside}
 use Rattle.spa_rewrite.specs.declared.look.Rejected.{Rejected}
 use Rattle.spa_rewrite.specs.declared.look.Rejected.TheVariants as rejected
-use Rattle.spa_rewrite.proofs.Accepted.{at_place, fault_refuses}
 use Rattle.std.specs.Borrow.{Bor}
 use Rattle.std.specs.Prelude.{Bool, true, false, IfOk, Result, Ok, Err}
 use Rattle.spa_object_view.specs.Fronts.{BeginsObject, BeginsObjectIn, BeginsObjectOf, BeginsOther, BeginsView, IsNoObject, IsObject, IsObjectBody, IsUnread}
@@ -98,7 +97,7 @@ begins_other input v t b = record { value = v; begins = b; no_object = no_object
 -- a fault that stands refuses the front
 pub refused_front : (input : List ℕ) (r : Rejected) (place : Bor (List ℕ)) (at : ℕ) (why : Refusal) → r ≡ rejected.Fault place at why → IsRejected input r →
     IsRefused input
-refused_front input r place at why e h = fault_refuses input place.now why (at_place input place.now at why (subst (IsRejected input) e h))
+refused_front input r place at why e h = (subst (IsRejected input) e h).refused
 
 pub too_deep : (input : List ℕ) (r : Rejected) → r ≡ rejected.TooDeep → IsRejected input r → IsTooDeep input
 too_deep input r e h = subst (IsRejected input) e h

@@ -12,8 +12,8 @@ use crate::leaves::read_leaf_into;
 use crate::refused::Refused;
 use bitflags::Flags;
 use spa_bytes::{Front, HEADER_LEN, SECOND_WORD, extent_of, u32_at};
+use spa_events::is_container;
 use spa_fixed_sized::Refusal;
-use spa_utils::SpaTypes;
 use spa_value::{Object, Property, PropertyFlags, Takes, Value};
 use std::alloc::{AllocError, Global};
 
@@ -168,7 +168,7 @@ pub(crate) fn read_leaves<'de, G: Grows, const LENIENT: bool>(
                 why: Refusal::Short,
             });
         };
-        if front.type_ == SpaTypes::Struct.0 || front.type_ == SpaTypes::Object.0 {
+        if is_container(front.type_) {
             *left = place;
             return Ok(Some(front));
         }

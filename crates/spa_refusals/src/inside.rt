@@ -12,12 +12,12 @@ ghost use Rattle.spa_refusals.specs.Refusals.{IsNothing, IsUnreadFor, LeadsBy};
 use crate::counting::{behind_front, count};
 use crate::names::push_key;
 use spa_bytes::{HEADER_LEN, open, u32_at};
+use spa_events::inside_of;
 use spa_fixed_sized::DeserializeError;
 use spa_lenient::rewrite_leniently;
 use spa_recordings::reading::Reading;
 use spa_rewrite::accept_all;
 use spa_typed_read::PodDeserializer;
-use spa_utils::SpaTypes;
 use spa_value::Held;
 use std::alloc::{AllocError, Global};
 use std::fmt::Write;
@@ -104,33 +104,13 @@ fn inside<'b>(
     let Some(front) = open(pod) else {
         return Ok(None);
     };
-    if front.type_ == SpaTypes::Struct.0 {
-        return in_members(alloc, front.body, path);
-    }
-    if front.type_ == SpaTypes::Object.0 {
-        return in_object(alloc, front.body, path);
-    }
-    Ok(None)
-}
-
-/// The first refused one of the values of the properties in the body of an object.
-fn in_object<'b>(
-    alloc: Global,
-    body: &'b [u8],
-    path: &mut String,
-) -> Result<Option<Unread<'b>>, AllocError>
-    ensures step { IfOk result (λ found. IfSome found
-        (λ it. HoldsValue body.now (string_bytes path.old) it.pod.now (string_bytes path.new))) }
-    ensures why { IfOk result (λ found. IfSome found (λ it. IsUnreadFor Exact it.pod.now it.error)) }
-    ensures none { IfOk result
-        (λ found. IfNone found ((length body.now < header_size) ⊎ HaveRead (drop header_size body.now))) }
-    ensures kept { IfOk result (λ found. IfNone found (string_bytes path.new ≡ string_bytes path.old)) }
-{
-    if body.len() < HEADER_LEN {
+    let Some(inner) = inside_of(front.type_, front.body) else {
         return Ok(None);
+    };
+    if inner.keyed {
+        return in_properties(alloc, u32_at(front.body, 0), inner.pods, path);
     }
-    let (_, properties) = body.split_at(HEADER_LEN);
-    in_properties(alloc, u32_at(body, 0), properties, path)
+    in_members(alloc, inner.pods, path)
 }
 
 /// The first refused one of the members that these bytes should be.

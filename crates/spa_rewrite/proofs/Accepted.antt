@@ -26,19 +26,19 @@ use Rattle.spa_scan.specs.Depth.{depth_of, levels_looked_into}
 use Rattle.spa_scan.proofs.Frames.{no_stretch, stretch_parts}
 use Rattle.spa_rewrite.specs.Look.{AreAccepted, IsAccepted, IsAcceptedAsked, IsRejected, Passes, StopsAt}
 use Rattle.spa_rewrite.specs.Rewriting.{IsLeft, RefusesFront, RefusesList}
-use Rattle.spa_rewrite.specs.Shorter.{ArePodsWithin, BeginsShorter, IsShorterBody}
+use Rattle.spa_rewrite.specs.Shorter.{ArePodsWithin, IsShorterBody}
 use Rattle.spa_events.specs.Inside.{IsBehindKey, IsInside, key_size}
-use Rattle.spa_rewrite.specs.Offsets.{IsFaultAt, StandsAt, at_pod, from_pod, scope_of}
+use Rattle.spa_rewrite.specs.Offsets.{IsFaultAt, StandsAt, at_pod, from_pod}
 use Rattle.spa_rewrite.specs.declared.look.AcceptedPod.{AcceptedPod}
 use Rattle.spa_rewrite.specs.declared.look.Rejected.{Rejected}
 use Rattle.spa_rewrite.specs.declared.look.Rejected.TheVariants as rejected
 use Rattle.spa_rewrite.proofs.FirstPods.{accepted_behind, left_behind_pods}
 use Rattle.spa_scan.proofs.Depths.{deep_begun}
 use Rattle.spa_rewrite.proofs.Looks.{passes_pod, some_left, stands_opened}
-use Rattle.spa_rewrite.proofs.Offsets.{body_long, offset_opened, offset_within}
+use Rattle.spa_rewrite.proofs.Offsets.{body_long, offset_opened}
 use Rattle.spa_rewrite.proofs.Refusals.{front_refused}
 use Rattle.spa_rewrite.proofs.Rewritten.{member_encodings-push, parted}
-use Rattle.spa_rewrite.proofs.ShorterLemmas.{CountsOn, counts_all, counts_more, counts_none, first_within, shorter_inside, shorter_opened, within_behind}
+use Rattle.spa_rewrite.proofs.ShorterLemmas.{CountsOn, counts_all, counts_more, counts_none, first_within, shorter_opened, within_behind}
 use Rattle.spa_rewrite.proofs.Stretches.{FirstMembers, list_refused, no_first_member}
 use Rattle.spa_rewrite.proofs.LeafBodies.{leaf_depth, never}
 use Rattle.spa_rewrite.proofs.SameLength.{left_shorter}
@@ -91,39 +91,8 @@ pub leaf_unasked : (asked result : Bool) → (result ≡ true → asked ≡ true
 leaf_unasked asked true o e = absurd (never asked (o refl) e)
 leaf_unasked asked false o e = refl
 
--- what is found in a struct or an object is found of it
-pub inside_stops : (type : ℕ) (input body rest inside place : List ℕ) (inner : Bool) (behind at : ℕ) (why : Refusal) → Opens input type body rest →
-    IsInside type body inner inside → StopsAt inner inside place behind → at ≡ header_size + length body - (length place + behind) →
-    Says (λ k. StandsAtFront k place) ⊥ why → IsFaultAt input place at why
-inside_stops type input body rest inside place inner behind at why o i s e f =
-    let room = s.room in
-    let long = body_long type body inside inner i in
-    let same : header_size + (key_size inner + (length inside - (length place + behind))) ≡ at = omega arith in
-    says_through (λ k. StandsAtFront k place) (λ k. Stands k place input × StandsAt k from_pod at input) ⊥ ⊥
-    (λ k x. (
-      stands_opened type input body rest inside inner k place o i (s.stands k x),
-      subst (λ n. StandsAt k from_pod n input) same (offset_opened type input body rest inside inner k (length inside - (length place + behind)) o i (s.offset k x)),
-    )) (λ n. n) why f
-
-pub front_stops : (input : List ℕ) (why : Refusal) → Says (λ k. StandsAtFront k input) ⊥ why → IsFaultAt input input 0 why
-front_stops input why f =
-    says_through (λ k. StandsAtFront k input) (λ k. Stands k input input × StandsAt k from_pod 0 input) ⊥ ⊥ (λ k x. (at_front input refl x, at_pod input x)) (λ n. n) why f
-
--- a fault that stands at a place and an offset
-pub at_place : (input place : List ℕ) (at : ℕ) (why : Refusal) → IsFaultAt input place at why → Says (λ k. Stands k place input) ⊥ why
-at_place input place at why f = says_through (λ k. Stands k place input × StandsAt k from_pod at input) (λ k. Stands k place input) ⊥ ⊥ (λ k x. x.0) (λ n. n) why f
-
-pub at_within : (input place : List ℕ) (at : ℕ) (why : Refusal) → IsFaultAt input place at why → at ≤ length input
-at_within input place at refusal.Short f = offset_within Short from_pod at input f.1
-at_within input place at refusal.Text f = offset_within Text from_pod at input f.1
-at_within input place at refusal.InvalidType f = offset_within InvalidType from_pod at input f.1
-at_within input place at refusal.InvalidChoiceType f = offset_within InvalidChoiceType from_pod at input f.1
-at_within input place at refusal.MissingChoiceValues f = offset_within MissingChoiceValues from_pod at input f.1
-at_within input place at refusal.WrongSize f = offset_within WrongSize from_pod at input f.1
-at_within input place at refusal.OutOfMemory f = absurd f
-
--- what is rejected is a pod of no value, or of one with more levels
-pub fault_refuses : (input place : List ℕ) (why : Refusal) → Says (λ k. Stands k place input) ⊥ why → IsRefused input
+-- what stands at a place is no pod of the grammar
+fault_refuses : (input place : List ℕ) (why : Refusal) → Says (λ k. Stands k place input) ⊥ why → IsRefused input
 fault_refuses input place refusal.Short s = format.refused Short place input s
 fault_refuses input place refusal.Text s = format.refused Text place input s
 fault_refuses input place refusal.InvalidType s = format.refused InvalidType place input s
@@ -132,8 +101,39 @@ fault_refuses input place refusal.MissingChoiceValues s = format.refused Missing
 fault_refuses input place refusal.WrongSize s = format.refused WrongSize place input s
 fault_refuses input place refusal.OutOfMemory s = absurd s
 
+-- what is found in a struct or an object is found of it
+pub inside_stops : (type : ℕ) (input body rest inside place : List ℕ) (inner : Bool) (behind at : ℕ) (why : Refusal) → Opens input type body rest →
+    IsInside type body inner inside → StopsAt inner inside place behind → at ≡ header_size + length body - (length place + behind) →
+    Says (λ k. StandsAtFront k place) ⊥ why → IsFaultAt input place at why
+inside_stops type input body rest inside place inner behind at why o i s e f =
+    let room = s.room in
+    let long = body_long type body inside inner i in
+    let same : header_size + (key_size inner + (length inside - (length place + behind))) ≡ at = omega arith in
+    let fits = o.shorter in
+    let stands = says_through (λ k. StandsAtFront k place) (λ k. Stands k place input) ⊥ ⊥
+    (λ k x. stands_opened type input body rest inside inner k place o i (s.stands k x)) (λ n. n) why f in
+    record {
+      refused = fault_refuses input place why stands;
+      stands = stands;
+      offset = says_through (λ k. StandsAtFront k place) (λ k. StandsAt k from_pod at input) ⊥ ⊥
+          (λ k x. subst (λ n. StandsAt k from_pod n input) same
+          (offset_opened type input body rest inside inner k (length inside - (length place + behind)) o i (s.offset k x))) (λ n. n) why f;
+      within = omega arith;
+    }
+
+pub front_stops : (input : List ℕ) (why : Refusal) → Says (λ k. StandsAtFront k input) ⊥ why → IsFaultAt input input 0 why
+front_stops input why f =
+    let stands = says_through (λ k. StandsAtFront k input) (λ k. Stands k input input) ⊥ ⊥ (λ k x. at_front input refl x) (λ n. n) why f in
+    record {
+      refused = fault_refuses input input why stands;
+      stands = stands;
+      offset = says_through (λ k. StandsAtFront k input) (λ k. StandsAt k from_pod 0 input) ⊥ ⊥ (λ k x. at_pod input x) (λ n. n) why f;
+      within = omega arith;
+    }
+
+-- what is rejected is a pod of no value, or of one with more levels
 pub rejected_value : (input : List ℕ) (r : Rejected) → IsRejected input r → (v : Tree) → Begins input v → levels_looked_into < depth_of v
-rejected_value input (rejected.Fault place at why) s v b = absurd (fault_refuses input place.now why (at_place input place.now at why s) v b)
+rejected_value input (rejected.Fault place at why) s v b = absurd (s.refused v b)
 rejected_value input rejected.TooDeep s v b = deep_begun levels_looked_into input v s.nests b
 
 -- so it isn't the first of pods of so many levels

@@ -1,5 +1,5 @@
 -- A look for canonical pods: what is passed, what is opened, and what waits.
-use Rattle.std.proofs.Common.{◌≡◌, ◌≢◌, ℕ, suc, ◌+◌, ◌<◌, ◌%◌, List, [], ◌∷◌, length, refl, sym, subst, arith}
+use Rattle.std.proofs.Common.{◌≡◌, ◌≢◌, ℕ, suc, ◌+◌, ◌<◌, List, [], ◌∷◌, length, refl, sym, subst, arith}
 use Rattle.std.specs.Prelude.{Bool, false, true}
 use Rattle.std.proofs.lemmas.List.{nil_from_length}
 use Rattle.spa_format.specs.Front.{HasFront, rest_of}

@@ -9,9 +9,8 @@ use Rattle.spa_format.specs.Kind.{Fixed, IsFixedBody, Kind, body_size, content, 
 use Rattle.spa_format.specs.Tree.{Shape, none_choice, range_choice, step_choice, enum_choice, flags_choice, shape_number, Tree, choice, fixed, pointer, no_properties, array_type, choice_type, object_type, pointer_type, struct_type, type_of}
 use Rattle.spa_format.specs.Normal.{kept_flags}
 use Rattle.spa_format.specs.Pod.{AreElements, IsArray, IsBody, least_count, values_taken}
-use Rattle.spa_format.specs.Front.{HasFront, IsRefused, rest_of}
+use Rattle.spa_format.specs.Front.{HasFront, IsRefused}
 use Rattle.spa_format.specs.Faults.{Fault, Short, Text, InvalidType, InvalidChoiceType, MissingChoiceValues, WrongSize, IsInvalidType, of_elements, IsWrongArray, IsWrongSize, of_fixed, of_choice, of_pointer, LacksValues, StandsAtFront, at_front, choice_header_size}
-use Rattle.spa_format.specs.Typed.{IsBytes}
 use Rattle.spa_format.specs.Opened.{OpensHeaderAlone, no_front, no_parts, short_object}
 use Rattle.spa_format.proofs.FixedKinds.{kind_of_content, size_fits}
 use Rattle.spa_format.proofs.Refused.{begun}
@@ -23,13 +22,13 @@ use Rattle.spa_bodies.specs.Refusing.{Says, StandsInBody}
 use Rattle.spa_bodies.proofs.Refusals.{at_front_of, says_through}
 use Rattle.spa_bodies.proofs.Steps.{pod_read}
 use Rattle.spa_scan.specs.Depth.{depth_of}
-use Rattle.spa_rewrite.specs.Look.{AreCanonicalInside, StopsAt}
+use Rattle.spa_rewrite.specs.Look.{StopsAt}
 use Rattle.spa_events.specs.Inside.{IsBehindKey, key_size}
 use Rattle.spa_rewrite.specs.Offsets.{StandsAt, at_key, at_pod, from_properties, scope_of}
 use Rattle.spa_rewrite.proofs.Bodies.{fewer, listed}
-use Rattle.spa_rewrite.proofs.Looks.{Awaits, first_own, stands_first}
+use Rattle.spa_rewrite.proofs.Looks.{Awaits, stands_first}
 use Rattle.spa_rewrite.proofs.Offsets.{key_long, offset_first}
-use Rattle.spa_rewrite.proofs.LeafBodies.{leaf_depth, some_key}
+use Rattle.spa_rewrite.proofs.LeafBodies.{leaf_depth}
 use Rattle.spa_rewrite.proofs.SameLength.{array_same_length}
 
 -- no pod begins there, and not for what is inside it

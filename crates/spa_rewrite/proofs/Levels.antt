@@ -1,5 +1,5 @@
 -- How deep structs and objects stand in one another, where those that nothing follows don't count.
-use Rattle.std.proofs.Common.{◌≡◌, ℕ, suc, ◌+◌, ◌≤◌, inl, inr, List, drop, refl, sym, subst, arith}
+use Rattle.std.proofs.Common.{ℕ, suc, inl, inr, List, refl, subst, arith}
 use Rattle.std.specs.Prelude.{Bool}
 use Rattle.spa_format.specs.Front.{HasFront, rest_of}
 use Rattle.spa_events.specs.Inside.{IsBehindKey, IsInside, key_size}

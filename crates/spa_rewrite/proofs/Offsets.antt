@@ -4,13 +4,11 @@ use Rattle.std.specs.Prelude.{Bool, true, false}
 use Rattle.spa_format.specs.Words.{body_of, extent, header_size, word_at}
 use Rattle.spa_format.specs.Tree.{Tree, object_type}
 use Rattle.spa_format.specs.Faults.{Fault}
-use Rattle.spa_format.specs.Front.{Begins, HasFront, rest_of}
-use Rattle.spa_format.proofs.Fronts.{length-body_of}
-use Rattle.spa_format.proofs.Short.{padded_above}
+use Rattle.spa_format.specs.Front.{Begins, rest_of}
 use Rattle.spa_bytes.specs.Opening.{Opens}
 use Rattle.spa_bodies.specs.Reading.{BeginsWith}
 use Rattle.spa_events.specs.Inside.{IsBehindKey, IsInside, key_size}
-use Rattle.spa_rewrite.specs.Offsets.{Scope, StandsAt, at_key, at_pod, first_member, first_value, from_members, from_pod, from_properties, in_object, in_struct, next_member, next_property, scope_of}
+use Rattle.spa_rewrite.specs.Offsets.{StandsAt, first_member, first_value, from_members, from_pod, from_properties, in_object, in_struct, next_member, next_property, scope_of}
 
 pub key_long : (keyed : Bool) (left here : List ℕ) → IsBehindKey keyed left here → length left ≡ key_size keyed + length here
 key_long true left here k = let l = ap length k.1 ∙ length-drop 8 left in let r = k.0 in omega arith
@@ -64,39 +62,3 @@ offset_opened type here body rest inside true k n o i s =
 offset_opened type here body rest inside false k n o i s =
     let same : header_size + n ≡ header_size + (key_size false + n) = omega arith in
     subst (λ m. StandsAt k from_pod m here) same (in_struct n here o.there (sym o.its_type ∙ i.0) (subst (StandsAt k from_members n) (i.1 ∙ o.its_body) s))
-
--- it is no further than the end
-body_room : (b : List ℕ) → HasFront b → header_size + length (body_of b) ≤ length b
-body_room b h =
-    let n = word_at b 0 in
-    let p = padded_above n in
-    let l = length-body_of b h in
-    let w = h.whole in
-    omega arith
-
-pub offset_within : (k : Fault) (s : Scope) (n : ℕ) (b : List ℕ) → StandsAt k s n b → n ≤ length b
-offset_within k _ _ _ (at_pod b x) = omega arith
-offset_within k _ _ _ (in_struct n b h t f) = let i = offset_within k from_members n (body_of b) f in let r = body_room b h in omega arith
-offset_within k _ _ _ (in_object n b h t l f) =
-    let i = offset_within k from_properties n (drop header_size (body_of b)) f in
-    let r = body_room b h in
-    let d = length-drop header_size (body_of b) in
-    omega arith
-offset_within k _ _ _ (first_member n b some f) = offset_within k from_pod n b f
-offset_within k _ _ _ (next_member n b v x f) =
-    let i = offset_within k from_members n (rest_of b) f in
-    let d = length-drop (extent (word_at b 0)) b in
-    let w = x.there.whole in
-    omega arith
-offset_within k _ _ _ (at_key b some l e) = omega arith
-offset_within k _ _ _ (first_value n b l f) =
-    let i = offset_within k from_pod n (drop header_size b) f in
-    let d = length-drop header_size b in
-    omega arith
-offset_within k _ _ _ (next_property n b v l x f) =
-    let here = drop header_size b in
-    let i = offset_within k from_properties n (rest_of here) f in
-    let d = length-drop header_size b in
-    let r = length-drop (extent (word_at here 0)) here in
-    let w = x.there.whole in
-    omega arith

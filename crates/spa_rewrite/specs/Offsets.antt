@@ -1,7 +1,7 @@
 -- At which offset a fault stands: docs/FORMAT.md, "Faults".
 use Rattle.std.specs.Prelude.{◌≡◌, ◌≢◌, ◌+◌, ◌<◌, ◌≤◌, ℕ, List, [], length, drop, Bool, true, false}
 use Rattle.spa_format.specs.Faults.{Fault, Short, Stands, StandsAtFront}
-use Rattle.spa_format.specs.Front.{Begins, HasFront, rest_of}
+use Rattle.spa_format.specs.Front.{Begins, HasFront, IsRefused, rest_of}
 use Rattle.spa_format.specs.Tree.{Tree, object_type, struct_type}
 use Rattle.spa_format.specs.Words.{body_of, extent, header_size, word_at}
 use Rattle.spa_fixed_sized.specs.declared.fault.Refusal.{Refusal}
@@ -35,6 +35,9 @@ abbrev pub scope_of : Bool → Scope
 scope_of true = from_properties
 scope_of false = from_members
 
--- the refusal names a fault that stands at this place in the pod at the front, and at this offset
-abbrev pub IsFaultAt : (input place : List ℕ) (at : ℕ) → Refusal → Type 0
-IsFaultAt input place at = Says (λ k. Stands k place input × StandsAt k from_pod at input) ⊥
+-- The refusal names a fault of the pod at the front, which is refused for it: the fault stands at this place in it, and at this offset.
+pub record IsFaultAt (input place : List ℕ) (at : ℕ) (why : Refusal) : Type 0 where
+  pub refused : IsRefused input
+  pub stands : Says (λ k. Stands k place input) ⊥ why
+  pub offset : Says (λ k. StandsAt k from_pod at input) ⊥ why
+  pub within : at ≤ length input

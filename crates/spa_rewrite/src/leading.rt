@@ -8,9 +8,8 @@ ghost use Rattle.spa_scan.specs.Depth.{AreShallow, depth_of, levels_looked_into}
 
 use crate::look::{FEW, MANY};
 use spa_bytes::{HEADER_LEN, SECOND_WORD, open, u32_at};
-use spa_events::{Inside, behind_key, inside_of};
+use spa_events::{Inside, behind_key, inside_of, is_container};
 use spa_scan::{fixed_front, leaf_body_front, leaf_front};
-use spa_utils::SpaTypes;
 
 /// What a look for canonical pods finds in a struct or an object.
 #[derive(Clone, Copy)]
@@ -235,7 +234,7 @@ pub(crate) fn is_inside_first(keyed: bool, pods: &[u8]) -> bool {
     } else {
         u32_at(pods, SECOND_WORD)
     };
-    type_ == SpaTypes::Struct.0 || type_ == SpaTypes::Object.0
+    is_container(type_)
 }
 
 /// What follows the first canonical pods that hold no others, with key and flags before each where `keyed` is set.

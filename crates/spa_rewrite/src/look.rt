@@ -433,25 +433,20 @@ fn look_inside<'a>(are_keyed: bool, pods: &'a [u8], frames: &mut [Waiting<'a>]) 
                 left = rest;
             }
             Met::Inner(inner, rest, more) => {
-                let inner_behind = behind + more;
-                if rest.is_empty() {
-                    keyed = inner.keyed;
-                    left = inner.pods;
-                    behind = inner_behind;
-                    continue;
+                if !rest.is_empty() {
+                    if waiting >= frames.len() {
+                        return Found::TooDeep;
+                    }
+                    frames[waiting] = Waiting {
+                        keyed,
+                        pods: rest,
+                        behind,
+                    };
+                    waiting += 1;
                 }
-                if waiting >= frames.len() {
-                    return Found::TooDeep;
-                }
-                frames[waiting] = Waiting {
-                    keyed,
-                    pods: rest,
-                    behind,
-                };
-                waiting += 1;
                 keyed = inner.keyed;
                 left = inner.pods;
-                behind = inner_behind;
+                behind += more;
             }
             Met::Fault(place) => return Found::Stops(place, behind),
         }

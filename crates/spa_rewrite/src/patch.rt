@@ -14,6 +14,7 @@ use spa_bytes::{
     HEADER_LEN, POINTER_LEN, SECOND_WORD, SHORT_POINTER_LEN, joined, open, two_words, u32_at,
     u64_at, wide_body,
 };
+use spa_events::keyed_inside;
 use spa_fixed_sized::{CanonicalFixedSizedPod, NONE_SHAPE, RANGE_SHAPE, STEP_SHAPE};
 use spa_utils::SpaTypes;
 
@@ -216,7 +217,7 @@ pub(crate) fn place_behind(bytes: &[u8], at: usize, header: usize, keyed: bool) 
     }
 }
 
-/// Whether properties stand in it, of a struct or an object that nothing follows.
+/// Whether the pods of a container in tail position are keyed: false for a struct, true for an object. None where bytes follow it, or for other pods.
 #[inline(always)]
 fn last_inner(left: usize, type_: u32, size: usize) -> Option<bool>
     ensures { IfSome result (λ keyed. (left ≡ 0) × HoldsPods type_ size keyed) }
@@ -224,13 +225,7 @@ fn last_inner(left: usize, type_: u32, size: usize) -> Option<bool>
     if left > 0 {
         return None;
     }
-    if type_ == SpaTypes::Struct.0 {
-        return Some(false);
-    }
-    if type_ == SpaTypes::Object.0 && size >= HEADER_LEN {
-        return Some(true);
-    }
-    None
+    keyed_inside(type_, size)
 }
 
 /// Replaces one pod by its encoding, if that is as long.

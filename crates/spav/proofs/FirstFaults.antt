@@ -9,7 +9,6 @@ use Rattle.spa_format.specs.Pod.{AreMembers}
 use Rattle.spa_bodies.specs.Refusing.{Says}
 use Rattle.spa_rewrite.specs.Offsets.{IsFaultAt, StandsAt, from_pod}
 use Rattle.spa_rewrite.specs.Rewriting.{IsLeft}
-use Rattle.spa_rewrite.proofs.Accepted.{at_place, fault_refuses}
 use Rattle.spav.specs.Faults.{FaultStands, fault_number}
 
 -- a fault that stands at an offset, and its number
@@ -20,13 +19,13 @@ record NumberedFault (left : List ℕ) (at number : ℕ) : Type 0 where
 
 numbered : (left place : List ℕ) (at number : ℕ) (why : Refusal) → IsFaultAt left place at why → Says (λ k. number ≡ fault_number k) ⊥ why →
     NumberedFault left at number
-numbered left place at number refusal.Short f n = record { fault = Short; its_number = n; stands = f.1 }
-numbered left place at number refusal.Text f n = record { fault = Text; its_number = n; stands = f.1 }
-numbered left place at number refusal.InvalidType f n = record { fault = InvalidType; its_number = n; stands = f.1 }
-numbered left place at number refusal.InvalidChoiceType f n = record { fault = InvalidChoiceType; its_number = n; stands = f.1 }
-numbered left place at number refusal.MissingChoiceValues f n = record { fault = MissingChoiceValues; its_number = n; stands = f.1 }
-numbered left place at number refusal.WrongSize f n = record { fault = WrongSize; its_number = n; stands = f.1 }
-numbered left place at number refusal.OutOfMemory f n = absurd f
+numbered left place at number refusal.Short f n = record { fault = Short; its_number = n; stands = f.offset }
+numbered left place at number refusal.Text f n = record { fault = Text; its_number = n; stands = f.offset }
+numbered left place at number refusal.InvalidType f n = record { fault = InvalidType; its_number = n; stands = f.offset }
+numbered left place at number refusal.InvalidChoiceType f n = record { fault = InvalidChoiceType; its_number = n; stands = f.offset }
+numbered left place at number refusal.MissingChoiceValues f n = record { fault = MissingChoiceValues; its_number = n; stands = f.offset }
+numbered left place at number refusal.WrongSize f n = record { fault = WrongSize; its_number = n; stands = f.offset }
+numbered left place at number refusal.OutOfMemory f n = absurd f.offset
 
 pub fault_stands : (input left place : List ℕ) (top at number : ℕ) (why : Refusal) → IsLeft input left → top ≡ length input - length left →
     IsFaultAt left place at why → Says (λ k. number ≡ fault_number k) ⊥ why → FaultStands input number top (top + at)
@@ -42,7 +41,7 @@ fault_stands input left place top at number why l t f n =
       first = l.0;
       before = subst (AreMembers l.0) (sym front) l.3;
       inside = omega arith;
-      refused = subst IsRefused (sym back) (fault_refuses left place why (at_place left place at why f));
+      refused = subst IsRefused (sym back) f.refused;
       fault = x.fault;
       its_kind = x.its_number;
       behind = at;

@@ -7,7 +7,7 @@ use Rattle.spa_rewrite.specs.Rewriting.{AreRewritten, RefusesFront}
 use Rattle.spa_rewrite.specs.Look.{AreChanged}
 use Rattle.spa_rewrite.specs.Shorter.{ArePodsWithin}
 use Rattle.spa_bodies.specs.Refusing.{error_of}
-use Rattle.spa_rewrite.proofs.Accepted.{at_place, at_within, fault_front}
+use Rattle.spa_rewrite.proofs.Accepted.{fault_front}
 use Rattle.spa_rewrite.proofs.Changed.{changed_shorter}
 use Rattle.spa_rewrite.proofs.ShorterLemmas.{within_behind}
 use Rattle.spa_rewrite.proofs.Stretches.{list_refused}
@@ -47,7 +47,7 @@ overflow_add-top c =
     let others = c.canonical_stretch.result.1.now in
     let first = c.canonical_stretch.result.0.now in
     let h = subst (AreUnwritten others pod) c.in-Fault.is c.in-Err.ensures.rejected in
-    let within = at_within pod _ c.in-Fault.at c.in-Fault.why h.1 in
+    let within = h.1.within in
     let left = ap length h.0.2 ∙ length-append h.0.1 pod in
     let all = ap length c.canonical_stretch.ensures.parts ∙ length-append first others in
     omega arith
@@ -61,7 +61,7 @@ returns-in-Fault-clause-refused c =
     let parts = c.canonical_stretch.ensures.parts in
     let first = c.canonical_stretch.ensures.canonical in
     let placed = error_of c.in-Fault.place c.in-Fault.why in
-    let front = fault_front pod c.in-Fault.place c.in-Fault.why (at_place _ _ _ c.in-Fault.why h.1) in
+    let front = fault_front pod c.in-Fault.place c.in-Fault.why h.1.stands in
     let top = length bytes - length pod in
     let offset = offset_known bytes pod top c.in-Fault.at c.in-Fault.place c.in-Fault.why (left_behind _ _ _ _ top parts first h.0 refl) h.1 in
     let is = c.with_offset.ensures ∙ ap (moved (Some (top + c.in-Fault.at))) c.error_at.ensures in

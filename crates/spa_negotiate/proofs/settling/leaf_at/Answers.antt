@@ -1,4 +1,4 @@
-use Rattle.std.proofs.Common.{◌≡◌, ◌∙◌, subst, sym}
+use Rattle.std.proofs.Common.{◌≡◌, ◌∙◌, inl, inr, subst, sym}
 use Rattle.spa_format.specs.Pod.{IsPod}
 use Rattle.spa_format.specs.Tree.{Tree}
 use Rattle.spa_value.specs.View.{view}
@@ -10,11 +10,12 @@ use Rattle.spa_negotiate.proofs.settling.leaf_at.Goals as goal
 pub returns-in_default-clause-members : goal.returns-in_default-clause-members
 returns-in_default-clause-members c = λ v p. absurd (c.in_default.ensures.short (pod_there _ v p))
 
-pub returns-then-front-clause-members : goal.returns-then-front-clause-members
-returns-then-front-clause-members c = struct_read _ _ _ _ c.in-Some.ensures.there c.if-front.true
-
-pub returns-then-front-2-clause-members : goal.returns-then-front-2-clause-members
-returns-then-front-2-clause-members c = object_read _ _ _ _ c.in-Some.ensures.there c.if-front-2.true
+pub returns-then-is_container-clause-members : goal.returns-then-is_container-clause-members
+returns-then-is_container-clause-members c =
+    elim (c.is_container.ensures.exactly.0 c.if-is_container.true) [
+      | inl t ↦ struct_read _ _ _ _ c.in-Some.ensures.there t
+      | inr t ↦ object_read _ _ _ _ c.in-Some.ensures.there t
+    ]
 
 pub returns-in-Ok-clause-value : goal.returns-in-Ok-clause-value
 returns-in-Ok-clause-value c =
@@ -24,5 +25,6 @@ returns-in-Ok-clause-value c =
 pub returns-in-Ok-clause-leaf : goal.returns-in-Ok-clause-leaf
 returns-in-Ok-clause-leaf c =
     let its_type = c.in-Ok.ensures.its_type in
+    let other = c.is_container.ensures.other c.if-is_container.false in
     subst (λ value. IsLeaf (view value)) (sym c.from.ensures)
-    (no_members (view c.in-Ok.value) (λ e. c.if-front.false (sym its_type ∙ e)) (λ e. c.if-front-2.false (sym its_type ∙ e)))
+    (no_members (view c.in-Ok.value) (λ e. other.0 (sym its_type ∙ e)) (λ e. other.1 (sym its_type ∙ e)))

@@ -18,7 +18,7 @@ pub returns-in-Err-clause-refused : goal.returns-in-Err-clause-refused
 returns-in-Err-clause-refused g c =
     leaf_behind (is_lenient g.row.LENIENT) _ _ (g.G.Grows.inside c.reach.new.self) _ _ _ _ _ _ _ _ _ _ c.loop-alloc.invariant c.reach.ensures.same
     c.in-Some.ensures.reached c.in-Some-open_in.ensures.there
-    (c.if-front.false, c.if-front-2.false) c.in-Err.ensures.refused
+    (c.is_container.ensures.other c.if-is_container.false) c.in-Err.ensures.refused
     c.in-Some-open_in.ensures.counted
 
 pub loop-alloc-preserved : goal.loop-alloc-preserved
@@ -27,5 +27,5 @@ loop-alloc-preserved g c =
     let taken = c.in_default-read_leaf_into.ensures.taken in
     one_read (is_lenient g.row.LENIENT) _ _ (inside c.reach.new.self) (inside c.reserve.new.self) _ _ _ _ _ _ _ _ _ _ taken.value
     c.loop-alloc.invariant c.reach.ensures.same c.in-Some.ensures.reached c.in-Some-open_in.ensures.there
-    (c.if-front.false, c.if-front-2.false) taken.its_type taken.read c.reserve.ensures.same
+    (c.is_container.ensures.other c.if-is_container.false) taken.its_type taken.read c.reserve.ensures.same
     (g.met.G.Grows.grown _ _ taken.value taken.taken) c.in-Some-open_in.ensures.counted

@@ -7,10 +7,11 @@ returns-in_default-clause-refused g c = short_front (is_lenient g.row.LENIENT) _
 
 pub returns-in-Ok-clause-read : goal.returns-in-Ok-clause-read
 returns-in-Ok-clause-read g c =
-    leaf_read (is_lenient g.row.LENIENT) _ _ _ _ _ _ _ c.in-Some.ensures.there (c.if-front.false, c.if-front-2.false)
+    leaf_read (is_lenient g.row.LENIENT) _ _ _ _ _ _ _ c.in-Some.ensures.there (c.is_container.ensures.other c.if-is_container.false)
     c.in-Ok.ensures.its_type c.in-Ok.ensures.read c.requires c.in-Some.ensures.counted
 
 pub returns-in-Err-clause-refused : goal.returns-in-Err-clause-refused
 returns-in-Err-clause-refused g c =
+    let other = c.is_container.ensures.other c.if-is_container.false in
     one_front (is_lenient g.row.LENIENT) _ _ _ _ _ c.requires c.in-Some.ensures.counted
-    (leaf_at (is_lenient g.row.LENIENT) _ _ _ _ _ c.in-Some.ensures.there c.if-front.false c.if-front-2.false c.in-Err.ensures.refused)
+    (leaf_at (is_lenient g.row.LENIENT) _ _ _ _ _ c.in-Some.ensures.there other.0 other.1 c.in-Err.ensures.refused)

@@ -7,7 +7,6 @@ use Rattle.spa_scan.specs.Canonical.{BeginsCanonical}
 use Rattle.spa_rewrite.specs.Look.{IsRejected}
 use Rattle.spa_rewrite.specs.declared.look.Rejected.{Rejected}
 use Rattle.spa_rewrite.specs.declared.look.Rejected.TheVariants as rejected
-use Rattle.spa_rewrite.proofs.Accepted.{at_place, fault_refuses}
 use Rattle.spa_rewrite.proofs.canonical.is_canonical.Goals as goal
 
 pub returns-in-Ok-clause-exactly : goal.returns-in-Ok-clause-exactly
@@ -19,8 +18,8 @@ returns-in-Ok-clause-exactly c =
 differs : (input : List ℕ) (place : Bor (List ℕ)) (at : ℕ) (why : Refusal) (r : Rejected) → r ≡ rejected.Fault place at why → IsRejected input r →
     Decides false (BeginsCanonical input (rest_of input))
 differs input place at why r e s =
-    let f = fault_refuses input place.now why (at_place input place.now at why (subst (IsRejected input) e s)) in
-    (λ t. absurd (let z : false ≡ true = t in cc), λ c. absurd (f c.value c.begins.begins))
+    let f = subst (IsRejected input) e s in
+    (λ t. absurd (let z : false ≡ true = t in cc), λ c. absurd (f.refused c.value c.begins.begins))
 
 pub returns-in-Fault-clause-exactly : goal.returns-in-Fault-clause-exactly
 returns-in-Fault-clause-exactly c = differs _ _ _ _ _ c.in-Fault.is c.in-Err.ensures.rejected

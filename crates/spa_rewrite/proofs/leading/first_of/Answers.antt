@@ -1,7 +1,6 @@
-use Rattle.std.proofs.Common.{◌<◌, arith, length}
+use Rattle.std.proofs.Common.{arith}
 use Rattle.spa_format.specs.Typed.{IsBytes}
 use Rattle.spa_rewrite.proofs.CanonicalLooks.{leaf_no_more, leaf_passed, none_first, short_first}
-use Rattle.spa_rewrite.proofs.Looks.{opens_inside}
 use Rattle.spa_rewrite.proofs.leading.first_of.Goals as goal
 
 pub returns-in_default : goal.returns-in_default

@@ -1,8 +1,6 @@
 use Rattle.std.proofs.Common.{arith, refl}
 use Rattle.std.specs.Prelude.{false}
-use Rattle.spa_format.specs.Faults.{at_front}
 use Rattle.spa_format.specs.Typed.{IsBytes}
-use Rattle.spa_rewrite.specs.Offsets.{at_pod}
 use Rattle.spa_rewrite.proofs.Accepted.{front_stops, inside_stops, leaf_differs, leaf_exactly, leaf_unasked}
 use Rattle.spa_rewrite.proofs.Faulted.{leaf_there}
 use Rattle.spa_rewrite.proofs.Levels.{too_deep}
@@ -13,9 +11,7 @@ use Rattle.spa_rewrite.proofs.look.look_at_front.Goals as goal
 use Rattle.spa_rewrite.proofs.look.look_at_front.Goals.{then-canonical+in-Differs, else-canonical}
 
 pub returns-in_default-clause-rejected : goal.returns-in_default-clause-rejected
-returns-in_default-clause-rejected c =
-    let short = c.in_default.ensures.short in
-    (at_front _ refl short, at_pod _ short)
+returns-in_default-clause-rejected c = front_stops _ _ c.in_default.ensures.short
 
 pub fault-requires-clause-refused : goal.fault-requires-clause-refused
 fault-requires-clause-refused c =

@@ -1,7 +1,7 @@
 use Rattle.std.proofs.Common.{subst, sym}
 use Rattle.spa_rewrite.specs.Look.{IsRejected}
 use Rattle.spa_rewrite.specs.Rewriting.{RefusesFront}
-use Rattle.spa_rewrite.proofs.Accepted.{accepted_all, at_place, behind_left, fault_front, missed_behind, refused_behind, shorter_left}
+use Rattle.spa_rewrite.proofs.Accepted.{accepted_all, behind_left, fault_front, missed_behind, refused_behind, shorter_left}
 use Rattle.spa_rewrite.proofs.Stretches.{no_first_member}
 use Rattle.spa_rewrite.proofs.rewriting.accept_all.Goals as goal
 
@@ -18,7 +18,7 @@ returns-in-Fault-clause-refused c =
     let pod = c.in-Err.pod.now in
     let says = subst (IsRejected pod) c.in-Fault.is c.in-Err.ensures.rejected in
     refused_behind _ _ _ _ c.loop-pod.invariant c.in-Err.ensures.left
-    (subst (RefusesFront pod) (sym c.error_at.ensures) (fault_front pod c.in-Fault.place c.in-Fault.why (at_place _ _ _ c.in-Fault.why says)))
+    (subst (RefusesFront pod) (sym c.error_at.ensures) (fault_front pod c.in-Fault.place c.in-Fault.why says.stands))
 
 pub returns-in-Fault-clause-missed : goal.returns-in-Fault-clause-missed
 returns-in-Fault-clause-missed c = missed_behind _ _ c.loop-pod.invariant c.in-Err.ensures.missed

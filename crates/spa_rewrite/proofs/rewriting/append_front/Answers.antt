@@ -3,7 +3,6 @@ use Rattle.std.specs.Prelude.{true}
 use Rattle.spa_scan.specs.Canonical.{AreCanonical}
 use Rattle.spa_rewrite.specs.Memory.{IsUnwritten}
 use Rattle.spa_rewrite.specs.Shorter.{AreShorter}
-use Rattle.spa_rewrite.proofs.Accepted.{at_place}
 use Rattle.spa_rewrite.proofs.Appending.{accepted_canonical, before_rest, front_canonical, front_shorter, front_written}
 use Rattle.spa_rewrite.proofs.Lacking.{is_fault}
 use Rattle.spa_rewrite.proofs.rewriting.append_front.Goals as goal
@@ -25,4 +24,5 @@ returns-in-Some-clause-appended c =
 
 pub returns-in-Fault-clause-refused : goal.returns-in-Fault-clause-refused
 returns-in-Fault-clause-refused c =
-    is_fault _ _ _ (at_place _ _ _ c.in-Fault.why (subst (IsUnwritten c.args.input.now) c.in-Fault.is c.in-Err.ensures.rejected))
+    let says = subst (IsUnwritten c.args.input.now) c.in-Fault.is c.in-Err.ensures.rejected in
+    is_fault _ _ _ says.stands

@@ -1,13 +1,12 @@
 use Rattle.std.proofs.Common.{◌≤◌, length, refl, subst, arith, length-append, ap}
 use Rattle.spa_rewrite.specs.Look.{IsRejected}
-use Rattle.spa_rewrite.proofs.Accepted.{at_within}
 use Rattle.spav.proofs.FirstFaults.{fault_stands}
 use Rattle.spav.proofs.faults.spav_fault.Goals as goal
 
 pub overflow_add-at : goal.overflow_add-at
 overflow_add-at c =
     let x = c.in-Err-default-Fault in
-    let inside = at_within x.left.now _ x.behind x.why (subst (IsRejected x.left.now) x.field-0-1-is x.ensures.rejected) in
+    let inside = (subst (IsRejected x.left.now) x.field-0-1-is x.ensures.rejected).within in
     let l = x.ensures.left in
     let a = ap length l.2 in
     let s = length-append l.1 x.left.now in

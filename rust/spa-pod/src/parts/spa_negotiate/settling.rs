@@ -6,6 +6,7 @@ use crate::parts::spa_negotiate::negotiation::common;
 use crate::parts::spa_negotiate::offer_view::{first_common, offer_view};
 use crate::parts::spa_negotiate::support::is_supported;
 use crate::parts::spa_bytes::{joined, open, two_words, u32_at, u64_at, wide_body, word_body};
+use crate::parts::spa_events::is_container;
 use crate::parts::spa_format::laws::pods_have_one_value;
 use crate::parts::spa_object_view::{are_same, is_plain, put_key, put_pod};
 use crate::parts::spa_read::read_leaf;
@@ -95,10 +96,7 @@ fn leaf_at(pod: &[u8]) -> Result<Option<Held>, NegotiateError> {
     let Some(front) = open(pod) else {
         return Ok(None);
     };
-    if front.type_ == SpaTypes::Struct.0 {
-        return Ok(None);
-    }
-    if front.type_ == SpaTypes::Object.0 {
+    if is_container(front.type_) {
         return Ok(None);
     }
     match read_leaf(front.type_, front.body) {

@@ -6,8 +6,8 @@ use crate::parts::spa_read::leaves::read_leaf_into;
 use crate::parts::spa_read::refused::Refused;
 use crate::shims::flags::Flags;
 use crate::parts::spa_bytes::{Front, HEADER_LEN, SECOND_WORD, extent_of, u32_at};
+use crate::parts::spa_events::is_container;
 use crate::parts::spa_fixed_sized::Refusal;
-use crate::parts::spa_utils::SpaTypes;
 use crate::parts::spa_value::{Object, Property, PropertyFlags, Takes, Value};
 use crate::shims::memory::AllocError;
 
@@ -124,7 +124,7 @@ pub(crate) fn read_leaves<'de, G: Grows, const LENIENT: bool>(
                 why: Refusal::Short,
             });
         };
-        if front.type_ == SpaTypes::Struct.0 || front.type_ == SpaTypes::Object.0 {
+        if is_container(front.type_) {
             *left = place;
             return Ok(Some(front));
         }

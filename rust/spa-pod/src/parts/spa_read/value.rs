@@ -6,8 +6,8 @@ use crate::parts::spa_read::leaves::read_leaf;
 use crate::parts::spa_read::nest::{Nest, begin_reading};
 use crate::parts::spa_read::refused::Refused;
 use crate::parts::spa_bytes::Front;
+use crate::parts::spa_events::is_container;
 use crate::parts::spa_fixed_sized::Refusal;
-use crate::parts::spa_utils::SpaTypes;
 use crate::parts::spa_value::Value;
 
 /// Reads the pod at the front of the input: answers the bytes that follow it, and its value. `opened`, which begins at 0, becomes the number of
@@ -43,7 +43,7 @@ fn read_either<'de, const LENIENT: bool>(
             why: Refusal::Short,
         });
     };
-    if front.type_ == SpaTypes::Struct.0 || front.type_ == SpaTypes::Object.0 {
+    if is_container(front.type_) {
         return read_nested::<LENIENT>(input, front, opened);
     }
     match read_leaf(front.type_, front.body) {

@@ -4,9 +4,8 @@
 use crate::shims::prelude::*;
 use crate::parts::spa_rewrite::look::{FEW, MANY};
 use crate::parts::spa_bytes::{HEADER_LEN, SECOND_WORD, open, u32_at};
-use crate::parts::spa_events::{Inside, behind_key, inside_of};
+use crate::parts::spa_events::{Inside, behind_key, inside_of, is_container};
 use crate::parts::spa_scan::{fixed_front, leaf_body_front, leaf_front};
-use crate::parts::spa_utils::SpaTypes;
 
 /// What a look for canonical pods finds in a struct or an object.
 #[derive(Clone, Copy)]
@@ -201,7 +200,7 @@ pub(crate) fn is_inside_first(keyed: bool, pods: &[u8]) -> bool {
     } else {
         u32_at(pods, SECOND_WORD)
     };
-    type_ == SpaTypes::Struct.0 || type_ == SpaTypes::Object.0
+    is_container(type_)
 }
 
 /// What follows the first canonical pods that hold no others, with key and flags before each where `keyed` is set.

@@ -7,7 +7,7 @@ use crate::parts::spa_rewrite::source::Source;
 use crate::parts::spa_bytes::{
     HEADER_LEN, extent_of, joined, open, two_words, u32_at, u64_at, wide_body, word_body,
 };
-use crate::parts::spa_events::behind_key;
+use crate::parts::spa_events::{behind_key, keyed_inside};
 use crate::parts::spa_scan::{leaf_members, leaf_properties};
 use crate::parts::spa_utils::SpaTypes;
 
@@ -62,8 +62,8 @@ pub fn write_all<S: Source>(surplus: usize, source: S, out: &mut [u8]) -> usize 
     }
 }
 
-/// How many bytes the pods from a place on take that are a run, with key and flags before each where `keyed` is set, if there is one. None is looked for
-/// where `looks` isn't set, or before the place to look at. That goes on: behind a run to the pod behind the one that ended it.
+/// The length in bytes of the run of canonical pods that begins at `from`, each behind its key and flags where `keyed` is set; none where there is no run,
+/// where `looks` isn't set, or where `from` is before `look_at`. Behind a run, `look_at` moves past the pod that ended it.
 #[cfg_attr(not(debug_assertions), inline(always))]
 fn run_len(
     looks: bool,
@@ -103,7 +103,7 @@ fn put_run<S: Source>(source: S, out: &mut [u8], from: usize, to: usize, len: us
     source.part(out, from, from + len, to).carry(&mut out[to..]);
 }
 
-/// Whether properties stand in it, of a struct or an object that nothing follows.
+/// Whether the pods of a container that no byte follows are keyed: false for a struct, true for an object. None where bytes follow it, or for other pods.
 #[cfg_attr(not(debug_assertions), inline(always))]
 fn last_whole(left: usize, type_: u32, size: usize) -> Option<bool> {
     if left > 0 {
@@ -188,19 +188,14 @@ fn write_pod<S: Source>(type_: u32, size: usize, pod: S, out: &mut [u8]) -> usiz
     }
 }
 
-/// Whether properties stand in it, of a struct or an object whose pods can end where it does.
+/// Whether the pods of a container are keyed: false for a struct, true for an object. None for other pods, and for a size that isn't a multiple of 8, since
+/// pods always end at one.
 #[cfg_attr(not(debug_assertions), inline(always))]
 fn holds_whole(type_: u32, size: usize) -> Option<bool> {
     if size % HEADER_LEN > 0 {
         return None;
     }
-    if type_ == SpaTypes::Struct.0 {
-        return Some(false);
-    }
-    if type_ == SpaTypes::Object.0 && size >= HEADER_LEN {
-        return Some(true);
-    }
-    None
+    keyed_inside(type_, size)
 }
 
 /// Writes the encoding of a struct or an object: of its pods, and then its header.

@@ -1,4 +1,3 @@
-use Rattle.spa_rewrite.proofs.Accepted.{at_place}
 use Rattle.spa_typed_read.proofs.Looked.{fault_refused}
 use Rattle.spa_typed_read.proofs.passing.SkippedPodDeserialize.deserialize.Goals as goal
 
@@ -11,4 +10,4 @@ returns-in-Ok-clause-read c =
 pub returns-in-Err-Fault-clause-refused : goal.returns-in-Err-Fault-clause-refused
 returns-in-Err-Fault-clause-refused c =
     let says = rw c.in-Err-Fault.field-0-is at c.in-Err-Fault.ensures.rejected in
-    rw (← c.deserializer.view_is, c.error_at.ensures) (fault_refused _ c.in-Err-Fault.place c.in-Err-Fault.why (at_place _ _ _ c.in-Err-Fault.why says))
+    rw (← c.deserializer.view_is, c.error_at.ensures) (fault_refused _ c.in-Err-Fault.place c.in-Err-Fault.why says.stands)

@@ -1,7 +1,6 @@
 use Rattle.std.proofs.Common.{refl, sym, ap, ◌∙◌, subst}
 use Rattle.spa_format.specs.Tree.{fixed}
 use Rattle.spa_view.specs.Settled.{Says, settled_bytes}
-use Rattle.spa_rewrite.proofs.Accepted.{at_place}
 use Rattle.spa_typed_read.specs.Exactly.{other_choice}
 use Rattle.spa_typed_read.proofs.SettledReads.{fault_settled, says_settled, settled_says}
 use Rattle.spa_typed_read.proofs.settled.SettledPodDeserialize.deserialize.Goals as goal
@@ -23,7 +22,7 @@ pub returns-in-Err-Fault-clause-refused : goal.returns-in-Err-Fault-clause-refus
 returns-in-Err-Fault-clause-refused g c =
     let says = rw c.in-Err-Fault.field-0-is at c.in-Err-Fault.ensures.rejected in
     rw (← c.deserializer.view_is, c.error_at.ensures, c.in-Err-Fault.place-is, c.in-Err-Fault.why-is)
-    (fault_settled _ _ _ c.in-Err-Fault.place c.in-Err-Fault.why c.in-Some.ensures.there (at_place _ _ _ c.in-Err-Fault.why says))
+    (fault_settled _ _ _ c.in-Err-Fault.place c.in-Err-Fault.why c.in-Some.ensures.there says.stands)
 
 pub returns-in-None-clause-refused : goal.returns-in-None-clause-refused
 returns-in-None-clause-refused g c =

@@ -137,7 +137,7 @@ fn word_len(first: u8, behind: &[u8]) -> usize
     behind.len()
 }
 
-/// Whether this byte goes on a word that begins with this first one.
+/// Whether a byte belongs to the word that begins with `first`: letters, digits, `.`, `-`, `+`, `_`, and `:` where the word begins with a letter.
 fn goes_on(first: u8, byte: u8) -> bool
     ensures { result ≡ spec.goes_on first byte }
 {

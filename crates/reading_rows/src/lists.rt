@@ -96,7 +96,7 @@ fn is_so_in_parts(
     }
 }
 
-/// Whether the rewriting where the list lies is this one, behind which nothing else changes.
+/// Whether `rewrite_in_place` gives this answer, and writes these encodings with no change to the bytes behind them.
 fn is_so_in_place(
     alloc: Global,
     input: &[u8],

@@ -8,7 +8,5 @@ pub mod Offering
 pub mod Fronts
 pub use Rattle.spa_keyed_objects.specs.Keys
 -- The types that clauses name, and what is named of each.
-pub use Rattle.spa_negotiate.specs.declared.error.NegotiateError
-pub use Rattle.spa_negotiate.specs.declared.error.NegotiateError.TheVariants as NegotiateErrors
 pub use Rattle.spa_keyed_objects.specs.declared.side.Side
 pub use Rattle.spa_keyed_objects.specs.declared.side.Side.TheVariants as Sides

@@ -29,6 +29,10 @@ abbrev pub BeginsObjectOf : List ℕ → ObjectPod → Type 0
 BeginsObjectOf input (Borrowed view) = BeginsView input view
 BeginsObjectOf input (Rewritten bytes) = BeginsObjectIn input bytes.items
 
+-- the view is of the object whose canonical pod this is
+abbrev pub IsViewIn : List ℕ → ObjectView → Type 0
+IsViewIn pod view = (input : List ℕ) → BeginsObjectIn input pod → BeginsView input view
+
 -- the view is of the object with this body, type and id and then the properties
 pub record IsObjectBody (body : List ℕ) (view : ObjectView) : Type 0 where
   pub header : header_size ≤ length body

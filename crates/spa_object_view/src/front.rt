@@ -3,7 +3,7 @@ ghost use Rattle.std.specs.Prelude.{◌≡◌, ◌≢◌, ◌<◌, IfErr, IfNone
 ghost use Rattle.spa_format.specs.Tree.{object_type};
 ghost use Rattle.spa_format.specs.Words.{header_size, size_limit, word_at};
 ghost use Rattle.spa_bytes.specs.Opening.{Opens};
-ghost use Rattle.spa_object_view.specs.Fronts.{BeginsObjectIn, BeginsObjectOf, BeginsView, IsNoObject, IsObjectBody, IsUnread};
+ghost use Rattle.spa_object_view.specs.Fronts.{BeginsObjectIn, BeginsObjectOf, BeginsView, IsNoObject, IsObjectBody, IsUnread, IsViewIn};
 ghost use Rattle.spa_bodies.specs.Reading.{TakesMemory};
 ghost use Rattle.spa_scan.specs.Canonical.{AreCanonicalProperties};
 ghost use Rattle.spa_rewrite.specs.Look.{IsTooDeep};
@@ -142,8 +142,7 @@ fn deep_no_object(alloc: Global, input: &[u8]) -> NoObject
 /// The view of the object of a pod.
 #[inline(never)]
 fn object_in(pod: &[u8]) -> Option<ObjectView<'_>>
-    ensures object { IfSome result (λ object. (input : List ℕ) → BeginsObjectIn input pod.now
-        → BeginsView input object) }
+    ensures object { IfSome result (IsViewIn pod.now) }
     ensures words { IfSome result (λ object. (object.type_ < size_limit) × (object.id < size_limit)) }
     ensures none { IfNone result ((input : List ℕ) → ¬ (BeginsObjectIn input pod.now)) }
 {

@@ -37,7 +37,7 @@ const COMPLICATED: &[u32] = &[
     7, 3435973837, 1077890252, 3, 9, 196867, 0, 8, 18, 313, 0, 8, 10, 313, 131, 8, 11, 313, 131,
 ];
 
-/// What the struct within holds.
+/// The fields of the inner struct.
 #[derive(Clone, Copy, Debug, PartialEq)]
 struct Numbers {
     truth: bool,
@@ -57,7 +57,7 @@ const NUMBERS: Numbers = Numbers {
     double: Float64(4629503384453172429),
 };
 
-/// What follows it.
+/// The fields behind the inner struct.
 #[derive(Clone, Copy, Debug, PartialEq)]
 struct Others<'a> {
     bytes: &'a [u8],
@@ -79,7 +79,7 @@ const OTHERS: Others<'static> = Others {
     },
 };
 
-/// What stands there before they are read.
+/// The values of the fields before they are parsed.
 const NO_NUMBERS: Numbers = Numbers {
     truth: false,
     id: Id(0),

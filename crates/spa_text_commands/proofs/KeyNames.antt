@@ -12,7 +12,7 @@ use Rattle.spa_names.specs.Rows.{Row}
 use Rattle.spa_names.specs.Tables.{rows_of}
 use Rattle.spa_names.specs.declared.table.Table.{Table}
 use Rattle.spa_names.specs.declared.table.Table.TheVariants.{Nothing, BuffersKeys, CommandNode, CommandNodeKeys, DeviceEventId, DeviceKeys, FormatKeys, IOKeys, LatencyKeys, Node, NodeKeys, ParamId, ParamMetaKeys, PortConfigKeys, ProcessLatencyKeys, ProfileKeys, ProfilerKeys, PropInfoKeys, PropsKeys, RouteKeys}
-use Rattle.spa_text_commands.specs.KeyNames.{HasKeyNamed, is_counted}
+use Rattle.spa_text_commands.specs.KeyNames.{HasKeyNamed, HasNoKeyNamed, is_counted}
 use Rattle.spa_text_commands.specs.Selection.{is_end_of, is_named}
 
 some_none : {X : Type 0} (x : X) → None ≡ Some x → ⊥
@@ -105,10 +105,8 @@ has_path : (path : Option (List ℕ)) (key : ℕ) (name : List ℕ) → decimal 
 has_path None key name other is = absurd (other ((bytes_eq-Decides (decimal key) name).0 is))
 has_path (Some p) key name other is = (p, refl)
 
-pub by_no_name : (name : List ℕ) → ((key : ℕ) → key < 2 ^ 32 → decimal key ≢ name) →
-    ((type key : ℕ) → 131073 ≤ type → type < 131075 → is_counted key ≡ true → is_named (keys_of (record { 0 = type })) key name ≡ false) →
-    ((type key : ℕ) → 196610 ≤ type → type < 196611 → is_counted key ≡ true → is_named (keys_of (record { 0 = type })) key name ≡ false) →
-    ((type key : ℕ) → 262145 ≤ type → type < 262157 → is_counted key ≡ true → is_named (keys_of (record { 0 = type })) key name ≡ false) → ¬ (HasKeyNamed name)
+pub by_no_name : (name : List ℕ) → ((key : ℕ) → key < 2 ^ 32 → decimal key ≢ name) → HasNoKeyNamed 131073 131075 name →
+    HasNoKeyNamed 196610 196611 name → HasNoKeyNamed 262145 262157 name → ¬ (HasKeyNamed name)
 unfolding is_type
 by_no_name name number first second third has =
     let type = has.0 in

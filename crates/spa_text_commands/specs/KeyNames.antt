@@ -1,5 +1,5 @@
 -- Names that keys have: docs/TEXT.md, "A part of an input".
-use Rattle.std.specs.Prelude.{◌≡◌, ◌<◌, ◌+◌, ◌^◌, ◌&&◌, ◌||◌, ℕ, Bool, true, List, nat_le, nat_lt}
+use Rattle.std.specs.Prelude.{◌≡◌, ◌<◌, ◌≤◌, ◌+◌, ◌^◌, ◌&&◌, ◌||◌, ℕ, Bool, true, false, List, nat_le, nat_lt}
 use Rattle.spa_names.specs.Lookup.{keys_of}
 use Rattle.spa_text_commands.specs.Selection.{is_named}
 
@@ -16,3 +16,8 @@ abbrev pub is_counted : ℕ → Bool
 is_counted key =
     is_counted_from 0 key || (is_counted_from 256 key || (is_counted_from 65536 key
     || (is_counted_from 131072 key || is_counted_from 524288 key)))
+
+-- no key of objects of these types, among those so counted, has this name
+abbrev pub HasNoKeyNamed : (first end : ℕ) (name : List ℕ) → Type 0
+HasNoKeyNamed first end name =
+    (type key : ℕ) → first ≤ type → type < end → is_counted key ≡ true → is_named (keys_of (record { 0 = type })) key name ≡ false

@@ -1,8 +1,7 @@
 //! Names that keys have.
 ghost use Rattle.std.specs.Prelude.{◌≡◌, ◌≢◌, ◌<◌, ◌≤◌, ◌^◌, ◌+◌, ℕ, false, true};
 ghost use Rattle.std.specs.Fmt.{decimal};
-ghost use Rattle.spa_names.specs.Lookup.{keys_of};
-ghost use Rattle.spa_text_commands.specs.KeyNames.{HasKeyNamed, is_counted};
+ghost use Rattle.spa_text_commands.specs.KeyNames.{HasKeyNamed, HasNoKeyNamed, is_counted};
 ghost use Rattle.spa_text_commands.specs.Selection as spec;
 
 use crate::selection::is_named;
@@ -45,8 +44,7 @@ fn is_number(name: &str) -> bool
 /// Whether a key of objects of a type from this one on and below this end has this name.
 fn has_key_between(first: u32, end: u32, name: &str) -> bool
     ensures named { result ≡ true → HasKeyNamed name.now }
-    ensures other { result ≡ false → (type key : ℕ) → first ≤ type → type < end → is_counted key ≡ true →
-        spec.is_named (keys_of (record { 0 = type })) key name.now ≡ false }
+    ensures other { result ≡ false → HasNoKeyNamed first end name.now }
 {
     for type_ in first..end {
         if has_key(keys_of(SpaTypes(type_)), name) {

@@ -243,7 +243,7 @@ fn add_string(lines: &mut Vec<u8>, bytes: &[u8]) -> Result<(), AllocError>
     lines.extend_from_slice(b"\"\n")
 }
 
-/// Adds the line before those of a pod and the lines of what it is; it is refused for this reason, or accepted.
+/// Adds the lines of one pod: the line that counts it and gives its byte, the reason why it is refused, if there is one, and a line for each value in it.
 fn list(
     alloc: Global,
     page: &mut Page,
@@ -417,7 +417,7 @@ impl<'a> Listing<'a> {
     }
 }
 
-/// Whether the reader goes on inside the value, to refuse what it finds there.
+/// Whether a value holds pods that the reader checks one by one: the members of a struct, the properties of an object.
 fn has_members(parts: Parts<'_>) -> bool {
     matches!(parts, Parts::Struct(_) | Parts::Object { .. })
 }

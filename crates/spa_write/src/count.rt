@@ -110,7 +110,7 @@ pub(crate) fn is_beyond(room: Option<usize>, value: &Value) -> bool
     }
 }
 
-/// How much of this number is left by as many values as the value consists of. None: it consists of more.
+/// `number` less the count of values of which this value consists, itself among them. None where they are more than `number`.
 #[cycle(count)]
 pub(crate) fn left_of(value: &Value, number: usize) -> Option<usize>
     ensures left { IfSome result (λ left. number ≡ left + node_count (view value.now)) }

@@ -70,7 +70,7 @@ pub fn read_latency(
     PodDeserializer::deserialize_from(input)
 }
 
-/// What a latency is written as, whatever follows it, is read as that latency, and leaves what follows. No read of it is refused.
+/// The encoding of a latency, whatever bytes follow it, is read as that latency, and those bytes are left. That read is never refused.
 pub fn latencies_come_back() {
     laws::exact_types_come_back::<Latency>();
     laws::passing_takes_no_memory::<Properties>();

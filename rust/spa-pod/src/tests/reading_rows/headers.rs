@@ -13,9 +13,10 @@ const DEPTH: u32 = 100_000;
 /// How many words the innermost pod has.
 const INNER: usize = 2;
 
-/// Appends the answer to a row: of `headers` what a counted read of the input answers; of `opened` the same of pods in one another, as
-/// many as the first word says, with the words behind the size and the innermost pod behind it; of `same` whether pods so deep with
-/// either of the last two pods innermost compare as `same`; of `held` whether a value is lent and handed back.
+/// Appends the answer to a row. `headers`: the result of a counted read of the input. `opened`: the result of a counted read of nested pods;
+/// the first word is the number of levels, the last two are the innermost pod, and those between stand behind the size word of each other pod.
+/// `same`: whether two nests of `DEPTH` levels compare as `same`, each around one of the last two pods. `held`: whether a `Held` value is
+/// borrowed and given back.
 pub(crate) fn answer_headers(
     word: &str,
     input: &[u8],

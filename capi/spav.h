@@ -8,7 +8,7 @@
  * stays as it is.
  *
  * What a caller keeps to, which nothing checks. A region's bytes are there, and are PTRDIFF_MAX at most. A region that is written overlaps no other
- * argument. What an answer is put into (`written`, `at`, a value) isn't NULL. A list of calls or of events is aligned. malloc, realloc and free come
+ * argument. What an answer is put into (`written`, `at`, a value) isn't NULL. A list of calls, of events or of items is aligned. malloc, realloc and free come
  * from one allocator. No call is made from a signal handler, or in the forked child of a process with threads.
  *
  * What a call keeps to. It reads and writes no other bytes than those. It ends, whatever the bytes are. It keeps no pointer and no state, takes no
@@ -122,19 +122,20 @@ int32_t spav_check(const void *in, size_t n, size_t *at) SPAV_MUST_USE SPAV_NONN
 
 /* What is wrong with bytes. */
 enum spav_fault_kind {
-	SPAV_FAULT_SHORT = 1, /* fewer bytes are left than a header, the size in it, or a property's key and flags take */
+	SPAV_FAULT_SHORT = 1, /* a pod, or a property's key and flags, goes past the end of the input, or of the struct or object around it */
 	SPAV_FAULT_TEXT,      /* a string is empty, doesn't end in NUL, holds another NUL, or isn't UTF-8 */
-	SPAV_FAULT_TYPE,      /* no such type, or none of which elements of an array or values of a choice are */
+	SPAV_FAULT_TYPE,      /* no type of a value, as Sequence and Pod are none, or one that an array or a choice can't hold */
 	SPAV_FAULT_SHAPE,     /* a choice has no such shape */
 	SPAV_FAULT_VALUES,    /* a choice has fewer values than its shape takes */
-	SPAV_FAULT_SIZE       /* a body, or the size of elements or values, isn't as long as its type's are */
+	SPAV_FAULT_SIZE       /* a body, or the child size of an array or a choice, has the wrong length for its type */
 };
 
 /* Which fault stands first in `in`. No memory is asked for.
  *   0       none: `in` is pods one after another
- *   1       of the kind *kind, at the byte *at, in the pod that begins at the byte *top. There begins a pod inside it, itself, or a key that is cut short
- *   -ELOOP  a pod nests more than 1000 deep, not counting containers that nothing follows in their own, and no fault was found before. *top and *at
- *           have no meaning
+ *   1       of the kind *kind, at the byte *at, in the pod that begins at the byte *top. At *at that pod should begin (*at is *top then), or one inside
+ *           it, or a key that is cut short. *at may be n
+ *   -ELOOP  a pod nests more than 1000 deep, not counting a struct or an object that is the last pod in the one around it, and no fault was found
+ *           before. *top and *at have no meaning
  * After a lenient call was refused, the fault may be one that the lenient reading accepts. */
 int32_t spav_fault(const void *in, size_t n, uint32_t *kind, size_t *top, size_t *at) SPAV_MUST_USE SPAV_NONNULL(3, 4, 5);
 
@@ -159,8 +160,8 @@ int32_t spav_nests_within(const void *in, size_t n, uint32_t levels) SPAV_MUST_U
  *   -EINVAL  no whole pod of the type Object is at the front */
 int32_t spav_fixate(void *pod, size_t n) SPAV_MUST_USE;
 
-/* Reading. These calls look at types and sizes alone, so the bytes may be anything. They ask for no memory, and write a value only where the answer
- * says that there is one. */
+/* Reading. None of these calls asks for memory. But for spav_read, which goes by the exact reading, they look at types and sizes alone, so the bytes may
+ * be anything, and write a value only where the answer says that there is one. */
 
 /* Whether a whole pod is at the front of `in`.
  *   1  *type is its type, *size the size of its body, which begins at the byte 8, *whole its length with header and padding
@@ -187,7 +188,7 @@ int32_t spav_fd(const void *in, size_t n, uint32_t key, int64_t *value) SPAV_MUS
 int32_t spav_rectangle(const void *in, size_t n, uint32_t key, uint32_t *width, uint32_t *height) SPAV_MUST_USE SPAV_NONNULL(4, 5);
 int32_t spav_fraction(const void *in, size_t n, uint32_t key, uint32_t *num, uint32_t *denom) SPAV_MUST_USE SPAV_NONNULL(4, 5);
 
-/* The text under the key: the bytes before its first NUL go to `out`, then one NUL.
+/* The text under the key: the bytes before its first NUL go to `out`, then one NUL. They need not be UTF-8; of an accepted pod they are.
  *   0        *len bytes and the NUL were written
  *   -ENOSPC  `cap` isn't more than *len
  *   -EPROTO  the value is no string, or one whose last byte isn't NUL
@@ -197,7 +198,7 @@ int32_t spav_string(const void *in, size_t n, uint32_t key, char *out, size_t ca
 /* What was read of a pod, of an element of an array, or of a value of a choice. */
 struct spav_item {
 	uint32_t type;       /* its type */
-	uint32_t key, flags; /* those of the property whose value it is, or 0 */
+	uint32_t key, flags; /* by spav_read, those of the property whose value it is; 0 for members, elements and values of choices, and by spav_item */
 	uint32_t child;      /* the type of an array's elements, or of a choice's values, else 0 */
 	size_t depth;        /* how many structs, objects, arrays and choices it stands in */
 	/* The two numbers of a pod of the type
@@ -222,9 +223,10 @@ struct spav_item {
 int32_t spav_read(const void *in, size_t n, struct spav_item *out, size_t room, size_t *count, uint32_t *kind, size_t *at)
 	SPAV_MUST_USE SPAV_NONNULL(5, 6, 7);
 
-/* The item of the pod at the front of `in`, or, where that is a None choice, of its value.
+/* The item of the pod at the front of `in`, or, where that is a None choice, of its value. The pod may be malformed: a number that goes past its body
+ * is 0, and a text has its body's length less 1, whatever its last byte is.
  *   0        *item is it
- *   -EINVAL  no pod is at the front */
+ *   -EINVAL  no whole pod is at the front */
 int32_t spav_item(const void *in, size_t n, struct spav_item *item) SPAV_MUST_USE SPAV_NONNULL(3);
 
 /* Where a value begins in `in`, for the calls that read the pod at the front of what they are given: that of the first property with the key in the
@@ -329,6 +331,8 @@ static inline struct spav_call spav_add_fd(int64_t value) { return spav_call_wit
 static inline struct spav_call spav_push_array(void) { return spav_call_of(SPAV_TYPE_Array, 0, 0, 0); }
 static inline struct spav_call spav_push_struct(void) { return spav_call_of(SPAV_TYPE_Struct, 0, 0, 0); }
 static inline struct spav_call spav_push_object(uint32_t type, uint32_t id) { return spav_call_of(SPAV_TYPE_Object, type, id, 0); }
+/* What is added next are its values: the default, then of a Range least and greatest, of a Step also the step, of an Enum the alternatives, among which
+ * PipeWire's readers expect the default again. They aren't compared. */
 static inline struct spav_call spav_push_choice(uint32_t shape, uint32_t flags) { return spav_call_of(SPAV_TYPE_Choice, shape, flags, 0); }
 /* The key and the flags of a property, whose value the next call adds or begins. */
 static inline struct spav_call spav_add_prop(uint32_t key, uint32_t flags) { return spav_call_of(SPAV_WORD_Prop, key, flags, 0); }
@@ -339,7 +343,7 @@ static inline struct spav_call spav_add_array(enum spav_type element_type, size_
 }
 /* Closes the innermost pod that is begun. */
 static inline struct spav_call spav_pop(void) { return spav_call_of(SPAV_WORD_Pop, 0, 0, 0); }
-/* Closes the innermost pod that is begun, where so many are begun: 1 where it is the outermost. */
+/* Closes the innermost pod that is begun, if `frame` pods are begun; else the answer is -EINVAL. */
 static inline struct spav_call spav_pop_frame(uint64_t frame) { return spav_call_of(SPAV_WORD_Pop, 0, 0, frame); }
 
 /* Listing. */

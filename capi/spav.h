@@ -8,8 +8,8 @@
  * stays as it is.
  *
  * What a caller keeps to, which nothing checks. A region's bytes are there, and are PTRDIFF_MAX at most. A region that is written overlaps no other
- * argument. What an answer is put into (`written`, `at`, a value) isn't NULL. A list of calls, of events or of items is aligned. malloc, realloc and free come
- * from one allocator. No call is made from a signal handler, or in the forked child of a process with threads.
+ * argument. What an answer is put into (`written`, `at`, a value) isn't NULL. A list of calls, of events or of items is aligned. malloc, realloc and
+ * free come from one allocator. No call is made from a signal handler, or in the forked child of a process with threads.
  *
  * What a call keeps to. It reads and writes no other bytes than those. It ends, whatever the bytes are. It keeps no pointer and no state, takes no
  * lock, prints nothing and never ends the process, so threads may call on different memory at once. It asks for memory only where that is said,
@@ -124,7 +124,7 @@ int32_t spav_check(const void *in, size_t n, size_t *at) SPAV_MUST_USE SPAV_NONN
 enum spav_fault_kind {
 	SPAV_FAULT_SHORT = 1, /* a pod, or a property's key and flags, goes past the end of the input, or of the struct or object around it */
 	SPAV_FAULT_TEXT,      /* a string is empty, doesn't end in NUL, holds another NUL, or isn't UTF-8 */
-	SPAV_FAULT_TYPE,      /* no type of a value, as Sequence and Pod are none, or one that an array or a choice can't hold */
+	SPAV_FAULT_TYPE,      /* a type that no value has, such as Sequence and Pod, or one that an array or a choice can't hold */
 	SPAV_FAULT_SHAPE,     /* a choice has no such shape */
 	SPAV_FAULT_VALUES,    /* a choice has fewer values than its shape takes */
 	SPAV_FAULT_SIZE       /* a body, or the child size of an array or a choice, has the wrong length for its type */

@@ -96,6 +96,26 @@ opened_first n keyed left type body rest o =
 pub none_inside : (n : ℕ) (keyed : Bool) (left : List ℕ) → length left < extent_behind (key_size keyed) left → ¬ (NestsDeeperInside n keyed left)
 none_inside n keyed left l s = subst (SomeOf (λ p. NestsDeeper n (drop (key_size keyed) p))) (walk_behind-end (key_size keyed) left l) s
 
+-- one more of the pods is looked into: what is left and the longest so far are one of them less and the longer of two
+pub looked_into : (Left Deep Rest Longest Longer All : Type 0) → Left ↔ (Deep ⊎ Rest) → Longer ↔ (Longest ⊎ Deep) →
+    (Left ⊎ Longest) ↔ All → (Rest ⊎ Longer) ↔ All
+looked_into Left Deep Rest Longest Longer All first longer all = (
+  λ s. elim s [
+    | inl rest ↦ all.0 (inl (first.1 (inr rest)))
+    | inr h ↦ elim (longer.0 h) [
+      | inl l ↦ all.0 (inr l)
+      | inr deep ↦ all.0 (inl (first.1 (inl deep)))
+    ]
+  ],
+  λ a. elim (all.1 a) [
+    | inl left ↦ elim (first.0 left) [
+      | inl deep ↦ inr (longer.1 (inr deep))
+      | inr rest ↦ inl rest
+    ]
+    | inr l ↦ inr (longer.1 (inl l))
+  ],
+)
+
 -- the pods inside nest in one level less than the container
 same_inside : (P : Bool → List ℕ → Type 0) (type : ℕ) (body a b : List ℕ) (k l : Bool) → IsInside type body k a → IsInside type body l b → P k a → P l b
 same_inside P type body a b true true i j p = subst (P true) (i.2 ∙ sym j.2) p

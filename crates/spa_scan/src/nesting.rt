@@ -1,5 +1,5 @@
 //! How deep structs and objects stand in one another, counted without memory.
-ghost use Rattle.std.specs.Prelude.{Decides, ◌≡◌, ◌≤◌, false};
+ghost use Rattle.std.specs.Prelude.{Decides, ◌≡◌, ◌≤◌, ◌<◌, ◌-◌, ◌⊎◌, ◌↔◌, IfNone, IfSome, IsSomeAnd, false};
 ghost use Rattle.spa_format.specs.Front.{Begins};
 ghost use Rattle.spa_format.specs.Pod.{AreMembers};
 ghost use Rattle.spa_format.specs.Tree.{Tree, Trees};
@@ -7,14 +7,15 @@ ghost use Rattle.spa_format.specs.Walk.{walk};
 ghost use Rattle.spa_scan.specs.Depth.{IsDeepBody, NestsDeeper, NestsDeeperInside, SomeOf, depth_of, member_depth};
 
 use spa_bytes::open;
-use spa_events::{inside_of, is_container, open_first};
+use spa_events::{Inside, inside_of, is_container, open_first};
 
 /// Whether at most so many structs and objects stand in one another in the pod at the front: an Int nests in 0 levels, a
 /// struct of Ints in 1.
 ///
-/// It takes no memory, and calls itself at most `levels` deep. A service asks it before it compares by `==`, prints by `{:?}` or drops
-/// a value that others made, since these call themselves for each level. On bytes that aren't accepted it counts the structs
-/// and objects that walks over whole pods meet in one another: none where no front is there.
+/// It takes no memory, and its stack doesn't grow with the nesting depth: only containers that aren't the longest beside them take a call, so
+/// calls nest no deeper than the binary logarithm of the number of bytes. A service asks it before it compares by `==`, prints by `{:?}` or drops
+/// a value that others made, since these call themselves for each level. On bytes that aren't accepted it counts the structs and objects that
+/// walks over whole pods meet in one another: none where no front is there.
 pub fn nests_within(input: &[u8], levels: u32) -> bool
     // Of an accepted input `true` exactly where its value nests no deeper,
     ensures exactly { (v : Tree) → Begins input.now v → Decides result (depth_of v ≤ levels) }
@@ -38,7 +39,6 @@ pub fn all_nest_within(pods: &[u8], levels: u32) -> bool
 }
 
 /// Whether at most so many structs and objects stand in one another in a pod of this type with this body. A pod that holds no others needs no call.
-#[cycle(nesting)]
 #[inline(always)]
 fn body_nests_within(type_: u32, body: &[u8], levels: u32) -> bool
     ensures deeper { result ≡ false → IsDeepBody levels type_ body.now }
@@ -54,17 +54,87 @@ fn body_nests_within(type_: u32, body: &[u8], levels: u32) -> bool
 }
 
 /// Whether at most so many stand in one another in each of the pods inside a container, with a key and flags before each where `keyed` is set.
+///
+/// The longest container among them comes last, and takes no call. Any other one has less than half of the bytes.
 #[cycle(nesting)]
 fn pods_nest_within(keyed: bool, pods: &[u8], levels: u32) -> bool
     ensures deeper { result ≡ false → NestsDeeperInside levels keyed pods.now }
     ensures within { NestsDeeperInside levels keyed pods.now → result ≡ false }
 {
-    let mut left = pods;
-    while let Some(front) = open_first(keyed, left) {
-        if !body_nests_within(front.type_, front.body, levels) {
+    let mut around = Inside { keyed, pods };
+    let mut left = levels;
+    while left != 0 {
+        let Some(longest) = all_but_longest(around.keyed, around.pods, left) else {
             return false;
+        };
+        let Some(inside) = longest else {
+            return true;
+        };
+        around = inside;
+        left -= 1;
+    }
+    is_flat(around.keyed, around.pods)
+}
+
+/// Looks into all structs and objects among these pods but the longest, whose pods are answered. None: the pods inside another one nest in `levels`
+/// levels or more.
+#[cycle(nesting)]
+fn all_but_longest(keyed: bool, pods: &[u8], levels: u32) -> Option<Option<Inside<'_>>>
+    requires { 0 < levels }
+    ensures deeper { IfNone result (NestsDeeperInside levels keyed pods.now) }
+    ensures longest { IfSome result (λ longest. NestsDeeperInside levels keyed pods.now
+        ↔ IsSomeAnd longest (λ l. NestsDeeperInside (levels - 1) l.keyed l.pods.now)) }
+{
+    let mut left = pods;
+    let mut longest = None;
+    while let Some(front) = open_first(keyed, left) {
+        if let Some(inside) = inside_of(front.type_, front.body) {
+            let Some(longer) = longer_of(longest, inside, levels) else {
+                return None;
+            };
+            longest = Some(longer);
         }
         left = front.rest;
+    }
+    Some(longest)
+}
+
+/// The longer one of these pods of two containers, once the others are looked into. None: the others nest in `levels` levels or more.
+#[cycle(nesting)]
+fn longer_of<'a>(longest: Option<Inside<'a>>, inside: Inside<'a>, levels: u32) -> Option<Inside<'a>>
+    requires { 0 < levels }
+    ensures deeper { IfNone result (IsSomeAnd longest.entry (λ l. NestsDeeperInside (levels - 1) l.keyed l.pods.now)
+        ⊎ NestsDeeperInside (levels - 1) inside.entry.keyed inside.entry.pods.now) }
+    ensures longer { IfSome result (λ longer. NestsDeeperInside (levels - 1) longer.keyed longer.pods.now
+        ↔ (IsSomeAnd longest.entry (λ l. NestsDeeperInside (levels - 1) l.keyed l.pods.now)
+        ⊎ NestsDeeperInside (levels - 1) inside.entry.keyed inside.entry.pods.now)) }
+{
+    let Some(other) = longest else {
+        return Some(inside);
+    };
+    if inside.pods.len() < other.pods.len() {
+        if !pods_nest_within(inside.keyed, inside.pods, levels - 1) {
+            return None;
+        }
+        return Some(other);
+    }
+    if !pods_nest_within(other.keyed, other.pods, levels - 1) {
+        return None;
+    }
+    Some(inside)
+}
+
+/// Whether none of these pods is a struct or an object.
+fn is_flat(keyed: bool, pods: &[u8]) -> bool
+    ensures deeper { result ≡ false → NestsDeeperInside 0 keyed pods.now }
+    ensures within { NestsDeeperInside 0 keyed pods.now → result ≡ false }
+{
+    let mut rest = pods;
+    while let Some(front) = open_first(keyed, rest) {
+        if is_container(front.type_) {
+            return false;
+        }
+        rest = front.rest;
     }
     true
 }

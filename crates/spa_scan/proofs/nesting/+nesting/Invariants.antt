@@ -1,16 +1,32 @@
 use Rattle.std.proofs.Common.{◌+◌, ◌*◌, length}
-use Rattle.std.specs.Prelude.{◌↔◌}
+use Rattle.std.specs.Prelude.{◌-◌, ◌≤◌, ◌⊎◌, ◌↔◌, IsSomeAnd}
 use Rattle.spa_scan.specs.Depth.{NestsDeeperInside}
 use Rattle.spa_scan.proofs.nesting.+nesting.Given as goal
 
-abbrev pub decreases-body_nests_within : goal.decreases-body_nests_within
-decreases-body_nests_within l = 2 * l.levels
-
 abbrev pub decreases-pods_nest_within : goal.decreases-pods_nest_within
-decreases-pods_nest_within l = 2 * l.levels + 1
+decreases-pods_nest_within l = 3 * l.levels + 2
 
-abbrev pub invariant-pods_nest_within-loop-front : goal.invariant-pods_nest_within-loop-front
-invariant-pods_nest_within-loop-front l = NestsDeeperInside l.levels l.keyed l.left ↔ NestsDeeperInside l.levels l.keyed l.pods
+abbrev pub decreases-all_but_longest : goal.decreases-all_but_longest
+decreases-all_but_longest l = 3 * l.levels + 1
 
-abbrev pub decreases-pods_nest_within-loop-front : goal.decreases-pods_nest_within-loop-front
-decreases-pods_nest_within-loop-front l = length l.left
+abbrev pub decreases-longer_of : goal.decreases-longer_of
+decreases-longer_of l = 3 * l.levels
+
+-- the pods around that are left to look into
+abbrev pub invariant-pods_nest_within-loop-left : goal.invariant-pods_nest_within-loop-left
+invariant-pods_nest_within-loop-left l = record {
+  within : l.left ≤ l.levels;
+  same : NestsDeeperInside l.left l.around.keyed l.around.pods.now ↔ NestsDeeperInside l.levels l.keyed l.pods;
+}
+
+abbrev pub decreases-pods_nest_within-loop-left : goal.decreases-pods_nest_within-loop-left
+decreases-pods_nest_within-loop-left l = l.left
+
+-- the longest container so far, and the pods behind
+abbrev pub invariant-all_but_longest-loop-front : goal.invariant-all_but_longest-loop-front
+invariant-all_but_longest-loop-front l =
+    (NestsDeeperInside l.levels l.keyed l.left ⊎ IsSomeAnd l.longest (λ i. NestsDeeperInside (l.levels - 1) i.keyed i.pods.now))
+    ↔ NestsDeeperInside l.levels l.keyed l.pods
+
+abbrev pub decreases-all_but_longest-loop-front : goal.decreases-all_but_longest-loop-front
+decreases-all_but_longest-loop-front l = length l.left

@@ -8,6 +8,7 @@ ghost use Rattle.spa_value.specs.Views.{property_views, views};
 
 use spa_bytes::HEADER_LEN;
 use spa_value::{Property, Value};
+use std::alloc::Global;
 
 /// Is it a struct or an object?
 #[inline(always)]
@@ -97,6 +98,60 @@ pub(crate) fn only_struct(members: &[Value]) -> Option<&[Value]>
         Value::Struct(inner) => Some(inner.as_slice()),
         _ => None,
     }
+}
+
+/// The greatest nesting depth up to which a value is written by calls into a sink that names no allocator.
+const CALL_LEVELS: usize = 512;
+
+/// The allocator of the members or properties of a value that nests deeper than 512 levels, where there may be room for so many. None: calls write
+/// it.
+pub(crate) fn allocator_of_deep(room: Option<usize>, value: &Value) -> Option<Global> {
+    let most = room.unwrap_or(usize::MAX) / HEADER_LEN;
+    if most <= CALL_LEVELS || is_small(value) || nests_within(value, CALL_LEVELS) {
+        return None;
+    }
+    match value {
+        Value::Struct(members) => Some(*members.allocator()),
+        Value::Object(object) => Some(*object.properties.allocator()),
+        _ => None,
+    }
+}
+
+/// Whether at most so many structs and objects stand in one another in a value. A struct that is the only member of another one isn't counted. No
+/// call is nested deeper than `levels`.
+#[cycle(levels)]
+#[inline(always)]
+fn nests_within(value: &Value, levels: usize) -> bool {
+    match value {
+        Value::Struct(members) => levels != 0
+            && members_nest_within(members.as_slice(), levels - 1),
+        Value::Object(object) => {
+            levels != 0 && properties_nest_within(object.properties.as_slice(), levels - 1)
+        }
+        _ => true,
+    }
+}
+
+/// Whether at most so many stand in one another in each of these members of one struct.
+#[cycle(levels)]
+fn members_nest_within(members: &[Value], levels: usize) -> bool {
+    for member in innermost(members) {
+        if is_nested(member) && !nests_within(member, levels) {
+            return false;
+        }
+    }
+    true
+}
+
+/// Whether at most so many stand in one another in each value of these properties.
+#[cycle(levels)]
+fn properties_nest_within(properties: &[Property], levels: usize) -> bool {
+    for property in properties {
+        if is_nested(&property.value) && !nests_within(&property.value, levels) {
+            return false;
+        }
+    }
+    true
 }
 
 /// Whether a value's encoding has more bytes than there is room for, as the number of its values tells: each has eight at least.

@@ -11,7 +11,7 @@ ghost use Rattle.spa_write.specs.Measured.{ArePropertiesPut, ArePut, PropertiesA
 ghost use Rattle.spa_bodies.specs.Written.{IsLeaf, IsPut, Stops};
 ghost use Rattle.spa_format.specs.Words.{header_size, size_limit, word_bytes};
 
-use crate::count::{is_beyond, is_nested, is_small, only_struct};
+use crate::count::{allocator_of_deep, is_beyond, is_nested, is_small, only_struct};
 use crate::known::writable_len;
 use crate::largest::{largest_member, largest_property};
 use crate::leaf::put_leaf;
@@ -35,10 +35,11 @@ const KEYED_LEN: usize = 24;
 /// may have taken a beginning of the encoding.
 ///
 /// Where the sink names an allocator, the encoding of a struct or an object with more than 64 values in it is put together in memory of that
-/// allocator by a loop, and appended at once; a struct that is the only member of another one isn't counted. A smaller value, and any value into
-/// a sink without an allocator, is written by functions that call themselves for each level of nesting, but not for such structs, and takes no
-/// memory. Where a sink without an allocator knows how many bytes it has room for, calls nest no deeper than an eighth of that number: a struct
-/// or an object that consists of more values than that is refused as `Full` before anything else is looked at.
+/// allocator by a loop, and appended at once; a struct that is the only member of another one isn't counted. A smaller value, and into a sink
+/// without an allocator any value that nests in 512 levels at most, is written by functions that call themselves for each level of nesting, but not
+/// for such structs, and takes no memory. A value that nests deeper is put together by the loop in memory of its own allocator; where that memory
+/// lacks, it is written by calls, a level each. Where a sink without an allocator knows how many bytes it has room for, calls nest no deeper than an
+/// eighth of that number: a struct or an object that consists of more values than that is refused as `Full`.
 pub fn write_sized<S: PodSink>(sink: &mut S, value: &Value) -> Result<u64, GenError>
     ensures put { OnOk result (IsPut S.appends sink.old (view value.now) sink.new) }
     ensures count { IfOk result (λ n. n ≡ length (encoding_of (view value.now))) }
@@ -55,6 +56,40 @@ pub fn write_sized<S: PodSink>(sink: &mut S, value: &Value) -> Result<u64, GenEr
         }
         return write_value(alloc, sink, value);
     }
+    match allocator_of_deep(sink.room(), value) {
+        Some(alloc) => write_deep(alloc, sink, value),
+        None => write_by_calls(sink, value),
+    }
+}
+
+/// Appends the encoding of a value that is put together by a loop, in memory of this allocator, and answers its length in bytes. Where that memory
+/// lacks, it is written by calls.
+fn write_deep<S: PodSink>(alloc: Global, sink: &mut S, value: &Value) -> Result<u64, GenError>
+    ensures put { OnOk result (IsPut S.appends sink.old (view value.now) sink.new) }
+    ensures count { IfOk result (λ n. n ≡ length (encoding_of (view value.now))) }
+    ensures begun { OnErr result (Begun S.appends sink.old (encoding_of (view value.now)) sink.new) }
+    ensures refused { IfErr result (RefusesPiece (HasNul (view value.now)) (IsTooLarge (view value.now))
+        (S.refuses sink.old (length (encoding_of (view value.now))) sink.new) sink.old sink.new) }
+{
+    match write_by_loop(alloc, value) {
+        Ok(made) => {
+            sink.append(made.as_slice())?;
+            Ok(made.len() as u64)
+        }
+        Err(GenError::NulInText) => Err(GenError::NulInText),
+        Err(GenError::TooLarge) => Err(GenError::TooLarge),
+        Err(_) => write_by_calls(sink, value),
+    }
+}
+
+/// Appends the encoding of a value by calls into a sink that may know how many bytes it has room for, and answers its length in bytes.
+fn write_by_calls<S: PodSink>(sink: &mut S, value: &Value) -> Result<u64, GenError>
+    ensures put { OnOk result (IsPut S.appends sink.old (view value.now) sink.new) }
+    ensures count { IfOk result (λ n. n ≡ length (encoding_of (view value.now))) }
+    ensures begun { OnErr result (Begun S.appends sink.old (encoding_of (view value.now)) sink.new) }
+    ensures refused { IfErr result (RefusesPiece (HasNul (view value.now)) (IsTooLarge (view value.now))
+        (S.refuses sink.old (length (encoding_of (view value.now))) sink.new) sink.old sink.new) }
+{
     if is_beyond(sink.room(), value) {
         return Err(GenError::Full);
     }

@@ -12,7 +12,7 @@ use Rattle.spa_format.specs.Walk.{extent_behind, walk, walk_at_most, walk_behind
 use Rattle.spa_format.specs.Words.{body_of, word_at}
 use Rattle.spa_format.proofs.WalkLemmas.{length-take_extent}
 use Rattle.spa_format.proofs.WordLemmas.{word_at-drop}
-use Rattle.spa_scan.specs.Depth.{IsDeepBody, NestsDeeper, SomeOf, levels_looked_into}
+use Rattle.spa_scan.specs.Depth.{IsDeepBody, NestsDeeper, SomeOf}
 use Rattle.spa_scan.proofs.Deeper.{of_body}
 use Rattle.spa_items.specs.Items.{head, items_along, items_in, items_inside, items_of, items_within, overlaid}
 use Rattle.spa_items.specs.Puts.{ArePut}
@@ -122,20 +122,20 @@ enough_levels (suc n) (suc m) (suc j) depth l r = λ keyed at b s.
     (walk_behind (key_size keyed) b) at (unfolded (key_size keyed) b) s
 
 -- the items of an input, no pod of which nests deeper
-listed_levels : (b : List ℕ) (k : ℕ) → k ≡ min (length b) (1 + levels_looked_into) → ¬ (SomeOf (NestsDeeper levels_looked_into) (walk b)) →
+listed_levels : (n : ℕ) (b : List ℕ) (k : ℕ) → k ≡ min (length b) (n + 1) → ¬ (SomeOf (NestsDeeper n) (walk b)) →
     items_in k 0 false 0 b ≡ items_in (length b) 0 false 0 b
-listed_levels b k e n =
-    elim (cases_lt levels_looked_into (length b)) [
-      | inl l ↦ enough_levels levels_looked_into k (length b) 0 (omega arith) l false 0 b n
-      | inr l ↦ (let s : k ≡ length b = omega arith in ap (λ i. items_in i 0 false 0 b) s)
+listed_levels n b k e s =
+    elim (cases_lt n (length b)) [
+      | inl l ↦ enough_levels n k (length b) 0 (omega arith) l false 0 b s
+      | inr l ↦ (let same : k ≡ length b = omega arith in ap (λ i. items_in i 0 false 0 b) same)
     ]
 
-pub all_listed : (input : List ℕ) (levels : ℕ) (old new : List Item) (m : ℕ) → levels ≡ min (length input) (1 + levels_looked_into) →
-    ¬ (SomeOf (NestsDeeper levels_looked_into) (walk input)) → ArePut 0 (items_in levels 0 false 0 input) old m new →
+pub all_listed : (n : ℕ) (input : List ℕ) (levels : ℕ) (old new : List Item) (m : ℕ) → levels ≡ min (length input) (n + 1) →
+    ¬ (SomeOf (NestsDeeper n) (walk input)) → ArePut 0 (items_in levels 0 false 0 input) old m new →
     (m ≡ length (items_of input)) × (new ≡ overlaid (items_of input) old)
 unfolding items_of
-all_listed input levels old new m e n a =
-    let same = listed_levels input levels e n in
+all_listed n input levels old new m e s a =
+    let same = listed_levels n input levels e s in
     let l = ap length same in
     let c = a.counted in
     (omega arith, a.written ∙ ap (λ xs. overlaid xs old) same)

@@ -3,3 +3,4 @@ pub mod Firsts
 pub mod Listed
 pub mod Placed
 pub mod Levels
+pub mod Waiting

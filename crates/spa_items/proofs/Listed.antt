@@ -17,7 +17,7 @@ use Rattle.spa_items.specs.declared.elements.Elements.{Elements}
 use Rattle.spa_items.specs.declared.item.Item.{Item}
 use Rattle.spa_items.specs.declared.listing.First.{First}
 use Rattle.spa_events.proofs.Places.{not_object}
-use Rattle.spa_items.proofs.Overlays.{ArePutOf, all_put, begun, both_put, more_put, none_put}
+use Rattle.spa_items.proofs.Overlays.{ArePutOf, all_put, begun, more_put}
 
 none_within : (depth : ℕ) (keyed : Bool) (at : ℕ) (p : List ℕ) → items_within 0 depth keyed at p ≡ []
 unfolding items_within
@@ -30,10 +30,14 @@ unfolding items_within
 one_within n depth keyed at p = refl
 
 -- no levels are left
-pub nothing_listed : (levels depth : ℕ) (keyed : Bool) (at : ℕ) (p : List ℕ) (place : ℕ) (old : List Item) → levels ≡ 0 →
-    ArePut place (items_within levels depth keyed at p) old place old
-nothing_listed levels depth keyed at p place old e =
-    subst (λ xs. ArePut place xs old place old) (sym (ap (λ n. items_within n depth keyed at p) e ∙ none_within depth keyed at p)) (none_put place old)
+no_items_along : (depth : ℕ) (keyed : Bool) (at : ℕ) (ps : List (List ℕ)) → items_along (items_within 0 depth keyed) at ps ≡ []
+no_items_along depth keyed at [] = refl
+no_items_along depth keyed at (p ∷ ps) =
+    ap (λ xs. xs ++ items_along (items_within 0 depth keyed) (at + length p) ps) (none_within depth keyed at p) ∙ no_items_along depth keyed (at + length p) ps
+
+pub no_levels : (levels depth : ℕ) (keyed : Bool) (at : ℕ) (b : List ℕ) → levels ≡ 0 → items_in levels depth keyed at b ≡ []
+no_levels levels depth keyed at b e =
+    ap (λ n. items_in n depth keyed at b) e ∙ no_items_along depth keyed at (walk_behind (key_size keyed) b)
 
 -- the item of the first pod is that of its parts
 its_head : (keyed : Bool) (depth at body_at : ℕ) (b : List ℕ) (f : First) → IsFirst keyed b f → body_at ≡ at + key_size keyed + 8 →
@@ -62,24 +66,20 @@ has_first b f i = let t = i.there in record { header = omega arith; whole = omeg
 pub none_there : (b : List ℕ) → length b < extent_behind 0 b → ¬ (HasFront b)
 none_there b h f = let w = f.whole in absurd (omega arith)
 
--- a pod's item is put, and those inside it
-pub listed : (levels n depth : ℕ) (keyed : Bool) (at k body_at : ℕ) (b : List ℕ) (f : First) (x : Item) (xs : List Item) (place m : ℕ) (old mid new : List Item) → levels ≡ suc n → IsFirst keyed b f → k ≡ key_size keyed → body_at ≡ at + k + 8 →
-    x ≡ item_of depth body_at f → xs ≡ items_inside (items_within n (depth + 1)) f.type_ (depth + 1) body_at f.body.now →
-    ArePut place (x ∷ []) old (place + 1) mid →
-    ArePut (place + 1) xs mid m new →
-    ArePut place (items_within levels depth keyed at (first_of keyed b)) old m new
-listed levels n depth keyed at k body_at b f x xs place m old mid new el i ek eb ex exs a c =
+-- the items of the first pod are its own, and those inside it
+pub their_items : (levels n depth : ℕ) (keyed : Bool) (at k body_at : ℕ) (b : List ℕ) (f : First) (x : Item) (xs : List Item) → levels ≡ suc n → IsFirst keyed b f →
+    k ≡ key_size keyed → body_at ≡ at + k + 8 → x ≡ item_of depth body_at f → xs ≡ items_inside (items_within n (depth + 1)) f.type_ (depth + 1) body_at f.body.now →
+    x ∷ xs ≡ items_within levels depth keyed at (first_of keyed b)
+their_items levels n depth keyed at k body_at b f x xs el i ek eb ex exs =
     let e : body_at ≡ at + key_size keyed + 8 = eb ∙ ap (λ j. at + j + 8) ek in
     let inside : ℕ → ℕ → List ℕ → List Item = λ t x y. items_inside (items_within n (depth + 1)) t (depth + 1) x y in
-    let same =
     ap (λ y. y ∷ xs) (ex ∙ its_head keyed depth at body_at b f i e)
     ∙ ap (λ ys. head keyed depth at (first_of keyed b) ∷ ys) exs
     ∙ ap (λ t. head keyed depth at (first_of keyed b) ∷ inside t body_at f.body.now) i.its_type
     ∙ ap (λ x. head keyed depth at (first_of keyed b) ∷ inside (word_at (drop (key_size keyed) (first_of keyed b)) 4) x f.body.now) e
     ∙ ap (λ y. head keyed depth at (first_of keyed b) ∷ inside (word_at (drop (key_size keyed) (first_of keyed b)) 4) (at + key_size keyed + 8) y) i.its_body
     ∙ sym (one_within n depth keyed at (first_of keyed b))
-    ∙ ap (λ l. items_within l depth keyed at (first_of keyed b)) (sym el) in
-    subst (λ ys. ArePut place ys old m new) same (both_put place (place + 1) m (x ∷ []) xs old mid new a c)
+    ∙ ap (λ l. items_within l depth keyed at (first_of keyed b)) (sym el)
 
 -- the items of pods are those of the first, and then those of the others
 pub next_listed : (levels depth : ℕ) (keyed : Bool) (at : ℕ) (b : List ℕ) (f : First) → IsFirst keyed b f →

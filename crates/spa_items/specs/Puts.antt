@@ -1,13 +1,15 @@
 -- Items that are written from an index of an output on.
-use Rattle.std.specs.Prelude.{◌≡◌, ℕ, zero, suc, ◌+◌, ◌≤◌, Bool, List, [], ◌∷◌, length, take, drop, if◌then◌else◌}
+use Rattle.std.specs.Prelude.{◌≡◌, ℕ, zero, suc, ◌+◌, ◌-◌, ◌≤◌, Bool, List, [], ◌∷◌, ◌++◌, length, take, drop, if◌then◌else◌, Option, Some, None}
 use Rattle.spa_events.specs.Inside.{key_size}
 use Rattle.spa_format.specs.Words.{body_of, header_size, word_at}
 use Rattle.spa_format.specs.Walk.{extent_behind}
 use Rattle.spa_items.specs.Contents.{content, element_count, values_of, word_or}
-use Rattle.spa_items.specs.Items.{overlaid}
+use Rattle.spa_items.specs.Items.{items_in, items_within, overlaid}
 use Rattle.spa_items.specs.declared.elements.Elements.{Elements}
 use Rattle.spa_items.specs.declared.item.Item.{Item}
 use Rattle.spa_items.specs.declared.listing.First.{First}
+use Rattle.spa_items.specs.declared.listing.Level.{Level}
+use Rattle.spa_items.specs.declared.listing.Listed.{Listed}
 
 -- the list with its items from this index on replaced by these, as far as it is long
 abbrev pub put_from : ℕ → List Item → List Item → List Item
@@ -53,3 +55,15 @@ item_of depth body_at first =
       first = c.first;
       second = c.second;
     }
+
+-- the items of the pods in a pod that are still to be listed
+abbrev pub inner_items : (levels depth : ℕ) → Option Level → List Item
+inner_items levels depth None = []
+inner_items levels depth (Some l) = items_in levels depth l.keyed l.at l.pods.now
+
+-- the items of the first pod of these bytes were put, but those of the pods in it that are still to be listed
+pub record IsFirstListed (levels depth : ℕ) (keyed : Bool) (at : ℕ) (b : List ℕ) (place : ℕ) (old : List Item) (listed : Listed) (new : List Item) :
+    Type 0 where
+  pub items : List Item
+  pub put : ArePut place items old listed.place new
+  pub all : items_within levels depth keyed at (first_of keyed b) ≡ items ++ inner_items (levels - 1) (depth + 1) listed.inner

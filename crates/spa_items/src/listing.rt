@@ -7,8 +7,8 @@ ghost use Rattle.spa_format.specs.Tree.{Trees};
 ghost use Rattle.spa_format.specs.Walk.{extent_behind, walk};
 ghost use Rattle.spa_format.specs.Words.{header_size, word_at};
 ghost use Rattle.spa_events.specs.Inside.{key_size};
-ghost use Rattle.spa_items.specs.Items.{head, items_in, items_of, items_within, overlaid};
-ghost use Rattle.spa_items.specs.Puts.{ArePut, IsFirst, first_of, item_of};
+ghost use Rattle.spa_items.specs.Items.{head, items_in, items_of, overlaid};
+ghost use Rattle.spa_items.specs.Puts.{ArePut, IsFirst, IsFirstListed, item_of};
 ghost use Rattle.spa_scan.specs.Depth.{NestsDeeper, SomeOf, levels_looked_into, member_depth};
 
 use crate::contents::{content, word_or};
@@ -18,20 +18,27 @@ use spa_bytes::{HEADER_LEN, SECOND_WORD, u32_at};
 use spa_events::{inside_of, key_len, open_first};
 use spa_scan::{LEVELS, all_nest_within};
 
-/// The greatest number of levels of items: the innermost containers may have pods in them.
-const ITEM_LEVELS: usize = 1 + LEVELS as usize;
+/// How many levels of containers can wait in the short array.
+const FEW: usize = 16;
 
-/// The level of pods one after another.
+/// How many can wait in the long one, which is taken where pods nest deeper.
+const MANY: usize = LEVELS as usize;
+
+/// Pods one after another whose items are to come.
 #[derive(Clone, Copy)]
-struct Level {
-    /// How many more levels are listed.
-    levels: usize,
-    /// How many containers they are nested in.
-    depth: usize,
+pub(crate) struct Level<'a> {
     /// Whether a key and flags are before each.
     keyed: bool,
     /// The byte of the input at which the first of them begins.
     at: usize,
+    pods: &'a [u8],
+}
+
+/// What was listed of a pod: the index behind its items, and the pods in it that are still to be listed.
+#[derive(Clone, Copy)]
+pub(crate) struct Listed<'a> {
+    place: usize,
+    inner: Option<Level<'a>>,
 }
 
 /// The first of pods one after another.
@@ -48,7 +55,7 @@ pub(crate) struct First<'a> {
 /// answers how many items there are: an item comes before those of the pods in it, and these before those of the pods that follow it. None: the
 /// nesting depth of one of the pods is above 1000, and `out` is unchanged.
 ///
-/// It takes no memory, and calls itself for each level, at most 1001 deep.
+/// It takes no memory: the containers that it is in wait in an array of 16 levels, or of 1000.
 pub fn list_items(input: &[u8], out: &mut [Item]) -> Option<usize>
     ensures count { IfSome result (λ count. count ≡ length (items_of input.now)) }
     ensures items { IfSome result (λ _. out.new ≡ overlaid (items_of input.now) out.old) }
@@ -57,16 +64,49 @@ pub fn list_items(input: &[u8], out: &mut [Item]) -> Option<usize>
     ensures deep { IfNone result (SomeOf (NestsDeeper levels_looked_into) (walk input.now)) }
     ensures unchanged { IfNone result (out.new ≡ out.old) }
 {
+    if all_nest_within(input, FEW as u32) {
+        return Some(list_within(input, out, &mut [no_level(input); FEW]));
+    }
     if !all_nest_within(input, LEVELS) {
         return None;
     }
-    let level = Level {
-        levels: input.len().min(ITEM_LEVELS),
-        depth: 0,
+    Some(list_deep(input, out))
+}
+
+/// Lists pods that nest too deep for the short array, with the long one.
+#[cold]
+#[inline(never)]
+fn list_deep(input: &[u8], out: &mut [Item]) -> usize
+    requires { ¬ (SomeOf (NestsDeeper levels_looked_into) (walk input.now)) }
+    ensures count { result ≡ length (items_of input.now) }
+    ensures items { out.new ≡ overlaid (items_of input.now) out.old }
+{
+    list_within(input, out, &mut [no_level(input); MANY])
+}
+
+/// The level of the pods of an input; in an array it is an entry at which none waits.
+#[inline(always)]
+fn no_level(pods: &[u8]) -> Level<'_>
+    ensures keyed { result.keyed ≡ false }
+    ensures at { result.at ≡ 0 }
+    ensures pods { result.pods.now ≡ pods.now }
+{
+    Level {
         keyed: false,
         at: 0,
-    };
-    Some(list_pods(out, 0, level, input))
+        pods,
+    }
+}
+
+/// Lists pods that nest no deeper than levels can wait in the array.
+#[inline(always)]
+fn list_within<'a>(input: &'a [u8], out: &mut [Item], outer: &mut [Level<'a>]) -> usize
+    requires room { length outer.old < 2 ^ 16 }
+    requires shallow { ¬ (SomeOf (NestsDeeper (length outer.old)) (walk input.now)) }
+    ensures count { result ≡ length (items_of input.now) }
+    ensures items { out.new ≡ overlaid (items_of input.now) out.old }
+{
+    list_pods(input, out, outer, input.len().min(outer.len() + 1))
 }
 
 /// The item of the pod at the front alone, which begins at the byte `at` of a larger input. None: the front isn't there.
@@ -82,53 +122,87 @@ pub fn front_item(input: &[u8], at: usize) -> Option<Item>
     Some(head(0, at + HEADER_LEN, first))
 }
 
-/// Lists pods one after another from an index of the output on, and answers the index behind their items.
-#[cycle(listing)]
-fn list_pods(out: &mut [Item], start: usize, level: Level, pods: &[u8]) -> usize
-    requires room { start + length pods.now < 2 ^ 64 }
-    requires within { level.at + length pods.now < 2 ^ 63 }
-    requires deep { level.depth + level.levels < 2 ^ 64 }
-    ensures put { ArePut start
-        (items_in level.levels level.depth level.keyed level.at pods.now) out.old result out.new }
-    ensures few { result ≤ start + length pods.now }
+/// Lists pods one after another, and all pods, elements and values in them down to so many levels, from the front of the output on, and answers how
+/// many items there are. What follows a container waits while the pods in it are listed.
+fn list_pods<'a>(pods: &'a [u8], out: &mut [Item], outer: &mut [Level<'a>], levels: usize) -> usize
+    requires room { length pods.now < 2 ^ 63 }
+    requires some { 0 < length pods.now → 0 < levels }
+    requires few { levels ≤ length outer.old + 1 }
+    ensures { ArePut 0 (items_in levels 0 false 0 pods.now) out.old result out.new }
 {
-    let mut place = start;
-    let mut at = level.at;
-    let mut left = pods;
-    while let Some(first) = first_pod(level.keyed, left) {
-        place = list_pod(out, place, Level { at, ..level }, first);
-        at += left.len() - first.rest.len();
-        left = first.rest;
+    let mut place = 0;
+    let mut depth = 0;
+    let mut level = no_level(pods);
+    loop {
+        match first_pod(level.keyed, level.pods) {
+            Some(first) => {
+                let listed = list_pod(out, place, levels - depth, depth, level, first);
+                place = listed.place;
+                let behind = Level {
+                    at: level.at + (level.pods.len() - first.rest.len()),
+                    pods: first.rest,
+                    ..level
+                };
+                match listed.inner {
+                    Some(inner) => {
+                        outer[depth] = behind;
+                        depth += 1;
+                        level = inner;
+                    }
+                    None => level = behind,
+                }
+            }
+            None => {
+                if depth == 0 {
+                    return place;
+                }
+                depth -= 1;
+                level = outer[depth];
+            }
+        }
     }
-    place
 }
 
-/// Lists one pod and all pods, elements and values in it, and answers the index behind their items.
-#[cycle(listing)]
-fn list_pod(out: &mut [Item], place: usize, level: Level, first: First<'_>) -> usize
+/// Lists one pod, and the elements and values in it. The pods in it are answered where there are levels for them.
+#[inline(always)]
+fn list_pod<'a>(
+    out: &mut [Item],
+    place: usize,
+    levels: usize,
+    depth: usize,
+    level: Level<'a>,
+    first: First<'a>,
+) -> Listed<'a>
     requires room { place + length first.body.now + 1 < 2 ^ 64 }
     requires within { level.at + key_size level.keyed + header_size + length first.body.now < 2 ^ 63 }
-    requires deep { level.depth + level.levels < 2 ^ 64 }
-    ensures put { (b : List ℕ) → IsFirst level.keyed b first.entry →
-        ArePut place (items_within level.levels level.depth level.keyed level.at (first_of level.keyed b)) out.old result out.new }
-    ensures few { result ≤ place + 1 + length first.entry.body.now }
+    requires deep { depth + 1 < 2 ^ 64 }
+    requires some { 0 < levels }
+    ensures put { (b : List ℕ) → IsFirst level.entry.keyed b first.entry
+        → IsFirstListed levels depth level.entry.keyed level.entry.at b place out.old result out.new }
+    ensures few { result.place ≤ place + 1 + length first.entry.body.now }
+    ensures inner { IfSome result.inner (λ inner. (1 < levels) × (result.place ≡ place + 1)
+        × (length inner.pods.now ≤ length first.entry.body.now)
+        × (inner.at + length inner.pods.now
+        ≤ level.entry.at + key_size level.entry.keyed + header_size + length first.entry.body.now)) }
 {
-    if level.levels == 0 {
-        return place;
-    }
     let body_at = level.at + key_len(level.keyed) + HEADER_LEN;
-    put(out, place, head(level.depth, body_at, first));
-    let depth = level.depth + 1;
+    put(out, place, head(depth, body_at, first));
     let Some(inside) = inside_of(first.type_, first.body) else {
-        return put_elements(out, place + 1, depth, first.type_, first.body);
+        let behind = put_elements(out, place + 1, depth + 1, first.type_, first.body);
+        return Listed {
+            place: behind,
+            inner: None,
+        };
     };
     let inner = Level {
-        levels: level.levels - 1,
-        depth,
         keyed: inside.keyed,
         at: body_at + key_len(inside.keyed),
+        pods: inside.pods,
     };
-    list_pods(out, place + 1, inner, inside.pods)
+    Listed {
+        place: place + 1,
+        inner: if levels > 1 { Some(inner) } else { None },
+    }
 }
 
 /// The item of a pod whose body begins at the byte `body_at`.

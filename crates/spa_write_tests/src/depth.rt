@@ -50,6 +50,33 @@ fn is_sent(alloc: Global, input: &[u8]) -> Result<bool, Fail> {
     }
 }
 
+/// Whether it is written so to a device by a call that is given no allocator.
+fn is_sent_without_memory(alloc: Global, input: &[u8]) -> Result<bool, Fail> {
+    let value = Held::from(read(alloc, input)?);
+    let mut sink = IoSink::new(Vec::new(alloc));
+    let answer = write_sized(&mut sink, &*value);
+    let taken = sink.into_inner();
+    match answer {
+        Ok(len) => Ok(len == input.len() as u64 && taken.as_slice() == input),
+        // The vector, which is the device, has no memory.
+        Err(GenError::Io) => Err(Fail::from(AllocError)),
+        Err(error) => Err(failed(error)),
+    }
+}
+
+/// Few levels, the most that are written by calls, one more, and as many as calls write where memory lacks.
+const DEVICE_DEPTHS: &[u32] = &[1, 512, 513, 20_000];
+
+#[test]
+fn any_depth_is_sent_to_a_device(rt: HostRuntime) -> Result<(), Fail> {
+    for depth in DEVICE_DEPTHS {
+        let objects = nested_objects(rt.alloc(), *depth, &INNERMOST)?;
+        let is_sent = is_sent_without_memory(rt.alloc(), objects.as_slice())?;
+        assert_holds(&rt, is_sent, "written without an allocator");
+    }
+    Ok(())
+}
+
 /// Whether a clone of it is the same.
 fn is_copied(alloc: Global, input: &[u8]) -> Result<bool, Fail> {
     let value = Held::from(read(alloc, input)?);

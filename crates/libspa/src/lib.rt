@@ -32,14 +32,14 @@ pub mod utils {
 pub mod pod {
     pub use spa_fixed_sized::{CanonicalFixedSizedPod, ChoiceElement, FixedSizedPod};
     pub use spa_format::{laws, view_laws};
-    pub use spa_in_place::rewrite_in_place;
+    pub use spa_in_place::{rewrite_in_place, rewrite_into};
     pub use spa_lenient::{
         rewrite_all_leniently, rewrite_in_place_leniently, rewrite_into_leniently,
         rewrite_leniently,
     };
     pub use spa_print::Printed;
     pub use spa_rewrite::{accept_all, is_canonical, rewrite, rewrite_all, rewrite_in_parts};
-    pub use spa_scan::nests_within;
+    pub use spa_scan::{all_nest_within, nests_within};
     pub use spa_utils::Frame;
     pub use spa_value::{
         Bitmap, ChoiceValue, Held, Object, Property, PropertyFlags, Value, ValueArray, discard,

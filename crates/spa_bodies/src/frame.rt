@@ -1,5 +1,5 @@
 //! Opens and closes pods whose size is written after their body.
-ghost use Rattle.std.specs.Prelude.{◌≡◌, ◌+◌, ◌≤◌, ◌++◌, IfErr, IfOk, OnErr, OnOk, length};
+ghost use Rattle.std.specs.Prelude.{◌≡◌, ℕ, ◌+◌, ◌≤◌, ◌++◌, IfErr, IfOk, OnErr, OnOk, length, take};
 ghost use Rattle.spa_sink.specs.declared.gen_error.GenError.TheVariants.{TooLarge};
 ghost use Rattle.spa_format.specs.Words.{header_size, size_limit, word_bytes};
 ghost use Rattle.spa_bodies.specs.Written.{ClosesPod, IsClosed, IsPastLimit, begun_length};
@@ -12,6 +12,8 @@ use spa_sink::{GenError, PodOutput, put_two};
 pub fn begin<O: PodOutput>(out: &mut O, type_: u32) -> Result<usize, GenError>
     ensures start { IfOk result (λ start. start ≡ length (O.content out.old)) }
     ensures header { OnOk result (O.appends out.old (word_bytes 0 ++ word_bytes type_) out.new) }
+    ensures begun { OnErr result ((count : ℕ)
+        × O.appends out.old (take count (word_bytes 0 ++ word_bytes type_)) out.new) }
     ensures cause { IfErr result (λ e. O.refuses out.old header_size out.new e) }
 {
     let start = out.len();
@@ -30,6 +32,7 @@ pub fn close<O: PodOutput>(out: &mut O, start: usize) -> Result<(), GenError>
     ensures large { IfErr result (λ e. (e ≡ TooLarge) × (size_limit ≤ begun_length (O.content out.old) start)) }
     // or the length of its body doesn't fit 32 bits.
     ensures past { OnErr result (IsPastLimit O.content O.refuses out.old start) }
+    ensures unchanged { OnErr result (out.new ≡ out.old) }
 {
     let Ok(size) = u32::try_from(out.len() - (start + HEADER_LEN)) else {
         return Err(GenError::TooLarge);

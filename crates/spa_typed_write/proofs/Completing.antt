@@ -1,16 +1,15 @@
 -- Writes that are refused only where they have to be.
-use Rattle.std.proofs.Common.{◌≡◌, ℕ, ◌+◌, ◌<◌, ◌≤◌, ◌^◌, ◌⊎◌, inl, inr, ⊎_elim, List, ◌++◌, length, refl, sym, ap, ◌∙◌, subst, arith, append_assoc, length-append}
+use Rattle.std.proofs.Common.{◌≡◌, ℕ, ◌+◌, ◌<◌, ◌≤◌, inl, inr, ⊎_elim, List, [], ◌++◌, length, take, refl, sym, ap, ◌∙◌, subst, arith, append_assoc, length-append}
 use Rattle.std.proofs.lemmas.List.{append-nil}
 use Rattle.spa_sink.specs.declared.gen_error.GenError.{GenError}
 use Rattle.spa_sink.specs.declared.gen_error.GenError.TheVariants.{Full, TooLarge, NulInText, WrongCount, Failed, Io, OutOfMemory}
-use Rattle.spa_sink.specs.Writing.{MayRefuse, RefusedFor, RefusesWrite}
+use Rattle.spa_sink.specs.Writing.{Begun, MayRefuse, RefusedFor, Sent, none_sent, some_sent}
 use Rattle.spa_format.specs.Words.{header_size, size_limit, word_bytes}
 use Rattle.spa_format.specs.Tree.{Tree, Trees, Properties, member, no_trees, no_properties, object, object_type, property, struct, struct_type}
-use Rattle.spa_format.specs.Encoding.{encoded_body, encoding_of, encoded_pod, member_encodings, property_encodings}
-use Rattle.spa_format.specs.Writable.{HasNul, IsTooLarge, SomeHasNul, SomeTooLarge, SomeValueHasNul, SomeValueTooLarge}
-use Rattle.spa_format.proofs.Encodings.{key_words, length-encoded_pod, length-property_encoding, property_encoding, two_words_length, whole_members, whole_properties}
+use Rattle.spa_format.specs.Encoding.{encoded_body, encoding_of, member_encodings, property_encodings}
+use Rattle.spa_format.proofs.Encodings.{key_words, length-encoded_pod, property_encoding, two_words_length, whole_members, whole_properties}
 use Rattle.spa_sink.proofs.Sending.{RefusesAfter, RefusesLonger}
-use Rattle.spa_typed_write.specs.Complete.{AreWritten, ArePropertiesWritten, IsWritten, RefusesBytes, RefusesMembers, RefusesProperties, RefusesValue}
+use Rattle.spa_typed_write.specs.Complete.{AreWritten, ArePropertiesWritten, IsWritten, KeepsBytes, RefusesBytes, RefusesMembers, RefusesProperties, RefusesValue}
 use Rattle.spa_bodies.specs.Written.{Appending, IsClosed, IsExtended, IsPut, RefusesLeaf, Refusing, begun_length}
 use Rattle.spa_bodies.proofs.Frames.{begun_size, closed_encoding}
 
@@ -53,6 +52,31 @@ pub extended_as : {S : Type 0} {content : S → List ℕ} {refuses : Refusing S}
 extended_as {content = content} {refuses = refuses} a b xs ys is p =
     let P : List ℕ → Type 0 = λ l. IsExtended content refuses a l b in
     subst P is p
+
+-- What an output still holds after a refusal.
+
+pub keeps_begun : {S : Type 0} {content : S → List ℕ} {appends : Appending S} → ContentAppends content appends → (a b : S)
+    (xs : List ℕ) → Begun appends a xs b → KeepsBytes content a b
+keeps_begun {S = S} {content = content} {appends = appends} law a b xs h = by h.first h.sent
+  where
+    by : (first : List ℕ) → Sent appends a first b → KeepsBytes content a b
+    by first (none_sent n same) = record { behind = []; bytes = ap content (sym same) ∙ sym (append-nil (content a)) }
+    by first (some_sent p) = record { behind = first; bytes = law a b first p }
+
+pub keeps_taken : {S : Type 0} {content : S → List ℕ} {appends : Appending S} → ContentAppends content appends → (a b : S)
+    (xs : List ℕ) → ((count : ℕ) × appends a (take count xs) b) → KeepsBytes content a b
+keeps_taken law a b xs h = record { behind = take h.0 xs; bytes = law a b (take h.0 xs) h.1 }
+
+-- the bytes before those that were appended first
+pub keeps_behind : {S : Type 0} {content : S → List ℕ} {refuses : Refusing S} (a b c : S) (xs : List ℕ) →
+    IsExtended content refuses a xs b → KeepsBytes content b c → KeepsBytes content a c
+keeps_behind {content = content} a b c xs p h = record {
+  behind = xs ++ h.behind;
+  bytes = h.bytes ∙ ap (λ l. l ++ h.behind) p.bytes ∙ append_assoc (content a) xs h.behind;
+}
+
+pub keeps_itself : {S : Type 0} {content : S → List ℕ} (a : S) → KeepsBytes content a a
+keeps_itself {content = content} a = record { behind = []; bytes = sym (append-nil (content a)) }
 
 -- What an output may refuse.
 

@@ -1,5 +1,5 @@
 -- Writes that are refused only where they have to be: docs/FORMAT.md, "Values that can be written".
-use Rattle.std.specs.Prelude.{◌≡◌, ◌⊎◌, ℕ, ◌+◌, ◌<◌, List, length}
+use Rattle.std.specs.Prelude.{◌≡◌, ◌⊎◌, ℕ, ◌+◌, ◌<◌, List, ◌++◌, length}
 use Rattle.spa_sink.specs.declared.gen_error.GenError.{GenError}
 use Rattle.spa_sink.specs.declared.gen_error.GenError.TheVariants.{Full}
 use Rattle.spa_sink.specs.Writing.{MayRefuse, RefusedFor}
@@ -34,6 +34,11 @@ RefusesMembers refuses old vs = RefusesBytes refuses old (SomeHasNul vs) (SomeTo
 -- why properties aren't written: a value can't be written, or the output may refuse their bytes
 abbrev pub RefusesProperties : {S : Type 0} → Refusing S → S → Properties → GenError → Type 0
 RefusesProperties refuses old ps = RefusesBytes refuses old (SomeValueHasNul ps) (SomeValueTooLarge ps) (length (property_encodings ps))
+
+-- an output still holds the bytes that it held, and zero or more behind them
+pub record KeepsBytes {S : Type 0} (content : S → List ℕ) (old new : S) : Type 0 where
+  pub behind : List ℕ
+  pub bytes : content new ≡ content old ++ behind
 
 -- the encoding of this value, which can be written, was appended to an output
 pub record IsWritten {S : Type 0} (content : S → List ℕ) (refuses : Refusing S) (old : S) (v : Tree) (new : S) : Type 0 where

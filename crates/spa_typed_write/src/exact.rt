@@ -1,10 +1,10 @@
 //! Types whose write is refused only where their value can't be written or the output refuses it.
-ghost use Rattle.std.specs.Prelude.{◌≡◌, ◌≤◌, IfErr, OnOk, length, map};
+ghost use Rattle.std.specs.Prelude.{◌≡◌, ◌≤◌, IfErr, OnErr, OnOk, length, map};
 ghost use Rattle.spa_fixed_sized.specs.Choices.{choice_tree};
 ghost use Rattle.spa_format.specs.Tree as tree;
 ghost use Rattle.spa_format.specs.Tree.{Tree};
 ghost use Rattle.spa_value.specs.View.{view};
-ghost use Rattle.spa_typed_write.specs.Complete.{IsWritten, RefusesValue, Unwritable};
+ghost use Rattle.spa_typed_write.specs.Complete.{IsWritten, KeepsBytes, RefusesValue, Unwritable};
 
 use crate::serializer::{PodSerialize, PodSerializer, SerializeSuccess};
 use crate::whole::written_since;
@@ -22,10 +22,11 @@ use spa_write::write_sized;
 /// The members and the properties that `write_struct` and `write_object` write have to be of such types. A `SerializeAs` is one, and so is each
 /// built-in type.
 pub trait ExactSerialize: PodSerialize {
-    /// Appends the value's encoding. The contract doesn't state what a refused write leaves in the output.
+    /// Appends the value's encoding. After a refusal the output holds the bytes that it held before, and zero or more behind them.
     fn write_exactly<O: PodOutput>(&self, out: &mut O) -> Result<(), GenError>
         ensures written { OnOk result (IsWritten O.content O.refuses out.old (Self.value self.now) out.new) }
-        ensures refused { IfErr result (RefusesValue O.refuses out.old (Self.value self.now)) };
+        ensures refused { IfErr result (RefusesValue O.refuses out.old (Self.value self.now)) }
+        ensures keeps { OnErr result (KeepsBytes O.content out.old out.new) };
 }
 
 /// A type that is written as another value: each built-in type, and a type of a program's own, by `write_struct` of its members or by
@@ -35,10 +36,11 @@ pub trait SerializeAs {
     /// The tree of the value that is written.
     ghost says: { Self → Tree };
 
-    /// Appends the encoding of that value. The contract doesn't state what a refused write leaves in the output.
+    /// Appends the encoding of that value. After a refusal the output holds the bytes that it held before, and zero or more behind them.
     fn write_as<O: PodOutput>(&self, out: &mut O) -> Result<(), GenError>
         ensures written { OnOk result (IsWritten O.content O.refuses out.old (says self.now) out.new) }
-        ensures refused { IfErr result (RefusesValue O.refuses out.old (says self.now)) };
+        ensures refused { IfErr result (RefusesValue O.refuses out.old (says self.now)) }
+        ensures keeps { OnErr result (KeepsBytes O.content out.old out.new) };
 }
 
 impl<T: SerializeAs> PodSerialize for T {
@@ -86,6 +88,7 @@ pub(crate) fn write_number<T: CanonicalFixedSizedPod, O: PodOutput>(
 ) -> Result<(), GenError>
     ensures written { OnOk result (IsWritten O.content O.refuses out.old (tree.fixed (T.fixed value.now)) out.new) }
     ensures refused { IfErr result (RefusesValue O.refuses out.old (tree.fixed (T.fixed value.now))) }
+    ensures keeps { OnErr result (KeepsBytes O.content out.old out.new) }
 {
     put_number(out, value)
 }
@@ -98,6 +101,7 @@ pub(crate) fn write_elements<T: CanonicalFixedSizedPod, O: PodOutput>(
     ensures written { OnOk result (IsWritten O.content O.refuses out.old
         (tree.array T.kind (map T.fixed values.now)) out.new) }
     ensures refused { IfErr result (RefusesValue O.refuses out.old (tree.array T.kind (map T.fixed values.now))) }
+    ensures keeps { OnErr result (KeepsBytes O.content out.old out.new) }
 {
     put_elements(out, values)
 }
@@ -110,6 +114,7 @@ pub(crate) fn write_alternatives<T: ChoiceElement, O: PodOutput>(
     ensures written { OnOk result (IsWritten O.content O.refuses out.old
         (choice_tree T.kind T.fixed choice.now) out.new) }
     ensures refused { IfErr result (RefusesValue O.refuses out.old (choice_tree T.kind T.fixed choice.now)) }
+    ensures keeps { OnErr result (KeepsBytes O.content out.old out.new) }
 {
     put_alternatives(out, choice)
 }
@@ -118,6 +123,7 @@ pub(crate) fn write_alternatives<T: ChoiceElement, O: PodOutput>(
 pub(crate) fn write_text<O: PodOutput>(out: &mut O, text: &str) -> Result<(), GenError>
     ensures written { OnOk result (IsWritten O.content O.refuses out.old (tree.string text.now) out.new) }
     ensures refused { IfErr result (RefusesValue O.refuses out.old (tree.string text.now)) }
+    ensures keeps { OnErr result (KeepsBytes O.content out.old out.new) }
 {
     put_text(out, text)
 }
@@ -126,6 +132,7 @@ pub(crate) fn write_text<O: PodOutput>(out: &mut O, text: &str) -> Result<(), Ge
 pub(crate) fn write_bytes<O: PodOutput>(out: &mut O, bytes: &[u8]) -> Result<(), GenError>
     ensures written { OnOk result (IsWritten O.content O.refuses out.old (tree.bytes bytes.now) out.new) }
     ensures refused { IfErr result (RefusesValue O.refuses out.old (tree.bytes bytes.now)) }
+    ensures keeps { OnErr result (KeepsBytes O.content out.old out.new) }
 {
     put_bytes(out, bytes)
 }
@@ -134,6 +141,7 @@ pub(crate) fn write_bytes<O: PodOutput>(out: &mut O, bytes: &[u8]) -> Result<(),
 pub(crate) fn write_bitmap<O: PodOutput>(out: &mut O, bytes: &[u8]) -> Result<(), GenError>
     ensures written { OnOk result (IsWritten O.content O.refuses out.old (tree.bitmap bytes.now) out.new) }
     ensures refused { IfErr result (RefusesValue O.refuses out.old (tree.bitmap bytes.now)) }
+    ensures keeps { OnErr result (KeepsBytes O.content out.old out.new) }
 {
     put_bitmap(out, bytes)
 }
@@ -146,6 +154,7 @@ pub(crate) fn write_pointer<O: PodOutput>(
 ) -> Result<(), GenError>
     ensures written { OnOk result (IsWritten O.content O.refuses out.old (tree.pointer type_ address) out.new) }
     ensures refused { IfErr result (RefusesValue O.refuses out.old (tree.pointer type_ address)) }
+    ensures keeps { OnErr result (KeepsBytes O.content out.old out.new) }
 {
     put_pointer(out, type_, address)
 }

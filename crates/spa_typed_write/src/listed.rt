@@ -1,19 +1,21 @@
 //! Writes the members of a struct and the properties of an object, one after another.
-ghost use Rattle.std.specs.Prelude.{◌≡◌, ◌≤◌, ◌++◌, ◌⊎◌, IfErr, IfOk, OnOk, length};
+ghost use Rattle.std.specs.Prelude.{◌≡◌, ◌≤◌, ◌++◌, ◌⊎◌, IfErr, IfOk, OnErr, OnOk, length};
 ghost use Rattle.spa_sink.specs.Writing.{MayRefuse};
 ghost use Rattle.spa_format.specs.Encoding.{encoding_of};
 ghost use Rattle.spa_format.specs.Tree.{Properties, Trees, member, no_properties, no_trees, object, property, struct};
 ghost use Rattle.spa_format.specs.Typed.{IsTyped};
 ghost use Rattle.spa_format.specs.Writable.{IsWritable};
-ghost use Rattle.spa_typed_write.specs.Complete.{ArePropertiesWritten, AreWritten, IsWritten, RefusesMembers, RefusesProperties, RefusesValue, Unwritable};
+ghost use Rattle.spa_typed_write.specs.Complete.{ArePropertiesWritten, AreWritten, IsWritten, KeepsBytes, RefusesMembers, RefusesProperties, RefusesValue, Unwritable};
 ghost use Rattle.spa_typed_write.specs.Listed.{optional_property};
 
 use crate::exact::ExactSerialize;
 use crate::serializer::{PodSerializer, SerializeSuccess};
 use crate::whole::written_since;
+use bitflags::Flags;
 use spa_bodies::{begin, close};
 use spa_sink::{GenError, PodOutput, put_two};
 use spa_utils::SpaTypes;
+use spa_value::PropertyFlags;
 
 /// The members of a struct, the first and those behind it, up to `()`: `(&a, (&b, (&c, ())))` are three.
 pub trait SerializeMembers {
@@ -23,7 +25,8 @@ pub trait SerializeMembers {
     /// Appends the encodings of the members one after another.
     fn write_members<O: PodOutput>(&self, out: &mut O) -> Result<(), GenError>
         ensures written { OnOk result (AreWritten O.content O.refuses out.old (members self.now) out.new) }
-        ensures refused { IfErr result (RefusesMembers O.refuses out.old (members self.now)) };
+        ensures refused { IfErr result (RefusesMembers O.refuses out.old (members self.now)) }
+        ensures keeps { OnErr result (KeepsBytes O.content out.old out.new) };
 }
 
 impl SerializeMembers for () {
@@ -50,8 +53,8 @@ impl<A: ExactSerialize, R: SerializeMembers> SerializeMembers for (&A, R) {
 #[derive(Drop)]
 pub struct Maybe<'a, P>(pub &'a Option<P>);
 
-/// The properties of an object, without flags: the first key and value and those behind it, up to `()`. So
-/// `((1, &a), ((2, Maybe(&b)), ()))` is a property of a and, where b is Some, a property of b.
+/// The properties of an object: the first key and value and those behind it, up to `()`. So `((1, &a), ((2, Maybe(&b)), ()))` is a property of a
+/// and, where b is Some, a property of b. A property has no flags, unless they stand between its key and its value: `((1, flags, &a), ())`.
 pub trait SerializeProperties {
     /// The properties that are written.
     ghost properties: { Self → Properties };
@@ -59,7 +62,8 @@ pub trait SerializeProperties {
     /// Appends them one after another.
     fn write_properties<O: PodOutput>(&self, out: &mut O) -> Result<(), GenError>
         ensures written { OnOk result (ArePropertiesWritten O.content O.refuses out.old (properties self.now) out.new) }
-        ensures refused { IfErr result (RefusesProperties O.refuses out.old (properties self.now)) };
+        ensures refused { IfErr result (RefusesProperties O.refuses out.old (properties self.now)) }
+        ensures keeps { OnErr result (KeepsBytes O.content out.old out.new) };
 }
 
 impl SerializeProperties for () {
@@ -71,19 +75,21 @@ impl SerializeProperties for () {
     }
 }
 
-/// Appends a property without flags, and those behind it.
+/// Appends a property, and those behind it.
 fn write_property<A: ExactSerialize, R: SerializeProperties, O: PodOutput>(
     out: &mut O,
     key: u32,
+    flags: u32,
     value: &A,
     others: &R,
 ) -> Result<(), GenError>
     ensures written { OnOk result (ArePropertiesWritten O.content O.refuses out.old
-        (property key 0 (A.value value.now) (R.properties others.now)) out.new) }
+        (property key flags (A.value value.now) (R.properties others.now)) out.new) }
     ensures refused { IfErr result (RefusesProperties O.refuses out.old
-        (property key 0 (A.value value.now) (R.properties others.now))) }
+        (property key flags (A.value value.now) (R.properties others.now))) }
+    ensures keeps { OnErr result (KeepsBytes O.content out.old out.new) }
 {
-    if let Err(e) = put_two(out, key, 0) {
+    if let Err(e) = put_two(out, key, flags) {
         return Err(e);
     }
     if let Err(e) = value.write_exactly(out) {
@@ -96,7 +102,16 @@ impl<A: ExactSerialize, R: SerializeProperties> SerializeProperties for ((u32, &
     ghost properties = { λ x. property x.0.0 0 (A.value x.0.1.now) (R.properties x.1) };
 
     fn write_properties<O: PodOutput>(&self, out: &mut O) -> Result<(), GenError> {
-        write_property(out, self.0.0, self.0.1, &self.1)
+        write_property(out, self.0.0, 0, self.0.1, &self.1)
+    }
+}
+
+impl<A: ExactSerialize, R: SerializeProperties> SerializeProperties
+    for ((u32, PropertyFlags, &A), R) {
+    ghost properties = { λ x. property x.0.0 x.0.1.0 (A.value x.0.2.now) (R.properties x.1) };
+
+    fn write_properties<O: PodOutput>(&self, out: &mut O) -> Result<(), GenError> {
+        write_property(out, self.0.0, self.0.1.bits(), self.0.2, &self.1)
     }
 }
 
@@ -105,7 +120,7 @@ impl<A: ExactSerialize, R: SerializeProperties> SerializeProperties for ((u32, M
 
     fn write_properties<O: PodOutput>(&self, out: &mut O) -> Result<(), GenError> {
         match self.0.1.0 {
-            Some(value) => write_property(out, self.0.0, value, &self.1),
+            Some(value) => write_property(out, self.0.0, 0, value, &self.1),
             None => self.1.write_properties(out),
         }
     }
@@ -119,6 +134,7 @@ pub fn write_struct<M: SerializeMembers, O: PodOutput>(
 ) -> Result<(), GenError>
     ensures written { OnOk result (IsWritten O.content O.refuses out.old (struct (M.members members.now)) out.new) }
     ensures refused { IfErr result (RefusesValue O.refuses out.old (struct (M.members members.now))) }
+    ensures keeps { OnErr result (KeepsBytes O.content out.old out.new) }
 {
     let start = match begin(out, SpaTypes::Struct.0) {
         Ok(start) => start,
@@ -142,6 +158,7 @@ pub fn write_object<P: SerializeProperties, O: PodOutput>(
     ensures written { OnOk result (IsWritten O.content O.refuses out.old
         (object type_ id (P.properties properties.now)) out.new) }
     ensures refused { IfErr result (RefusesValue O.refuses out.old (object type_ id (P.properties properties.now))) }
+    ensures keeps { OnErr result (KeepsBytes O.content out.old out.new) }
 {
     let start = match begin(out, SpaTypes::Object.0) {
         Ok(start) => start,

@@ -4,7 +4,7 @@ use Rattle.spa_format.specs.Encoding.{property_encodings}
 use Rattle.spa_format.specs.Tree.{object_type}
 use Rattle.spa_format.specs.Words.{word_bytes}
 use Rattle.spa_format.proofs.Encodings.{two_words_length}
-use Rattle.spa_typed_write.proofs.Completing.{extended_by, object_header_refused, object_past, object_words_refused, object_written, properties_refused}
+use Rattle.spa_typed_write.proofs.Completing.{extended_by, keeps_behind, keeps_taken, object_header_refused, object_past, object_words_refused, object_written, properties_refused}
 use Rattle.spa_typed_write.proofs.listed.write_object.Goals as goal
 
 pub returns-in-Err-clause-refused : goal.returns-in-Err-clause-refused
@@ -26,6 +26,26 @@ returns-in-Err-write_properties-clause-refused g c =
     properties_refused g.met.O.PodSink.refuses_longer c.args.out.now c.begin.new.out c.put_two.new.sink c.args.type_ c.args.id
     (g.P.SerializeProperties.properties c.args.properties.now) c.in-Err-write_properties.e header words
     c.in-Err-write_properties.ensures.refused
+
+pub returns-in-Err-clause-keeps : goal.returns-in-Err-clause-keeps
+returns-in-Err-clause-keeps g c =
+    keeps_taken g.met.O.PodOutput.content_appends c.args.out.now c.begin.new.out (word_bytes 0 ++ word_bytes object_type)
+    c.in-Err.ensures.begun
+
+pub returns-in-Err-put_two-clause-keeps : goal.returns-in-Err-put_two-clause-keeps
+returns-in-Err-put_two-clause-keeps g c =
+    let header = extended_by g.met.O.PodOutput.content_appends g.met.O.PodSink.refuses_after c.args.out.now c.begin.new.out _ c.in-Ok.ensures.header in
+    keeps_behind c.args.out.now c.begin.new.out c.put_two.new.sink _ header
+    (keeps_taken g.met.O.PodOutput.content_appends c.begin.new.out c.put_two.new.sink
+    (word_bytes c.args.type_ ++ word_bytes c.args.id) c.in-Err-put_two.ensures.begun)
+
+pub returns-in-Err-write_properties-clause-keeps :
+    goal.returns-in-Err-write_properties-clause-keeps
+returns-in-Err-write_properties-clause-keeps g c =
+    let header = extended_by g.met.O.PodOutput.content_appends g.met.O.PodSink.refuses_after c.args.out.now c.begin.new.out _ c.in-Ok.ensures.header in
+    let words = extended_by g.met.O.PodOutput.content_appends g.met.O.PodSink.refuses_after c.begin.new.out c.put_two.new.sink _ c.in_default.ensures.ok in
+    keeps_behind c.args.out.now c.begin.new.out c.write_properties.new.out _ header
+    (keeps_behind c.begin.new.out c.put_two.new.sink c.write_properties.new.out _ words c.in-Err-write_properties.ensures.keeps)
 
 pub close-requires : goal.close-requires
 close-requires g c =

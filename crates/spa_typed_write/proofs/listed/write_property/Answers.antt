@@ -1,11 +1,10 @@
-use Rattle.std.proofs.Common.{arith}
 use Rattle.std.proofs.lemmas.Result.{IfErr-weaker, on_ok_weaker}
-use Rattle.spa_typed_write.proofs.Completing.{behind_refused, extended_by, property_written, value_refused, words_refused}
+use Rattle.spa_typed_write.proofs.Completing.{behind_refused, extended_by, property_written, words_refused}
 use Rattle.spa_typed_write.proofs.listed.write_property.Goals as goal
 
 pub returns-in-Err-clause-refused : goal.returns-in-Err-clause-refused
 returns-in-Err-clause-refused g c =
-    words_refused g.met.O.PodSink.refuses_longer c.args.out.now c.put_two.new.sink c.args.key 0
+    words_refused g.met.O.PodSink.refuses_longer c.args.out.now c.put_two.new.sink c.args.key c.args.flags
     (g.A.PodSerialize.value c.args.value.now) (g.R.SerializeProperties.properties c.args.others.now) c.in-Err.e
     c.in-Err.ensures.cause
 
@@ -13,8 +12,8 @@ pub returns-clause-written : goal.returns-clause-written
 returns-clause-written g c =
     let words = extended_by g.met.O.PodOutput.content_appends g.met.O.PodSink.refuses_after c.args.out.now c.put_two.new.sink _ c.in_default.ensures.ok in
     on_ok_weaker c.write_properties.result
-    (property_written c.args.out.now c.put_two.new.sink c.write_exactly.new.out c.write_properties.new.out c.args.key 0
-    (g.A.PodSerialize.value c.args.value.now) (g.R.SerializeProperties.properties c.args.others.now) c.ranges.key.fits (omega arith)
+    (property_written c.args.out.now c.put_two.new.sink c.write_exactly.new.out c.write_properties.new.out c.args.key c.args.flags
+    (g.A.PodSerialize.value c.args.value.now) (g.R.SerializeProperties.properties c.args.others.now) c.ranges.key.fits c.ranges.flags.fits
     words c.in_default-write_exactly.ensures.written)
     c.write_properties.ensures.written
 
@@ -22,7 +21,7 @@ pub returns-clause-refused : goal.returns-clause-refused
 returns-clause-refused g c =
     let words = extended_by g.met.O.PodOutput.content_appends g.met.O.PodSink.refuses_after c.args.out.now c.put_two.new.sink _ c.in_default.ensures.ok in
     IfErr-weaker c.write_properties.result _ _
-    (λ e r. behind_refused g.met.O.PodSink.refuses_longer c.args.out.now c.put_two.new.sink c.write_exactly.new.out c.args.key 0
+    (λ e r. behind_refused g.met.O.PodSink.refuses_longer c.args.out.now c.put_two.new.sink c.write_exactly.new.out c.args.key c.args.flags
     (g.A.PodSerialize.value c.args.value.now) (g.R.SerializeProperties.properties c.args.others.now) e words
     c.in_default-write_exactly.ensures.written r)
     c.write_properties.ensures.refused

@@ -4,7 +4,7 @@ use Rattle.spa_format.specs.Encoding.{member_encodings}
 use Rattle.spa_format.specs.Tree.{struct_type}
 use Rattle.spa_format.specs.Words.{word_bytes}
 use Rattle.spa_format.proofs.Encodings.{two_words_length}
-use Rattle.spa_typed_write.proofs.Completing.{extended_by, header_refused, members_refused, struct_past, struct_written}
+use Rattle.spa_typed_write.proofs.Completing.{extended_by, header_refused, keeps_behind, keeps_taken, members_refused, struct_past, struct_written}
 use Rattle.spa_typed_write.proofs.listed.write_struct.Goals as goal
 
 pub returns-in-Err-clause-refused : goal.returns-in-Err-clause-refused
@@ -17,6 +17,16 @@ returns-in-Err-write_members-clause-refused g c =
     let header = extended_by g.met.O.PodOutput.content_appends g.met.O.PodSink.refuses_after c.args.out.now c.begin.new.out _ c.in-Ok.ensures.header in
     members_refused g.met.O.PodSink.refuses_longer c.args.out.now c.begin.new.out (g.M.SerializeMembers.members c.args.members.now)
     c.in-Err-write_members.e header c.in-Err-write_members.ensures.refused
+
+pub returns-in-Err-clause-keeps : goal.returns-in-Err-clause-keeps
+returns-in-Err-clause-keeps g c =
+    keeps_taken g.met.O.PodOutput.content_appends c.args.out.now c.begin.new.out (word_bytes 0 ++ word_bytes struct_type)
+    c.in-Err.ensures.begun
+
+pub returns-in-Err-write_members-clause-keeps : goal.returns-in-Err-write_members-clause-keeps
+returns-in-Err-write_members-clause-keeps g c =
+    let header = extended_by g.met.O.PodOutput.content_appends g.met.O.PodSink.refuses_after c.args.out.now c.begin.new.out _ c.in-Ok.ensures.header in
+    keeps_behind c.args.out.now c.begin.new.out c.write_members.new.out _ header c.in-Err-write_members.ensures.keeps
 
 pub close-requires : goal.close-requires
 close-requires g c =

@@ -34,7 +34,7 @@ pub(crate) fn put_padding(bytes: &mut Written, size: usize) -> Result<(), Errno>
     ensures unchanged { OnErr result (bytes.new ≡ bytes.old) }
     ensures memory { IfErr result (λ e. e ≡ NOMEM) }
 {
-    bytes.append_first([0; HEADER_LEN], padding_len(size))
+    bytes.append_zeros(padding_len(size))
 }
 
 /// Appends the encoding of a value of fixed size.

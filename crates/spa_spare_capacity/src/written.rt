@@ -29,7 +29,10 @@ impl Model for Written {
     ghost invariant = { λ w. w.count ≤ length w.bytes.items };
 }
 
-/// The least number of bytes by which the vector is made longer, where it has the capacity.
+/// The least capacity in bytes of a vector that had to be made larger, and the least number of zeros that are added to it at once.
+const FIRST_ROOM: usize = 256;
+
+/// The most zeros that are added at once, unless an append needs more. Up to here the vector is made twice as long.
 const ROOM_STEP: usize = 4096;
 
 /// The vector, at least `more` bytes longer where there is memory for it. It is moved and not borrowed, so that a builder
@@ -41,10 +44,11 @@ fn grown(mut bytes: Vec<u8>, more: usize) -> Vec<u8>
         × (length bytes.items ≤ length result.items) }
 {
     let had = bytes.len();
-    if bytes.reserve(more).is_err() {
+    if bytes.capacity() - had < more && bytes.reserve(more.max(FIRST_ROOM)).is_err() {
         return bytes;
     }
-    let wanted = had.saturating_add(more.max(ROOM_STEP));
+    let step = had.min(ROOM_STEP).max(FIRST_ROOM);
+    let wanted = had.saturating_add(more.max(step));
     let fits = wanted.min(bytes.capacity());
     let _ = bytes.resize(fits, 0);
     bytes
@@ -60,12 +64,14 @@ fn make_room(bytes: &mut Vec<u8>, count: usize, more: usize) -> Result<(), Errno
     ensures kept { take count bytes.new.items ≡ take count bytes.old.items }
     ensures memory { IfErr result (λ e. e ≡ NOMEM) }
 {
-    if count + more <= bytes.len() {
+    let end = count + more;
+    if end <= bytes.len() {
         return Ok(());
     }
     let alloc = *bytes.allocator();
-    *bytes = grown(mem::replace(bytes, Vec::new(alloc)), more);
-    if count + more <= bytes.len() {
+    let lacks = end - bytes.len();
+    *bytes = grown(mem::replace(bytes, Vec::new(alloc)), lacks);
+    if end <= bytes.len() {
         return Ok(());
     }
     Err(Errno::NOMEM)
@@ -80,6 +86,21 @@ fn write_over(bytes: &mut Vec<u8>, at: usize, piece: &[u8])
 {
     let end = at + piece.len();
     bytes[at..end].copy_from_slice(piece);
+}
+
+/// Overwrites the bytes from the offset `at` on with at most eight zeros. Where eight fit, eight are written, which takes one store.
+#[inline(always)]
+fn write_zeros(bytes: &mut Vec<u8>, at: usize, zeros: usize)
+    requires few { zeros ≤ header_size }
+    requires within { at + zeros ≤ length bytes.old.items }
+    ensures written { take (at + zeros) bytes.new.items ≡ take at bytes.old.items ++ replicate zeros 0 }
+    ensures same { length bytes.new.items ≡ length bytes.old.items }
+{
+    if HEADER_LEN <= bytes.len() - at {
+        write_over(bytes, at, &[0; HEADER_LEN]);
+    } else {
+        write_over(bytes, at, &[0; HEADER_LEN][..zeros]);
+    }
 }
 
 impl Written {
@@ -205,16 +226,39 @@ impl Written {
     {
         let at = self.count;
         let size = front.len() + back.len();
-        make_room(&mut self.bytes, at, HEADER_LEN + size + HEADER_LEN)?;
+        make_room(&mut self.bytes, at, HEADER_LEN + size + zeros)?;
         let body = at + HEADER_LEN;
         let rest = body + front.len();
         let end = rest + back.len();
         write_over(&mut self.bytes, at, &header);
         write_over(&mut self.bytes, body, front);
         write_over(&mut self.bytes, rest, back);
-        write_over(&mut self.bytes, end, &[0; HEADER_LEN]);
+        write_zeros(&mut self.bytes, end, zeros);
         self.count = end + zeros;
         Ok(())
+    }
+
+    /// Appends at most eight zeros. Refused only for want of memory.
+    #[inline(always)]
+    pub fn append_zeros(&mut self, zeros: usize) -> Result<(), Errno>
+        requires { zeros ≤ header_size }
+        ensures ok { OnOk result (self.new ≡ self.old ++ replicate zeros 0) }
+        ensures unchanged { OnErr result (self.new ≡ self.old) }
+        ensures memory { IfErr result (λ e. e ≡ NOMEM) }
+    {
+        let at = self.count;
+        make_room(&mut self.bytes, at, zeros)?;
+        write_zeros(&mut self.bytes, at, zeros);
+        self.count = at + zeros;
+        Ok(())
+    }
+
+    /// Asks for memory for `more` bytes behind those written. Where there is none, the appends that need it are refused.
+    pub fn reserve(&mut self, more: usize)
+        ensures { self.new ≡ self.old }
+    {
+        let spare = self.bytes.len() - self.count;
+        let _ = self.bytes.reserve(more.saturating_sub(spare));
     }
 
     /// Overwrites the four bytes at the offset `at` with a word.

@@ -12,3 +12,4 @@ pub mod Valued
 pub mod AtHand
 pub mod Making
 pub mod Bodies
+mod Choices

@@ -1,5 +1,6 @@
 //! The builder.
 ghost use Rattle.std.specs.Prelude.{◌≡◌, ◌≢◌, ◌+◌, [], IfErr, IfOk, IsErrAnd, IsOkAnd, List, length, map};
+ghost use Rattle.spa_fixed_sized.specs.Choices.{choice_tree};
 ghost use Rattle.spa_fixed_sized.specs.Reading.{AreWhole};
 ghost use Rattle.spa_format.specs.Kind.{Fixed, bool, double, fd, float, fraction, id, int, long, none, rectangle};
 ghost use Rattle.spa_format.specs.Encoding.{encoding_of, member_encodings};
@@ -16,8 +17,8 @@ ghost use Rattle.spa_utils.specs.declared.errno.TheConstants.Errno.{INVAL};
 
 use crate::begun::{Elements, NO_ELEMENTS, Stage, What};
 use crate::building::{
-    add_bodies, add_body, add_elements, add_encoding, add_fixed, add_key, add_values, are_bodies,
-    begin_tree, close, leave,
+    add_bodies, add_body, add_elements, add_encoding, add_fixed, add_key, add_values,
+    add_whole_choice, are_bodies, begin_tree, close, leave,
 };
 use crate::bytes::pointer_pod;
 use crate::frames::Frames;
@@ -25,9 +26,9 @@ use crate::heads::{array_head, choice_head, object_head, struct_head};
 use crate::pods::add_seen;
 use crate::values::add_any;
 use spa_bytes::POINTER_LEN;
-use spa_fixed_sized::{CanonicalFixedSizedPod, FLAGS_SHAPE};
+use spa_fixed_sized::{CanonicalFixedSizedPod, ChoiceElement, FLAGS_SHAPE};
 use spa_spare_capacity::Written;
-use spa_utils::{Errno, Fd, Float32, Float64, Fraction, Frame, Id, Rectangle, SpaTypes};
+use spa_utils::{Choice, Errno, Fd, Float32, Float64, Fraction, Frame, Id, Rectangle, SpaTypes};
 use spa_value::{Value, ValueArray};
 use spa_view::Pod;
 use std::marker::Model;
@@ -251,6 +252,14 @@ impl Builder {
             return Err(Errno::INVAL);
         }
         add_bodies::<T>(&mut self.bytes, &mut self.frames, bodies)
+    }
+
+    /// Adds a whole choice.
+    pub fn add_choice<T: ChoiceElement>(&mut self, choice: &Choice<T>) -> Result<(), Errno>
+        ensures { (s : State) → IsAt self.old s
+            → Makes (step s (add (choice_tree T.kind T.fixed choice.now))) self.old self.new result }
+    {
+        add_whole_choice(&mut self.bytes, &mut self.frames, choice)
     }
 
     /// Adds any value: one of fixed size as the call of its kind does, any other as its encoding. The value is walked once:

@@ -1,6 +1,7 @@
 //! The calls of a builder, over its bytes and its frames.
 ghost use Rattle.std.specs.Prelude.{◌≡◌, ◌+◌, ◌*◌, ◌<◌, ◌≤◌, ◌∷◌, ◌++◌, [], List, ℕ, None, IsTrue, false, length, map, nat_lt, Decides, IfOk, true};
 ghost use Rattle.spa_format.specs.Kind.{Fixed, kind_of, type_number, fixed_body};
+ghost use Rattle.spa_fixed_sized.specs.Choices.{choice_tree};
 ghost use Rattle.spa_fixed_sized.specs.Reading.{AreWhole};
 ghost use Rattle.spa_format.specs.Pod.{AreElements};
 ghost use Rattle.spa_format.specs.Tree.{Tree, array, fixed, type_of};
@@ -17,11 +18,11 @@ ghost use Rattle.spa_builder.specs.Answers.{Makes};
 use crate::begun::{BegunPod, Stage, What};
 use crate::bytes::{put_bodies, put_fixed_pod, put_padding, put_pod};
 use crate::elements::{is_finished, is_first, takes_element, takes_elements, with_element};
-use crate::frames::{Frames, admit, fill, takes_key, takes_trees};
+use crate::frames::{Frames, SIZE_LIMIT, admit, fill, takes_key, takes_trees};
 use spa_bytes::{HEADER_LEN, two_words};
-use spa_fixed_sized::{CanonicalFixedSizedPod, put_array};
+use spa_fixed_sized::{CanonicalFixedSizedPod, ChoiceElement, choice_size, put_array, put_choice};
 use spa_spare_capacity::Written;
-use spa_utils::{Errno, Frame};
+use spa_utils::{Choice, Errno, Frame};
 use spa_value::ValueArray;
 
 /// Adds a pod whose body is given in two parts, where a value of any type is allowed.
@@ -93,8 +94,49 @@ pub(crate) fn add_values<T: CanonicalFixedSizedPod>(
 {
     let innermost = frames.innermost();
     let had = bytes.len();
-    admit(had, frames, array_size::<T>(values.len()))?;
+    let size = array_size::<T>(values.len());
+    admit(had, frames, size)?;
+    bytes.reserve(size.saturating_add(2 * HEADER_LEN));
     match put_array(bytes, values) {
+        Ok(()) => {
+            fill(frames, innermost);
+            Ok(())
+        }
+        Err(_) => {
+            bytes.truncate(had);
+            Err(Errno::NOMEM)
+        }
+    }
+}
+
+/// The size in bytes of the body of a choice; where it is 4294967296 or more, any size that is.
+fn size_of_choice<T: ChoiceElement>(choice: &Choice<T>) -> usize
+    ensures exact { result < size_limit → result ≡ length (encoded_body (choice_tree T.kind T.fixed choice.now)) }
+    ensures large { size_limit ≤ result → size_limit ≤ length (encoded_body (choice_tree T.kind T.fixed choice.now)) }
+{
+    match choice_size(choice) {
+        Some(size) => size as usize,
+        None => SIZE_LIMIT,
+    }
+}
+
+/// Adds a choice, where a value of any type is allowed. Where memory runs out, the part that was written is removed.
+pub(crate) fn add_whole_choice<T: ChoiceElement>(
+    bytes: &mut Written,
+    frames: &mut Frames,
+    choice: &Choice<T>,
+) -> Result<(), Errno>
+    requires holds { HasState (fields_of bytes.old frames.old) }
+    ensures { (s : State) → IsAt (fields_of bytes.old frames.old) s
+        → Makes (step s (add (choice_tree T.kind T.fixed choice.now))) (fields_of bytes.old frames.old)
+        (fields_of bytes.new frames.new) result }
+{
+    let innermost = frames.innermost();
+    let had = bytes.len();
+    let size = size_of_choice(choice);
+    admit(had, frames, size)?;
+    bytes.reserve(size.saturating_add(2 * HEADER_LEN));
+    match put_choice(bytes, choice) {
         Ok(()) => {
             fill(frames, innermost);
             Ok(())
@@ -133,6 +175,7 @@ pub(crate) fn add_bodies<T: CanonicalFixedSizedPod>(
     let innermost = frames.innermost();
     let had = bytes.len();
     admit(had, frames, HEADER_LEN + bodies.len())?;
+    bytes.reserve(bodies.len().saturating_add(3 * HEADER_LEN));
     match put_bodies::<T>(bytes, bodies) {
         Ok(()) => {
             fill(frames, innermost);

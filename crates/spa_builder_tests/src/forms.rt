@@ -1,7 +1,10 @@
 //! The forms of `builder_add!`.
 use crate::bytes::{are_words, assert_holds, assert_holds_at};
+use bitflags::Flags;
 use spa_builder::{Builder, builder_add};
-use spa_utils::{Errno, Float32, Float64, Fraction, Id, Rectangle};
+use spa_utils::{
+    Choice, ChoiceEnum, ChoiceFlags, Errno, Float32, Float64, Fraction, Id, Rectangle,
+};
 use spa_value::Value;
 use std::alloc::{AllocError, Global};
 
@@ -20,6 +23,7 @@ enum Form {
     ObjectWithFlags,
     Lists,
     Choices,
+    WholeChoices,
 }
 
 /// The words of each form, by the rules of the format.
@@ -69,6 +73,12 @@ const FORMS: &[(Form, &[u32])] = &[
         &[
             184, 15, 5, 3, 1, 0, 28, 19, 1, 0, 4, 4, 5, 2, 10, 0, 2, 0, 32, 19, 2, 0, 4, 4, 5, 2,
             10, 4, 3, 0, 20, 19, 3, 0, 4, 3, 7, 0, 4, 0, 24, 19, 4, 0, 4, 3, 1, 2,
+        ],
+    ),
+    (
+        Form::WholeChoices,
+        &[
+            72, 14, 28, 19, 1, 9, 4, 4, 5, 2, 10, 0, 24, 19, 0, 0, 8, 5, 7, 0,
         ],
     ),
 ];
@@ -128,6 +138,17 @@ fn add_choices(builder: &mut Builder) -> Result<(), Errno> {
     })
 }
 
+fn add_whole_choices(builder: &mut Builder) -> Result<(), Errno> {
+    let range = ChoiceEnum::Range {
+        default: 5,
+        min: 2,
+        max: 10,
+    };
+    let ints = Choice::<i32>(ChoiceFlags::from_bits_retain(9), range);
+    let long = Choice::<i64>(ChoiceFlags::empty(), ChoiceEnum::None(7));
+    builder_add!(builder, Struct { Choice(&ints), Choice(&long) })
+}
+
 fn add(builder: &mut Builder, form: Form) -> Result<(), Errno> {
     match form {
         Form::Nothing => builder_add!(builder, None),
@@ -142,6 +163,7 @@ fn add(builder: &mut Builder, form: Form) -> Result<(), Errno> {
         Form::ObjectWithFlags => add_object_with_flags(builder),
         Form::Lists => add_lists(builder),
         Form::Choices => add_choices(builder),
+        Form::WholeChoices => add_whole_choices(builder),
     }
 }
 

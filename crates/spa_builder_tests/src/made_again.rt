@@ -16,12 +16,14 @@ use std::alloc::{AllocError, Global};
 use std::process::Abort;
 use test_bytes::bytes_of;
 
-/// A call: one that lists have, or one that adds a value, a pod or an array of Ints whole, or an array over the bodies of Bools or Longs.
+/// A call: one that lists have, or one that adds a value, a pod, a choice over Ints or an array of Ints whole, or an array over the bodies of Bools or
+/// Longs.
 #[derive(Clone, Copy)]
 enum Call<'a> {
     Listed(BuildCall<'a>),
     Value(&'a Value),
     Pod(Pod<'a>),
+    Choice(&'a Choice<i32>),
     Ints(&'a [i32]),
     Bools(&'a [u8]),
     Longs(&'a [u8]),
@@ -75,6 +77,7 @@ fn make(builder: &mut Builder, call: Call<'_>) -> Answer {
         Call::Listed(listed) => make_listed(builder, listed),
         Call::Value(value) => builder.add_value(value),
         Call::Pod(pod) => builder.add_pod(pod),
+        Call::Choice(choice) => builder.add_choice(choice),
         Call::Ints(ints) => builder.add_array_of(ints),
         Call::Bools(bodies) => builder.add_array_in::<bool>(bodies),
         Call::Longs(bodies) => builder.add_array_in::<i64>(bodies),
@@ -164,6 +167,24 @@ fn elements_at_once(rt: HostRuntime) {
     let words = &[32, 14, 20, 13, 4, 4, 10, 15, 19, 0];
     let is_built = builds_ints(rt.alloc(), &[10, 15, 19], words);
     assert_holds_at(&rt, is_built, "an array", words);
+}
+
+/// An Enum of the flags 3, whose default is 15.
+fn enum_of(alternatives: Vec<i32>) -> Choice<i32> {
+    let values = ChoiceEnum::Enum {
+        default: 15,
+        alternatives,
+    };
+    Choice(ChoiceFlags::from_bits_retain(3), values)
+}
+
+#[test]
+fn a_choice_at_once(rt: HostRuntime) -> Result<(), AllocError> {
+    let choice = enum_of(three_ints(rt.alloc())?);
+    let words = &[56, 14, 32, 19, 3, 3, 4, 4, 15, 10, 15, 19, 8, 13, 0, 1];
+    let is_built = goes_into_both(rt.alloc(), Call::Choice(&choice), false, words);
+    assert_holds_at(&rt, is_built, "an Enum", words);
+    Ok(())
 }
 
 /// Whether arrays go into a struct over the bodies of their elements, also over none, parts of bodies are refused, and these words are built.

@@ -10,7 +10,7 @@ ghost use Rattle.spa_utils.specs.declared.errno.TheConstants.Errno.{NOMEM};
 use spa_bytes::{HEADER_LEN, two_words};
 use spa_sink::{GenError, PodSink};
 use spa_utils::Errno;
-use std::alloc::Global;
+use std::alloc::{AllocError, Global};
 use std::marker::Model;
 use std::mem;
 
@@ -35,6 +35,16 @@ const FIRST_ROOM: usize = 256;
 /// The most zeros that are added at once, unless an append needs more. Up to here the vector is made twice as long.
 const ROOM_STEP: usize = 4096;
 
+/// Asks for memory for `more` bytes behind those of the vector.
+fn reserve(bytes: &mut Vec<u8>, more: usize) -> Result<(), AllocError>
+    ensures { bytes.new.items ≡ bytes.old.items }
+{
+    if more <= bytes.capacity() - bytes.len() {
+        return Ok(());
+    }
+    bytes.reserve(more.max(FIRST_ROOM))
+}
+
 /// The vector, at least `more` bytes longer where there is memory for it. It is moved and not borrowed, so that a builder
 /// whose calls are inlined can be kept in registers.
 #[cold]
@@ -44,7 +54,7 @@ fn grown(mut bytes: Vec<u8>, more: usize) -> Vec<u8>
         × (length bytes.items ≤ length result.items) }
 {
     let had = bytes.len();
-    if bytes.capacity() - had < more && bytes.reserve(more.max(FIRST_ROOM)).is_err() {
+    if reserve(&mut bytes, more).is_err() {
         return bytes;
     }
     let step = had.min(ROOM_STEP).max(FIRST_ROOM);
@@ -258,7 +268,7 @@ impl Written {
         ensures { self.new ≡ self.old }
     {
         let spare = self.bytes.len() - self.count;
-        let _ = self.bytes.reserve(more.saturating_sub(spare));
+        let _ = reserve(&mut self.bytes, more.saturating_sub(spare));
     }
 
     /// Overwrites the four bytes at the offset `at` with a word.

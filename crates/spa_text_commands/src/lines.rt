@@ -3,6 +3,7 @@ use crate::inside::Label;
 use crate::parts::{Parts, Scalar, Shown};
 use ryu::Buffer;
 use spa_names::{Table, ids_of, name_of, path_of};
+use spa_text_read::letters::{push_letter, push_letters};
 use spa_utils::SpaTypes;
 use std::alloc::AllocError;
 use std::fmt::{Display, Write};
@@ -208,17 +209,10 @@ fn put_text(text: &mut String, body: &[u8]) -> Result<(), AllocError> {
     };
     text.push_str("String \"")?;
     match str::from_utf8(shown) {
-        Ok(shown) => put_letters(text, shown)?,
+        Ok(shown) => push_letters(text, shown)?,
         Err(_) => put_bytes(text, shown)?,
     }
     text.push_str("\"")
-}
-
-fn put_letters(text: &mut String, letters: &str) -> Result<(), AllocError> {
-    for letter in letters.chars() {
-        put_letter(text, letter)?;
-    }
-    Ok(())
 }
 
 fn put_bytes(text: &mut String, bytes: &[u8]) -> Result<(), AllocError> {
@@ -228,20 +222,10 @@ fn put_bytes(text: &mut String, bytes: &[u8]) -> Result<(), AllocError> {
     Ok(())
 }
 
-/// Writes a letter of a text.
-fn put_letter(text: &mut String, letter: char) -> Result<(), AllocError> {
-    match letter {
-        '"' => text.push_str("\\\""),
-        '\\' => text.push_str("\\\\"),
-        _ if letter.is_control() => write!(text, "\\u{:04x}", letter as u32),
-        _ => text.push(letter),
-    }
-}
-
 /// Writes a byte of what is no UTF-8.
 fn put_byte(text: &mut String, byte: u8) -> Result<(), AllocError> {
     if byte.is_ascii() {
-        return put_letter(text, byte as char);
+        return push_letter(text, byte as char);
     }
     write!(text, "\\x{byte:02x}")
 }

@@ -10,6 +10,7 @@ pub mod Seen
 pub mod Fitting
 pub mod FramesFit
 pub mod Begun
+pub mod Letters
 pub mod Places
 pub mod Trails
 pub mod ErrorTexts

@@ -1,6 +1,7 @@
 -- Where in a text a token stands: docs/TEXT.md, "Refusals".
 use Rattle.std.specs.Prelude.{◌≡◌, ℕ, ◌+◌, ◌-◌, ◌^◌, ◌==◌, List, [], ◌∷◌, ◌++◌, length, reverse, min, decimal, codes, if◌then◌else◌, nat_lt, Option, Some, None}
 use Rattle.json.specs.Token.{Token}
+use Rattle.spa_text_read.specs.Letters.{shown_text}
 
 -- an object that is open, with the key that was read last, or an array, with how many values are begun in it
 pub data Open : Type 0 where
@@ -44,7 +45,7 @@ abbrev pub path_limit : ℕ
 path_limit = 256
 
 abbrev pub key_text : List ℕ → List ℕ
-key_text s = if nat_lt key_limit (length s) then codes ".." else s
+key_text s = if nat_lt key_limit (length s) then codes ".." else shown_text s
 
 -- a step of a path: a key, or the number of the value begun last
 abbrev pub step_text : Open → List ℕ

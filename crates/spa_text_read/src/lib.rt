@@ -8,6 +8,7 @@ mod error;
 mod fitting;
 mod inside;
 pub mod laws;
+pub mod letters;
 pub mod names;
 mod nest;
 pub mod numerals;

@@ -4,6 +4,7 @@ ghost use Rattle.json.specs.Reads.{token_of};
 ghost use Rattle.spa_text_read.specs.Places.{IsPlace, after, one_more, path_behind, step_text, under};
 ghost use Rattle.spa_text_read.specs.Trails.{open_of, opens_of};
 
+use crate::letters::push_letters;
 use json::{Reader, Token};
 use std::alloc::{AllocError, Global};
 
@@ -22,8 +23,8 @@ pub(crate) enum Open<'a> {
     Array(usize),
 }
 
-/// The path of the last token that begins before this byte of a text, by the keys and the places in arrays that lead there, as `jq` writes
-/// them: `.props.rate`, `[2].props.volume`.
+/// The path of the last token that begins before this byte of a text, by the keys and the places in arrays that lead there: `.props.rate`,
+/// `[2].props.volume`.
 pub(crate) fn path_to(
     alloc: Global,
     reader: &mut Reader<'_>,
@@ -121,7 +122,11 @@ fn push_step(path: &mut String, step: Open<'_>) -> Result<(), AllocError>
     match step {
         Open::Object(Some(key)) => {
             path.push_str(".")?;
-            path.push_str(if key.len() > KEY_LIMIT { ".." } else { key })
+            if key.len() > KEY_LIMIT {
+                path.push_str("..")
+            } else {
+                push_letters(path, key)
+            }
         }
         Open::Array(count) if count > 0 => {
             let mut buffer = itoa::Buffer::new();

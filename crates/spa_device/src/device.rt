@@ -133,7 +133,7 @@ impl<W: Write + Drop> PodSink for IoSink<W> {
         ensures ok { OnOk result (Took W.contents self.old bytes.now self.new) }
         ensures begun { OnErr result ((count : ℕ) × Took W.contents self.old (take count bytes.now) self.new) }
         ensures cause { IfErr result (λ e. RefusesBytes self.old (length bytes.now) self.new e) }
-        // Where all bytes are taken no write failed, and where it is refused as `Io` one did.
+        // The count of failures is the same where all bytes are taken, and one more where it is refused as `Io`.
         ensures all { OnOk result (self.new.failures ≡ self.old.failures) }
         ensures one { IfErr result (λ e. e ≡ Io → self.new.failures ≡ self.old.failures + 1) }
         ensures unchanged { IfErr result (λ e. e ≡ Failed → self.new ≡ self.old) }

@@ -1,10 +1,12 @@
 // A malloc that refuses requests, loaded before the C library's own (LD_PRELOAD). Where REFUSED is a number, the request with
-// that number is refused, from 1 on, and a byte on the descriptor MARK says so. Where it is `each`, the process splits at every
-// request: a copy of it is refused that one and runs to its end, and what it wrote and its status go to the file MARK; then the
-// process goes on, with the memory. Copies one after another that end alike share a line: a line 'LAST COUNT STATUS LENGTH',
-// the number of the last one's request and how many they are, and so many bytes. Where PART is 'K/N', only every N-th request is
-// refused so, from the K-th on: N such processes refuse each. SKIPPED has addresses in the program, `HEX,HEX,..`: copies return from
-// the functions there as soon as they are called.
+// that number is refused, from 1 on, and a byte on the descriptor MARK says so. Where it is `none`, all are granted, and their number
+// goes to MARK at the end. Where it is `each`, the process splits at every request: a copy of it is refused that one and runs to its
+// end, and what it wrote and its status go to the file MARK; then the process goes on, with the memory. Copies one after another that
+// end alike share a line: a line 'LAST COUNT STATUS LENGTH', the number of the last one's request and how many they are, and so many
+// bytes. Where PART is 'K/N', only every N-th request is refused so, from the K-th on: N such processes refuse each. Where LIMIT and
+// TOTAL are given, so many processor seconds are taken for TOTAL requests: half of them as they come, the other half evenly over all;
+// a request for which there is no time is granted. SKIPPED has addresses in the program, `HEX,HEX,..`: copies return from the functions
+// there as soon as they are called.
 #define _GNU_SOURCE
 #include <dlfcn.h>
 #include <errno.h>
@@ -14,6 +16,7 @@
 #include <stdlib.h>
 #include <string.h>
 #include <sys/mman.h>
+#include <sys/resource.h>
 #include <sys/wait.h>
 #include <unistd.h>
 
@@ -25,10 +28,10 @@ static void *(*real_realloc)(void *, size_t);
 static void *(*real_aligned_alloc)(size_t, size_t);
 static void (*real_free)(void *);
 static long refused, requests;
-static int mark, refuses_each, keeps_all;
+static int mark, counts, refuses_each, keeps_all;
 
-// Where SAMPLE is a number above 0, only some requests are refused so: the first so many, as many of every other one, and so on.
-static long sample, next = 1, step = 1, count;
+// How many processor seconds the copies may take for how many requests, where there is a limit, and how many they have taken.
+static double limit, total, spent;
 
 // Which part of the requests is refused here.
 static long part = 1, parts = 1;
@@ -46,11 +49,14 @@ static void start(void) {
   real_aligned_alloc = dlsym(RTLD_NEXT, "aligned_alloc");
   real_free = dlsym(RTLD_NEXT, "free");
   const char *given = getenv("REFUSED");
+  counts = strcmp(given, "none") == 0;
   refuses_each = strcmp(given, "each") == 0;
   refused = atol(given);
   mark = atoi(getenv("MARK"));
-  const char *some = getenv("SAMPLE");
-  sample = some ? atol(some) : 0;
+  if (getenv("LIMIT") && getenv("TOTAL")) {
+    limit = atof(getenv("LIMIT"));
+    total = atof(getenv("TOTAL"));
+  }
   const char *own = getenv("PART");
   if (own && sscanf(own, "%ld/%ld", &part, &parts) != 2)
     abort();
@@ -113,6 +119,22 @@ static void tell(int wrote, int status) {
   last_code = code;
 }
 
+// How many requests there were.
+__attribute__((destructor)) static void tell_count(void) {
+  char line[32];
+  if (counts)
+    say(line, snprintf(line, sizeof line, "%ld\n", requests));
+}
+
+// The processor seconds that the process has taken, or the copies that have ended.
+static double seconds_of(int whose) {
+  struct rusage used;
+  if (getrusage(whose, &used) != 0)
+    abort();
+  return used.ru_utime.tv_sec + used.ru_stime.tv_sec +
+         (used.ru_utime.tv_usec + used.ru_stime.tv_usec) / 1e6;
+}
+
 // Splits the process, and answers whether this is the copy.
 static int is_copy(void) {
   int wrote = memfd_create("wrote", 0);
@@ -138,19 +160,13 @@ static int is_copy(void) {
     abort();
   tell(wrote, status);
   close(wrote);
+  spent = seconds_of(RUSAGE_SELF) + seconds_of(RUSAGE_CHILDREN);
   return 0;
 }
 
 // Whether this request is one of those to be refused.
 static int is_chosen(void) {
-  if (!sample)
-    return requests % parts == part % parts;
-  if (requests < next)
-    return 0;
-  if (++count % sample == 0)
-    step *= 2;
-  next = requests + step;
-  return 1;
+  return requests % parts == part % parts && (!limit || spent <= limit / 2 * (1 + requests / total));
 }
 
 static int is_refused(void) {

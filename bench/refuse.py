@@ -3,18 +3,20 @@
 refuse.py tests [CRATE ..]: does so with each test of these crates, or of all, as `rt test` has built them. CRATE/START: of
 those alone whose names begin so.
 refuse.py rows [CRATE ..]: does so with these programs of rows, or all, as `rt run` has built them.
-refuse.py sample N: all three, as `rt ci` has built them, but of each run only some requests: the first N, then N of every
-other one, N of every fourth, and so on, and of a test as many as SAMPLE_SECONDS seconds hold.
+refuse.py within N: all three, as `rt ci` has built them. Of a test for which N processor seconds don't suffice only some requests
+are refused: as many as half of the time holds, and then some of all that follow; it says how many are left.
 
 Each word of podtool and pod runs on each pod of examples/, on all of them one after another, and on a list whose last pod is
 short, `pod read` on what `json` makes of these; `pod`'s words meet and filter run on pairs of objects, of which some meet and some
 don't, as one input and as two files. A run must end as it does with memory, or write nothing and say that it is out of memory; `pod
-show` and `--stream`, which write as they go, may have written a beginning. A row of a program must have its answer or say so. A test must pass,
-or end by an error that says so and by nothing else. Status 1 where one doesn't, or where a test has more requests than could be
-refused in SECONDS seconds (from the environment, 600). JOBS processes (from the environment, 1) share the requests of a test.
+show` and `--stream`, which write as they go, may have written a beginning. Of a program's rows that one whose request is refused may say so, and
+each other one must have its answer. A test must pass, or end by an error that says so and by nothing else; those of RETRYING must pass. Status
+1 where one doesn't, or where a test has more requests than could be refused in SECONDS seconds (from the environment, 600). JOBS
+processes (from the environment, 1) share the requests of a test.
 """
 
 import contextlib
+import itertools
 import os
 import pathlib
 import re
@@ -42,8 +44,10 @@ WORDS = (
 AGREEING = ("meet", "filter")
 SECONDS = int(os.environ.get("SECONDS", "600"))
 JOBS = int(os.environ.get("JOBS", "1"))
-# How long a test is tried of which only some requests are refused.
-SAMPLE_SECONDS = 10
+# How many requests of which tests weren't refused.
+LEFT = {}
+# Tests that make a refused call again: they pass whichever request is refused.
+RETRYING = ("made_again::", "refused::")
 # Has the C library keep all memory in pages of 2 MB, of which it asks for 32 at once: a process with much memory is copied in less time.
 WIDE_PAGES = {"GLIBC_TUNABLES": "glibc.malloc.hugetlb=1:glibc.malloc.top_pad=67108864:glibc.malloc.mmap_threshold=4294967296"}
 
@@ -79,7 +83,7 @@ WANTS_MEMORY = re.compile(
 
 # How a program of rows ends by such an error, and what a row's run says behind its label.
 PROGRAM_WANTS_MEMORY = re.compile(rb"Error: .*(AllocError|OutOfMemory).*\n")
-RUN_WANTS_MEMORY = re.compile(rb"(.*: )?1 \w+: (?:.*: )?out of memory\xe2\x8f\x8e \|.*")
+RUN_WANTS_MEMORY = re.compile(rb"(.*: )?1 \w+: (?:.*: )?out of memory\xe2\x8f\x8e \|(.*)")
 
 
 def pairs():
@@ -135,18 +139,8 @@ def files_of(room, name, *parts):
     return files
 
 
-def numbers(sample):
-    """The numbers of the requests that are refused: all, or, of a sample, the first so many, as many of every other one, and so on."""
-    number, step, count = 1, 1, 0
-    while True:
-        yield number
-        count += 1
-        step *= 2 if sample and count % sample == 0 else 1
-        number += step
-
-
-def refuse_in_programs(library, programs, sample):
-    """Refuses requests of the programs, and returns how many there were and how many runs were wrong."""
+def refuse_in_programs(library, programs, _limit):
+    """Refuses each request of the programs, and returns how many there were and how many runs were wrong."""
     runs = wrong = 0
     with tempfile.TemporaryDirectory() as room:
         for command, name, given in (it for program in programs for it in runs_of(program, pathlib.Path(room))):
@@ -154,7 +148,7 @@ def refuse_in_programs(library, programs, sample):
             says = re.compile(rb"%b: (?:.*: )?out of memory\n" % program.encode())
             goes_on = program == "pod" and (command[1] == "show" or "--stream" in command)
             wanted, _ = run(command, given)
-            for number in numbers(sample):
+            for number in itertools.count(1):
                 found, was_refused = run(command, given, library, number)
                 runs += was_refused
                 is_begun = found[1] == b"" or goes_on and wanted[1].startswith(found[1])
@@ -182,22 +176,34 @@ def emptying(program):
     return ",".join(address for address, name in found if name in EMPTYING)
 
 
-def refuse_each(library, command, given, passed, is_refused, sample):
-    """Refuses requests of a command, which ends so with memory, and returns how many there were and what is wrong with it."""
-    limit = SAMPLE_SECONDS if sample else SECONDS
-    parts = 1 if sample else JOBS
+def count_requests(library, command, given, passed):
+    """How many requests a run of a command makes that ends so."""
+    with tempfile.TemporaryFile() as mark:
+        env = {**os.environ, **WIDE_PAGES, "LD_PRELOAD": library, "REFUSED": "none", "MARK": str(mark.fileno())}
+        how = {"stdout": subprocess.PIPE, "stderr": subprocess.STDOUT, "pass_fds": (mark.fileno(),)}
+        ran = subprocess.run(command, input=given, env=env, **how)
+        mark.seek(0)
+        return int(mark.read() or 0) if (ran.returncode, ran.stdout) == passed else 0
+
+
+def refuse_each(library, command, given, passed, is_refused, limit):
+    """Refuses each request of a command that ends so with memory, or, where there is a limit, as many as fit into so many processor seconds.
+    Returns how many were refused, how many there are, and what is wrong."""
+    total = count_requests(library, command, given, passed)
     runs, wrong = 0, []
     with contextlib.ExitStack() as files:
         started = []
-        for part in range(1, parts + 1):
+        for part in range(1, JOBS + 1):
             mark, source, wrote = (files.enter_context(tempfile.TemporaryFile()) for _ in range(3))
             source.write(given)
             source.seek(0)
-            told = {"REFUSED": "each", "SKIPPED": emptying(command[0]), "SAMPLE": str(sample), "PART": f"{part}/{parts}", "MARK": str(mark.fileno())}
+            told = {"REFUSED": "each", "SKIPPED": emptying(command[0]), "PART": f"{part}/{JOBS}", "MARK": str(mark.fileno())}
+            if limit:
+                told |= {"LIMIT": str(limit / JOBS), "TOTAL": str(total)}
             env = {**os.environ, **WIDE_PAGES, "LD_PRELOAD": library, **told}
             ran = subprocess.Popen(command, env=env, stdin=source, stdout=wrote, stderr=subprocess.STDOUT, pass_fds=(mark.fileno(),))
             started.append((ran, mark, wrote))
-        ends_at = time.monotonic() + limit
+        ends_at = time.monotonic() + SECONDS
         for ran, mark, wrote in started:
             try:
                 status = ran.wait(max(0, ends_at - time.monotonic()))
@@ -207,70 +213,70 @@ def refuse_each(library, command, given, passed, is_refused, sample):
             except subprocess.TimeoutExpired:
                 ran.kill()
                 ran.wait()
-                if not sample:
-                    wrong.append(f"not all its requests were refused in {limit} seconds")
+                wrong.append(f"not all its requests were refused in {SECONDS} seconds")
             mark.seek(0)
             for number, count, ended in copies(mark.read()):
                 runs += count
                 if ended != passed and not is_refused(*ended):
                     wrong.append(f"request {number}, of {count} that end so: {ended}")
-    return runs, wrong
+    if not limit and runs != total and not wrong:
+        wrong.append(f"{runs} of {total} requests were refused")
+    return runs, total, wrong
 
 
-def refuse_in_test(library, program, test, sample):
-    """Refuses requests of the test, and returns how many there were and what is wrong with it."""
-
-    def wants_memory(status, wrote):
-        return status == 101 and WANTS_MEMORY.fullmatch(wrote)
-
-    return refuse_each(library, [program, test], b"", PASSED, wants_memory, sample)
+def report(name, runs, total, wrong):
+    """Prints how many of its requests were refused, and what is wrong; returns these numbers. Notes what was left."""
+    print(f"{name}: {runs}{f' of {total}' if runs != total else ''} requests", flush=True)
+    if runs < total:
+        LEFT[name] = total - runs
+    for it in wrong:
+        print(f"  {it}", flush=True)
+    return runs, len(wrong)
 
 
 def row_wants_memory(line, row):
-    """Whether a line has the label of this row, or the end of it, and says that its run is out of memory."""
+    """Whether a line has the label of this row, or the end of it, and says that its run is out of memory, behind a beginning of what it writes."""
     said = RUN_WANTS_MEMORY.fullmatch(line)
-    return said and (said[1] or b"") in row
+    return said and (said[1] or b"") in row and row.partition(b"|")[2].startswith(said[2])
 
 
-def refuse_in_rows(library, crates, sample):
-    """Refuses requests of the programs of rows, and returns how many there were and how many ended wrongly."""
+def refuse_in_rows(library, crates, _limit):
+    """Refuses each request of the programs of rows, and returns how many there were and how many ended wrongly."""
     runs = wrong = 0
     for crate in crates:
         home = HERE.parent / f"crates/{crate}"
         wanted = (home / "stdout").read_bytes()
         rows = wanted.split(b"\n")
 
-        def wants_memory(status, wrote):
+        def is_refused(status, wrote):
             if status != 0:
                 return PROGRAM_WANTS_MEMORY.fullmatch(wrote)
-            # What was written before the request isn't the copy's.
+            # What was written before the request isn't the copy's. Its first line is that of the row whose request was refused.
             lines = wrote.split(b"\n")
-            own = rows[max(0, len(rows) - len(lines)) :]
-            alike = (line == row or row_wants_memory(line, row) for line, row in zip(lines[1:], own[1:]))
-            return len(lines) == len(own) and all(alike) and (own[0].endswith(lines[0]) or row_wants_memory(lines[0], own[0]))
+            first, *behind = rows[max(0, len(rows) - len(lines)) :]
+            return lines[1:] == behind and (first.endswith(lines[0]) or row_wants_memory(lines[0], first))
 
         command = [home / f"out/{crate}"]
-        count, found = refuse_each(library, command, (home / "stdin").read_bytes(), (0, wanted), wants_memory, sample)
-        print(f"{crate}: {count} requests", flush=True)
-        for it in found:
-            print(f"  {it}", flush=True)
-        runs, wrong = runs + count, wrong + len(found)
+        found = refuse_each(library, command, (home / "stdin").read_bytes(), (0, wanted), is_refused, 0)
+        count, bad = report(crate, *found)
+        runs, wrong = runs + count, wrong + bad
     return runs, wrong
 
 
-def refuse_in_tests(library, crates, sample):
-    """Refuses requests of each test of the crates, and returns how many there were and how many ended wrongly."""
+def refuse_in_tests(library, crates, limit):
+    """Refuses requests of each test of the crates, all where there is no limit, and returns how many there were and how many ended wrongly."""
     runs = wrong = 0
     for given in crates:
         crate, _, start = given.partition("/")
         program = HERE.parent / f"crates/{crate}/out/{crate}_tests"
         listed = subprocess.run([program, "--list"], check=True, capture_output=True, text=True).stdout
         for test in re.findall(rf"^({re.escape(start)}.*): test$", listed, re.MULTILINE):
-            count, found = refuse_in_test(library, program, test, sample)
-            print(f"{crate} {test}: {count} requests", flush=True)
-            for it in found:
-                print(f"  {it}", flush=True)
-            runs, wrong = runs + count, wrong + len(found)
+
+            def is_refused(status, wrote):
+                return status == 101 and not test.startswith(RETRYING) and WANTS_MEMORY.fullmatch(wrote)
+
+            count, bad = report(f"{crate} {test}", *refuse_each(library, [program, test], b"", PASSED, is_refused, limit))
+            runs, wrong = runs + count, wrong + bad
     return runs, wrong
 
 
@@ -286,15 +292,17 @@ def main(words):
         "rows": (refuse_in_rows, lambda: built("_rows")),
         "tests": (refuse_in_tests, lambda: built("_tests")),
     }
-    sample = int(words[1]) if words[:1] == ["sample"] else 0
+    limit = float(words[1]) if words[:1] == ["within"] else 0
     runs = wrong = 0
     with tempfile.TemporaryDirectory() as room:
         library = f"{room}/refuse.so"
         subprocess.run(["cc", "-O1", "-shared", "-fPIC", "-o", library, HERE / "refuse.c", "-ldl"], check=True)
-        for kind in kinds if sample else words[:1]:
+        for kind in kinds if limit else words[:1]:
             refuse, all_of = kinds[kind]
-            count, bad = refuse(library, words[1:] if not sample and words[1:] else all_of(), sample)
+            count, bad = refuse(library, words[1:] if not limit and words[1:] else all_of(), limit)
             runs, wrong = runs + count, wrong + bad
+    for name, count in LEFT.items():
+        print(f"left, for want of time: {count} requests of {name}")
     print(f"{runs} runs with a refused request, {wrong} of them wrong")
     return 1 if wrong or not runs else 0
 

@@ -336,7 +336,8 @@ static void go_on(struct stream *s) {
 		_exit(0);
 	if (!can_write)
 		give_up(NO_REQUEST, -errno, "the daemon can't be written to: %s", strerror(errno));
-	if (!s->is_at_end || s->is_shut || is_blocked(s))
+	/* Nothing is read, so no end is seen, while a message waits. */
+	if (!s->is_at_end || s->is_shut)
 		return;
 	if (s->in_len)
 		give_up(NO_REQUEST, -EPROTO, "the bytes end within a message");

@@ -70,6 +70,17 @@ RULES = [
     ('asserted', r'', r'assert ! \( [^;]* \) ;'),
     ('inlined', r'', r'# [ cfg_attr ( not ( debug_assertions ) , inline ( always ) ) ]'),
     ('inlined', r'# \[ inline \( always \) \]', r'# [ cfg_attr ( not ( debug_assertions ) , inline ( always ) ) ]'),
+    ('surface', r'', r'# \[ (?:derive \( (?:Debug|Clone|Eq|Hash|Default) \)|cfg_attr \( not \( feature = "parts" \) , non_exhaustive \)) \]'),
+    ('printed floats', r'# \[ derive \( Clone , Copy , Debug ,', r'# [ cfg_attr ( any ( test , feature = "parts" ) , derive ( Debug ) ) ] # [ derive ( Clone , Copy ,'),
+    ('bounded reads', r'deserialize_any(|_from|_leniently_from|_counted) \(', r'deserialize_any\1_unbounded ('),
+    ('bounded reads', r'type Content = Value ; fn of_content \( given : Value \) - > Held \{ Held : : from \( given \) \}',
+     r'type Content = crate : : api : : levels : : Unbounded ; '
+     r'fn of_content ( given : crate : : api : : levels : : Unbounded ) - > Held { Held : : from ( given . 0 ) }'),
+    ('bounded reads', r'"InvalidType" , "a deep value"', r'"TooDeep" , "a deep value"'),
+    ('bounded reads', r'', r'TooDeep ,'),
+    ('bounded reads', r'', r'DeserializeError : : TooDeep = > "TooDeep" ,'),
+    ('bounded reads', r'', r'DeserializeError : : TooDeep = > DeserializeError : : TooDeep ,'),
+    ('bounded reads', r'', r'DeserializeError : : TooDeep = > write ! ( f , "values nest deeper than the limit" ) ,'),
 ] + [('names of fallible calls', r'([.]|: :|fn) %s' % a, r'\1 %s' % b) for a, b in RENAMED]
 # A type with a drop is taken apart by its fields: `let T { a, b: _ } = self;`.
 TAKEN = re.compile(r'let \w+ \{ ((?:\w+ (?:: _ )?,? ?)+)\} = self ; ')
@@ -83,7 +94,7 @@ def compiled(rules):
         yield name, re.compile('(?:%s) ' % goes if goes else ''), re.compile(comes + ' ') if pattern else comes + ' ' if comes else comes
 
 
-PATTERNS = {'paths into crates', 'tests', 'asserted'}
+PATTERNS = {'paths into crates', 'tests', 'asserted', 'surface'}
 COMPILED = list(compiled(RULES))
 
 

@@ -10,6 +10,7 @@ import sys
 
 import rattle
 from crates import ROWS_SUFFIX, WHOLE, parts_and_tests
+from surface import surfaced
 from words import WORDS
 
 # What takes memory: an allocator, or the runtime that hands one out, as an argument, a parameter, a field or a part of a `use`.
@@ -360,7 +361,7 @@ def generate(crates):
         for name in names:
             for path, text in sources(os.path.join(crates, name, 'src')):
                 file = '%s/%s/%s.rs' % (home, name, 'mod' if path in ('lib', 'main') else path)
-                made[file] = reworded(file, inline(assert_required(erase(text, name, home, macros, parts, tests, of_std), path), path))
+                made[file] = surfaced(file, reworded(file, inline(assert_required(erase(text, name, home, macros, parts, tests, of_std), path), path)))
             if name.endswith(ROWS_SUFFIX):
                 for stream in ('stdin', 'stdout'):
                     with open(os.path.join(crates, name, stream), encoding='utf-8') as f:

@@ -24,6 +24,7 @@ pub(crate) use shims::memory::tests::try_format;
 #[allow(unused_imports, unused_variables, dead_code, clippy::all)]
 mod tests;
 
+pub use api::reading::{ReadAs, ReadError, ReadErrorKind, read, read_as, read_leniently, read_unbounded, write, write_as};
 pub use parts::libspa::{constants, utils};
 pub use shims::array::{ArrayVec, CapacityError};
 pub use shims::memory::{AllocError, TryClone};
@@ -31,13 +32,8 @@ pub use shims::memory::{AllocError, TryClone};
 /// Pods: values and their rewriting, and borrowed views.
 pub mod pod {
     pub use crate::api::faults::{FoundFault, find_fault};
+    pub use crate::api::levels::MOST_LEVELS;
     pub use crate::parts::libspa::pod::*;
-
-    /// Reading values.
-    pub mod deserialize {
-        pub use crate::api::levels::NestedReadError;
-        pub use crate::parts::libspa::pod::deserialize::*;
-    }
 }
 
 /// Negotiation: the object in which two objects meet, each of whose values both admit.

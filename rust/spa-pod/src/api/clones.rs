@@ -3,7 +3,7 @@
 use crate::pod::{ChoiceValue, Object, Property, Value, ValueArray};
 use crate::shims::memory::{AllocError, TryClone};
 use crate::utils::dict::CIter;
-use crate::utils::{Choice, ChoiceEnum};
+use crate::utils::{Choice, ChoiceEnum, SpaTypes};
 
 /// The copy, where there is memory.
 fn copy_of<T: TryClone>(value: &T) -> T {
@@ -45,6 +45,13 @@ impl<T: Copy> Clone for ChoiceEnum<T> {
 impl Default for Value {
     fn default() -> Value {
         Value::None
+    }
+}
+
+/// The type of the value without content.
+impl Default for SpaTypes {
+    fn default() -> SpaTypes {
+        SpaTypes::None
     }
 }
 

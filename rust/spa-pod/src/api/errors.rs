@@ -35,6 +35,7 @@ impl DeserializeError<&[u8]> {
             DeserializeError::NoElementLeft => DeserializeError::NoElementLeft,
             DeserializeError::FailedReader => DeserializeError::FailedReader,
             DeserializeError::OutOfMemory => DeserializeError::OutOfMemory,
+            DeserializeError::TooDeep => DeserializeError::TooDeep,
         }
     }
 }

@@ -64,7 +64,7 @@ pub fn find_fault(pods: &[u8]) -> Result<(), FoundFault> {
 #[cfg(all(test, feature = "std"))]
 mod tests {
     use super::{FoundFault, find_fault};
-    use crate::pod::deserialize::{DeserializeError, Fault, FaultKind, NestedReadError, PodDeserializer};
+    use crate::pod::deserialize::{DeserializeError, Fault, FaultKind, PodDeserializer};
     use alloc::vec::Vec;
 
     fn bytes(words: &[u32]) -> Vec<u8> {
@@ -94,7 +94,7 @@ mod tests {
         let bytes = inside(2, 8);
         let (_, pod) = bytes.split_at(16);
         let error = PodDeserializer::deserialize_any_within(16, pod).map_err(|error| error.placed_in(pod)).map(|_| ());
-        assert_eq!(error, Err(NestedReadError::Refused(DeserializeError::Nom(Fault { input: 16, kind: FaultKind::Text }))));
+        assert_eq!(error, Err(DeserializeError::Nom(Fault { input: 16, kind: FaultKind::Text })));
     }
 
     #[test]

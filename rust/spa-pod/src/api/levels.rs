@@ -1,88 +1,112 @@
-//! Reading under a limit of nesting.
-use crate::pod::deserialize::{DeserializeError, PodDeserializer};
-use crate::pod::{Value, nests_within};
-use core::error::Error;
-use core::fmt::{Display, Formatter, Result as Printed};
+//! Reading under a limit of nesting: what the plain calls do.
+use crate::parts::spa_bytes::HEADER_LEN;
+use crate::pod::deserialize::{DeserializeError, DeserializeSuccess, ExactDeserialize, PodDeserialize, PodDeserializer};
+use crate::pod::{Value, discard};
 
-/// Why a pod was not read under a limit of nesting.
-#[derive(Debug, PartialEq)]
-pub enum NestedReadError<I> {
-    /// More structs and objects stand in one another than the limit says.
-    TooDeep,
-    /// The bytes are refused.
-    Refused(DeserializeError<I>),
-}
+/// How many structs and objects may stand in one another in what the plain calls read. PipeWire's own nest in fewer than ten. In a thread of
+/// 2 MiB a value of so many levels is dropped, compared and printed also without optimization.
+pub const MOST_LEVELS: u32 = 1000;
 
-impl NestedReadError<&[u8]> {
-    /// The refusal with the byte of `input`, which is what was read, in place of the bytes from there on: so that it outlives them.
-    /// A `DeserializeError` has such a call, too: [`placed_in`](DeserializeError::placed_in).
-    pub fn placed_in(self, input: &[u8]) -> NestedReadError<usize> {
-        match self {
-            NestedReadError::TooDeep => NestedReadError::TooDeep,
-            NestedReadError::Refused(error) => NestedReadError::Refused(error.placed_in(input)),
-        }
+/// Whether at most so many structs and objects stand in one another in a value. It calls itself at most so many times in one another.
+fn value_nests_within(value: &Value, levels: u32) -> bool {
+    match value {
+        Value::Struct(members) => levels > 0 && members.iter().all(|member| value_nests_within(member, levels - 1)),
+        Value::Object(object) => levels > 0 && object.properties.iter().all(|property| value_nests_within(&property.value, levels - 1)),
+        _ => true,
     }
 }
 
-impl<I> From<DeserializeError<I>> for NestedReadError<I> {
-    fn from(error: DeserializeError<I>) -> NestedReadError<I> {
-        NestedReadError::Refused(error)
+/// The value that was read from so many bytes. None: more structs and objects stand in one another in it, and it was dropped by a loop.
+pub(crate) fn within(levels: u32, extent: usize, value: Value) -> Option<Value> {
+    // Each level has a header at least.
+    if extent > HEADER_LEN.saturating_mul(levels as usize) && !value_nests_within(&value, levels) {
+        discard(value);
+        return None;
+    }
+    Some(value)
+}
+
+/// What an unbounded read answered, where the value nests within so many levels.
+fn bounded<'de>(
+    levels: u32,
+    input: &[u8],
+    read: Result<(&'de [u8], Value), DeserializeError<&'de [u8]>>,
+) -> Result<(&'de [u8], Value), DeserializeError<&'de [u8]>> {
+    let (rest, value) = read?;
+    match within(levels, input.len() - rest.len(), value) {
+        Some(value) => Ok((rest, value)),
+        None => Err(DeserializeError::TooDeep),
     }
 }
 
-impl<I> Display for NestedReadError<I> {
-    fn fmt(&self, f: &mut Formatter<'_>) -> Printed {
-        match self {
-            NestedReadError::TooDeep => f.write_str("values nest deeper than the limit"),
-            NestedReadError::Refused(error) => Display::fmt(error, f),
-        }
+/// A value of any nesting depth, of which a `Held` is made at once.
+#[derive(Debug)]
+pub struct Unbounded(pub(crate) Value);
+
+impl<'de> PodDeserialize<'de> for Unbounded {
+    fn deserialize(deserializer: PodDeserializer<'de>) -> Result<(Unbounded, DeserializeSuccess<'de>), DeserializeError<&'de [u8]>> {
+        let (value, success) = deserializer.deserialize_any_unbounded()?;
+        Ok((Unbounded(value), success))
     }
 }
 
-impl<I: core::fmt::Debug> Error for NestedReadError<I> {}
+impl ExactDeserialize<'_> for Unbounded {}
 
 impl<'de> PodDeserializer<'de> {
-    /// Reads the pod at the front, in which at most so many structs and objects may stand in one another: an Int nests in 0 levels,
-    /// a struct of Ints in 1. The answer is what is left of the bytes, and the value.
+    /// Reads the pod at the front of the input, of any type, and answers the bytes that follow it. At most
+    /// [`MOST_LEVELS`](crate::pod::MOST_LEVELS) structs and objects may stand in one another.
     ///
-    /// A [`Value`] is dropped, compared by `==` and printed by `{:?}` level by level, each on the stack. In a thread of 2 MiB a value
-    /// of 1000 levels is dropped also without optimization; PipeWire's own nest in fewer than ten. Where no limit will do, read by
-    /// [`deserialize_any_from`](PodDeserializer::deserialize_any_from), and hold the value in a [`Held`](crate::pod::Held) at once.
+    /// # Errors
+    /// [`TooDeep`](DeserializeError::TooDeep) where more do; else as [`deserialize_any_from_unbounded`](Self::deserialize_any_from_unbounded),
+    /// which takes any nesting depth.
+    pub fn deserialize_any_from(input: &'de [u8]) -> Result<(&'de [u8], Value), DeserializeError<&'de [u8]>> {
+        PodDeserializer::deserialize_any_within(MOST_LEVELS, input)
+    }
+
+    /// Reads the value that the front of the input conveys in the lenient reading, and answers the bytes that follow the front. At most
+    /// [`MOST_LEVELS`](crate::pod::MOST_LEVELS) structs and objects may stand in one another in the value.
+    ///
+    /// # Errors
+    /// [`TooDeep`](DeserializeError::TooDeep) where more do; else as
+    /// [`deserialize_any_leniently_from_unbounded`](Self::deserialize_any_leniently_from_unbounded), which takes any nesting depth.
+    pub fn deserialize_any_leniently_from(input: &'de [u8]) -> Result<(&'de [u8], Value), DeserializeError<&'de [u8]>> {
+        bounded(MOST_LEVELS, input, PodDeserializer::deserialize_any_leniently_from_unbounded(input))
+    }
+
+    /// Reads as [`deserialize_any_from`](Self::deserialize_any_from) does, and counts the pod headers that are opened on the way, as
+    /// [`deserialize_any_counted_unbounded`](Self::deserialize_any_counted_unbounded) does, which takes any nesting depth.
+    pub fn deserialize_any_counted(input: &'de [u8]) -> (Result<(&'de [u8], Value), DeserializeError<&'de [u8]>>, u64) {
+        let (read, opened) = PodDeserializer::deserialize_any_counted_unbounded(input);
+        (bounded(MOST_LEVELS, input, read), opened)
+    }
+
+    /// Reads the pod at the front of the remaining bytes, of any type.
+    ///
+    /// # Errors
+    /// Those of [`deserialize_any_from`](Self::deserialize_any_from).
+    pub fn deserialize_any(self) -> Result<(Value, DeserializeSuccess<'de>), DeserializeError<&'de [u8]>> {
+        let (rest, value) = PodDeserializer::deserialize_any_from(self.input)?;
+        Ok((value, self.after(rest)))
+    }
+
+    /// Reads the pod at the front, in which at most so many structs and objects may stand in one another: an Int nests in 0 levels,
+    /// a struct of Ints in 1. The answer is what is left of the bytes, and the value. The call calls itself for each level.
     ///
     /// ```
-    /// use spa_pod::pod::deserialize::{NestedReadError, PodDeserializer};
-    /// use spa_pod::pod::serialize::PodSerializer;
+    /// use spa_pod::pod::deserialize::{DeserializeError, PodDeserializer};
     /// use spa_pod::pod::Value;
     ///
     /// let inner = Value::Struct(vec![Value::Int(1)]);
-    /// let (bytes, _) = PodSerializer::serialize(Vec::new(), &Value::Struct(vec![inner]))?;
+    /// let bytes = spa_pod::write(&Value::Struct(vec![inner]))?;
     /// assert!(PodDeserializer::deserialize_any_within(2, &bytes).is_ok());
-    /// assert_eq!(PodDeserializer::deserialize_any_within(1, &bytes), Err(NestedReadError::TooDeep));
+    /// assert_eq!(PodDeserializer::deserialize_any_within(1, &bytes), Err(DeserializeError::TooDeep));
     /// # Ok::<(), Box<dyn std::error::Error>>(())
     /// ```
     ///
-    /// An error borrows the input. Where that is gone before the error is, `?` needs [`placed_in`](NestedReadError::placed_in):
-    ///
-    /// ```
-    /// # use spa_pod::pod::deserialize::PodDeserializer;
-    /// fn count(path: &str) -> Result<usize, Box<dyn std::error::Error>> {
-    ///     let bytes = std::fs::read(path)?;
-    ///     let (rest, _) = PodDeserializer::deserialize_any_within(16, &bytes).map_err(|error| error.placed_in(&bytes))?;
-    ///     Ok(bytes.len() - rest.len())
-    /// }
-    /// # assert!(count("").is_err());
-    /// ```
-    ///
     /// # Errors
-    /// [`TooDeep`](NestedReadError::TooDeep) before anything is read; else as `deserialize_any_from` refuses.
-    pub fn deserialize_any_within(
-        levels: u32,
-        input: &'de [u8],
-    ) -> Result<(&'de [u8], Value), NestedReadError<&'de [u8]>> {
-        if !nests_within(input, levels) {
-            return Err(NestedReadError::TooDeep);
-        }
-        Ok(PodDeserializer::deserialize_any_from(input)?)
+    /// [`TooDeep`](DeserializeError::TooDeep) where more do; else as [`deserialize_any_from_unbounded`](Self::deserialize_any_from_unbounded).
+    pub fn deserialize_any_within(levels: u32, input: &'de [u8]) -> Result<(&'de [u8], Value), DeserializeError<&'de [u8]>> {
+        bounded(levels, input, PodDeserializer::deserialize_any_from_unbounded(input))
     }
 }
 

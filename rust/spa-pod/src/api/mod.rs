@@ -4,3 +4,4 @@ mod errors;
 pub mod faults;
 pub mod levels;
 mod numbers;
+pub mod reading;

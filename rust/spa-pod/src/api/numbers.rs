@@ -1,5 +1,7 @@
 //! Floats by their bits, and Rust's own.
 use crate::utils::{Float32, Float64};
+#[cfg(not(any(test, feature = "parts")))]
+use core::fmt::Debug;
 use core::fmt::{Display, Formatter, Result};
 
 macro_rules! float_by_bits {
@@ -20,6 +22,18 @@ macro_rules! float_by_bits {
         impl Display for $name {
             fn fmt(&self, f: &mut Formatter<'_>) -> Result {
                 Display::fmt(&<$float>::from_bits(self.0), f)
+            }
+        }
+
+        /// The number, and of a NaN its bits: floats are equal where their bits are.
+        #[cfg(not(any(test, feature = "parts")))]
+        impl Debug for $name {
+            fn fmt(&self, f: &mut Formatter<'_>) -> Result {
+                let number = <$float>::from_bits(self.0);
+                if number.is_nan() {
+                    return write!(f, "NaN({:#x})", self.0);
+                }
+                Debug::fmt(&number, f)
             }
         }
     )* };

@@ -3,6 +3,7 @@
 use crate::shims::prelude::*;
 /// The kind of an open pod, and of an object whether a key waits for its value.
 #[derive(Clone, Copy)]
+#[derive(Debug)]
 pub(crate) enum Stage {
     /// No pod.
     Nothing,
@@ -20,6 +21,7 @@ pub(crate) enum Stage {
 
 /// What a builder stores of the elements of an open array, or of the values of an open choice.
 #[derive(Clone, Copy)]
+#[derive(Debug)]
 pub(crate) struct Elements {
     /// The shape of a choice; 0 for an array.
     pub(crate) shape: u32,
@@ -31,6 +33,7 @@ pub(crate) struct Elements {
 
 /// An open pod's stage and elements. The stage is a field of its own, so that a key and its value change one byte.
 #[derive(Clone, Copy)]
+#[derive(Debug)]
 pub(crate) struct What {
     /// The kind of the pod.
     pub(crate) stage: Stage,
@@ -40,6 +43,7 @@ pub(crate) struct What {
 
 /// An open pod, and where it begins.
 #[derive(Clone, Copy)]
+#[derive(Debug)]
 pub(crate) struct BegunPod {
     /// The offset of its header in the vector.
     pub(crate) start: usize,

@@ -23,6 +23,7 @@ use crate::parts::spa_view::Pod;
 /// A value is added to the innermost open pod, or is a top-level pod where no pod is open. A call is refused as INVAL
 /// where it isn't allowed there, as NOSPC where it would make the size of the value or of an open pod 4294967296 or more,
 /// and as NOMEM where there is no memory; in this order. A refused call changes nothing.
+#[derive(Debug)]
 pub struct Builder {
     bytes: Written,
     frames: Frames,

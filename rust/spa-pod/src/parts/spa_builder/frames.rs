@@ -77,6 +77,7 @@ fn put(outer: &mut Vec<BegunPod>, frame: BegunPod) {
 }
 
 /// The frames of the open pods.
+#[derive(Debug)]
 pub(crate) struct Frames {
     outer: Vec<BegunPod>,
     innermost: BegunPod,

@@ -8,6 +8,7 @@ use std::io::Write;
 ///
 /// It counts the bytes that the device took, and the writes that failed: those that answered an error, an interruption
 /// among them, or took no byte. A write that fails isn't tried again.
+#[derive(Debug)]
 pub struct IoSink<W: Write> {
     device: W,
     written: u64,

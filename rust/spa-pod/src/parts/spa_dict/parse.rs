@@ -175,6 +175,7 @@ impl ParsableValue for usize {
 
 /// The refusal of a text that can't be read as the type that was asked for.
 #[derive(Debug, PartialEq, Eq)]
+#[cfg_attr(not(feature = "parts"), non_exhaustive)]
 pub struct ParseValueError<'a> {
     pub(crate) text: &'a str,
     pub(crate) type_name: &'static str,

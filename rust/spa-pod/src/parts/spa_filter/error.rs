@@ -9,6 +9,7 @@ use core::fmt;
 /// Why two objects, or the objects of two pods, aren't filtered. The key in a refusal is the first at which `Missing`, `Unsupported` or `Disjoint`
 /// is so, where the keys of the first object come before those that only the second has.
 #[derive(Clone, Copy, PartialEq, Eq, Debug)]
+#[cfg_attr(not(feature = "parts"), non_exhaustive)]
 pub enum FilterError {
     /// The types of the objects differ. No key is looked at then.
     TypeMismatch,

@@ -8,6 +8,7 @@ use core::fmt::Debug;
 
 /// The fault of the bytes at a place.
 #[derive(Clone, Copy, PartialEq, Eq, Debug)]
+#[cfg_attr(not(feature = "parts"), non_exhaustive)]
 pub enum FaultKind {
     /// Fewer bytes are left than a header has, than its size word says, or than a property's key and flags have.
     Short,
@@ -20,6 +21,8 @@ pub enum FaultKind {
 /// A fault of the bytes, with its place, given by the bytes that were left there: from the refused pod on, or from the
 /// property's key that is short.
 #[derive(PartialEq, Debug)]
+#[derive(Clone)]
+#[derive(Eq)]
 pub struct Fault<I> {
     pub input: I,
     pub kind: FaultKind,
@@ -27,6 +30,9 @@ pub struct Fault<I> {
 
 /// Why a pod could not be read.
 #[derive(PartialEq, Debug)]
+#[derive(Clone)]
+#[derive(Eq)]
+#[cfg_attr(not(feature = "parts"), non_exhaustive)]
 pub enum DeserializeError<I> {
     /// At a place there are too few bytes, a pod of another type than the one asked for, or a string's body that is no text
     /// with one NUL behind it.
@@ -53,6 +59,8 @@ pub enum DeserializeError<I> {
     FailedReader,
     /// Memory ran out.
     OutOfMemory,
+    /// More structs and objects stand in one another than the limit says.
+    TooDeep,
 }
 
 impl<I> DeserializeError<I> {
@@ -75,6 +83,7 @@ impl<I> DeserializeError<I> {
             DeserializeError::NoElementLeft => "NoElementLeft",
             DeserializeError::FailedReader => "FailedReader",
             DeserializeError::OutOfMemory => "OutOfMemory",
+            DeserializeError::TooDeep => "TooDeep",
         }
     }
 }
@@ -131,6 +140,7 @@ impl<I> fmt::Display for DeserializeError<I> {
             DeserializeError::NoElementLeft => write!(f, "the array has no further element"),
             DeserializeError::FailedReader => write!(f, "the reader was refused before"),
             DeserializeError::OutOfMemory => write!(f, "out of memory"),
+            DeserializeError::TooDeep => write!(f, "values nest deeper than the limit"),
         }
     }
 }

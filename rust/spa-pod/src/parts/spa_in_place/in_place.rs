@@ -91,5 +91,6 @@ fn with_offset(
         DeserializeError::NoElementLeft => DeserializeError::NoElementLeft,
         DeserializeError::FailedReader => DeserializeError::FailedReader,
         DeserializeError::OutOfMemory => DeserializeError::OutOfMemory,
+        DeserializeError::TooDeep => DeserializeError::TooDeep,
     }
 }

@@ -9,6 +9,7 @@ use core::fmt;
 /// Why two objects, or the objects of two pods, don't meet. The key in a refusal is the first of the first object's keys at which
 /// `Unsupported` or `Disjoint` is so.
 #[derive(Clone, Copy, PartialEq, Eq, Debug)]
+#[cfg_attr(not(feature = "parts"), non_exhaustive)]
 pub enum NegotiateError {
     /// The types of the objects differ. No key is looked at then.
     TypeMismatch,

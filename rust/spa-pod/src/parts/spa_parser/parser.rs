@@ -5,6 +5,7 @@ use crate::parts::spa_utils::{Errno, Frame, Id};
 use crate::parts::spa_view::{Pod, body_bytes, split_first, whole_bytes};
 
 /// The remaining bytes of the input or of an open body.
+#[derive(Debug)]
 pub(crate) struct Remainder<'d> {
     pub(crate) bytes: &'d [u8],
     of_object: bool,
@@ -28,6 +29,7 @@ impl<'d> Remainder<'d> {
 /// A get or a push asks for the next pod by its type and its size. It is refused with PIPE inside an object, or where no
 /// whole pod is left; else with INVAL where the next pod is another one. A refused call changes nothing. Only a push
 /// takes memory.
+#[derive(Debug)]
 pub struct Parser<'d> {
     pub(crate) innermost: Remainder<'d>,
     pub(crate) outer: Vec<Remainder<'d>>,

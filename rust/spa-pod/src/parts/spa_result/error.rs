@@ -5,6 +5,7 @@ use crate::parts::spa_utils::Errno;
 
 /// A call failed. It prints the error's number.
 #[derive(Debug, PartialEq, Eq)]
+#[cfg_attr(not(feature = "parts"), non_exhaustive)]
 pub struct Error(pub(crate) Errno);
 
 impl Error {

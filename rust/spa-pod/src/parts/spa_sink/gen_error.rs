@@ -7,6 +7,7 @@ use core::fmt;
 
 /// Why a value could not be written. It prints the variant's name.
 #[derive(Clone, Copy, PartialEq, Eq, Debug)]
+#[cfg_attr(not(feature = "parts"), non_exhaustive)]
 pub enum GenError {
     /// The bytes don't fit into an output of fixed size.
     Full = 1,

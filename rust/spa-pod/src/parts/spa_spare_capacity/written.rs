@@ -8,6 +8,7 @@ use crate::parts::spa_utils::Errno;
 use core::mem;
 
 /// The bytes that were written. A refused call changes nothing.
+#[derive(Debug)]
 pub struct Written {
     bytes: Vec<u8>,
     count: usize,

@@ -43,10 +43,10 @@ where
 
 /// Any value, which is dropped by a loop: also where a later member is refused.
 impl DeserializeAs for Held {
-    type Content = Value;
+    type Content = crate::api::levels::Unbounded;
 
-    fn of_content(given: Value) -> Held {
-        Held::from(given)
+    fn of_content(given: crate::api::levels::Unbounded) -> Held {
+        Held::from(given.0)
     }
 }
 
@@ -86,6 +86,7 @@ impl<'de, A: ExactDeserialize<'de>, R: DeserializeMembers<'de>> DeserializeMembe
 }
 
 /// The content of a struct with these members: `StructOf<(i32, (Rectangle, ()))>` is a struct of an Int and a Rectangle.
+#[derive(Debug)]
 pub struct StructOf<M>(pub M);
 
 /// A struct of these members and no others. Refusals: those of `DeserializeMembers`, and `Nom` with `Short` or `Tag` where

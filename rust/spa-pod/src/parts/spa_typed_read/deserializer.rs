@@ -24,11 +24,13 @@ impl<'de> PodDeserialize<'de> for Value {
 }
 
 /// Reads one pod from the front of an input.
+#[derive(Debug)]
 pub struct PodDeserializer<'de> {
     pub(crate) input: &'de [u8],
 }
 
 /// A pod was read. `deserialize` gives this beside the value: it has it from the read of another type, or from a reader's `end`.
+#[derive(Debug)]
 pub struct DeserializeSuccess<'de>(PodDeserializer<'de>);
 
 impl<'de> DeserializeSuccess<'de> {
@@ -58,7 +60,7 @@ impl<'de> PodDeserializer<'de> {
     /// Unless memory runs out, this succeeds exactly where the front that the first size word names is there and is a
     /// pod. Refusals: `Nom` with `Short` or `Text`, `InvalidType`, `InvalidChoiceType`, `MissingChoiceValues`,
     /// `WrongSize`, each where that fault stands in the input, and `OutOfMemory`.
-    pub fn deserialize_any_from(
+    pub fn deserialize_any_from_unbounded(
         input: &'de [u8],
     ) -> Result<(&'de [u8], Value), DeserializeError<&'de [u8]>> {
         let mut opened = 0;
@@ -75,7 +77,7 @@ impl<'de> PodDeserializer<'de> {
     /// Unless memory runs out, this succeeds exactly where the front that the first size word names is there and conveys a value. A pod conveys its
     /// own value: where `deserialize_any_from` accepts, this gives the same. Refusals are those of that call, each where that fault stands in
     /// the lenient reading.
-    pub fn deserialize_any_leniently_from(
+    pub fn deserialize_any_leniently_from_unbounded(
         input: &'de [u8],
     ) -> Result<(&'de [u8], Value), DeserializeError<&'de [u8]>> {
         match read_value_leniently(input) {
@@ -105,7 +107,7 @@ impl<'de> PodDeserializer<'de> {
     /// - `MissingChoiceValues`: a choice has fewer values than its shape needs.
     /// - `WrongSize`: a body isn't as long as its type's bodies are, or isn't made of whole elements.
     /// - `OutOfMemory`: memory ran out.
-    pub fn deserialize_any_counted(
+    pub fn deserialize_any_counted_unbounded(
         input: &'de [u8],
     ) -> (Result<(&'de [u8], Value), DeserializeError<&'de [u8]>>, u64) {
         let mut opened = 0;
@@ -116,10 +118,10 @@ impl<'de> PodDeserializer<'de> {
     }
 
     /// Reads the pod at the front of the remaining bytes, of any type. The refusals are those of `deserialize_any_from`.
-    pub fn deserialize_any(
+    pub fn deserialize_any_unbounded(
         self,
     ) -> Result<(Value, DeserializeSuccess<'de>), DeserializeError<&'de [u8]>> {
-        let (rest, value) = PodDeserializer::deserialize_any_from(self.input)?;
+        let (rest, value) = PodDeserializer::deserialize_any_from_unbounded(self.input)?;
         Ok((value, self.after(rest)))
     }
 

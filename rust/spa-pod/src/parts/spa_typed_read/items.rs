@@ -30,6 +30,7 @@ pub(crate) fn open_array_of<'de, T: CanonicalFixedSizedPod>(
 }
 
 /// Reads an array's elements one by one. Once a call was refused, every call answers `FailedReader`.
+#[derive(Debug)]
 pub struct ArrayPodDeserializer<'de, E: FixedSizedPod> {
     left: &'de [u8],
     after: &'de [u8],

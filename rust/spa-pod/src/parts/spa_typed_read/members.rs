@@ -7,6 +7,7 @@ use crate::parts::spa_fixed_sized::DeserializeError;
 use crate::parts::spa_utils::SpaTypes;
 
 /// Reads a struct's members one by one. Once a member was refused, every call answers `FailedReader`.
+#[derive(Debug)]
 pub struct StructPodDeserializer<'de> {
     left: &'de [u8],
     after: &'de [u8],

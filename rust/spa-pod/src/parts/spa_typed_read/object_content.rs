@@ -7,9 +7,11 @@ use crate::parts::spa_typed_read::properties::ObjectPodDeserializer;
 use crate::parts::spa_fixed_sized::DeserializeError;
 
 /// A property that has to be there: the value of the first property with the key `KEY`.
+#[derive(Debug)]
 pub struct Required<const KEY: u32, P>(pub P);
 
 /// A property that may be there: the value of the first property with the key `KEY`, or None.
+#[derive(Debug)]
 pub struct Optional<const KEY: u32, P>(pub Option<P>);
 
 /// The properties of an object, the first and those behind it, up to `()`. The object may have them in any order, and others too.
@@ -99,6 +101,7 @@ impl<
 }
 
 /// The content of an object of this type and id with these properties.
+#[derive(Debug)]
 pub struct ObjectOf<const TYPE: u32, const ID: u32, P>(pub P);
 
 /// An object of this type and id, which has these properties in any order, and may have others. Refusals: `Nom` with `Short` or

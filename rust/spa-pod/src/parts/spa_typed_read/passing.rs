@@ -10,6 +10,7 @@ use crate::parts::spa_value::discard;
 
 /// Any value, which is checked in the borrowed input and not kept. Memory is asked for only where the nesting depth, without containers in tail
 /// position, is above 1000. The refusals are those of `deserialize_any_from`.
+#[derive(Debug)]
 pub struct Skipped;
 
 impl<'de> PodDeserialize<'de> for Skipped {
@@ -19,7 +20,7 @@ impl<'de> PodDeserialize<'de> for Skipped {
         match look_at_pod(deserializer.input) {
             Ok(pod) => Ok((Skipped, deserializer.after(pod.rest))),
             Err(Rejected::Fault(place, _, why)) => Err(error_at(place, why)),
-            Err(Rejected::TooDeep) => match deserializer.deserialize_any() {
+            Err(Rejected::TooDeep) => match deserializer.deserialize_any_unbounded() {
                 Ok((value, success)) => {
                     discard(value);
                     Ok((Skipped, success))

@@ -33,6 +33,7 @@ fn first_asked<'de, R: DeserializeProperties<'de>>(
 }
 
 /// Reads an object's properties one by one. Once a property was refused, every call answers `FailedReader`.
+#[derive(Debug)]
 pub struct ObjectPodDeserializer<'de> {
     type_: u32,
     id: u32,

@@ -14,6 +14,7 @@ use crate::parts::spa_view::{FixedPod, FromPod, Pod};
 ///
 /// The whole object has to be a pod. Formats of real programs may have None choices over arrays or texts, which are no pods: rewrite them by
 /// `rewrite_leniently` first.
+#[derive(Debug)]
 pub struct Settled<T>(pub T);
 
 /// The zero-copy view of the pod at the front, where it is a choice's. None: the front isn't there or is of another type.

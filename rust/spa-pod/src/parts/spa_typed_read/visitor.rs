@@ -8,6 +8,8 @@ use crate::parts::spa_utils::{Fd, Float32, Float64, Fraction, Id, Rectangle};
 use crate::parts::spa_value::ChoiceValue;
 
 /// The content of a pod, of any type but structs and objects, as it is handed to a visitor.
+#[derive(Debug)]
+#[cfg_attr(not(feature = "parts"), non_exhaustive)]
 pub enum Visit<'de, E> {
     /// No value.
     None,
@@ -44,6 +46,7 @@ pub enum Visit<'de, E> {
 }
 
 /// The element type of visitors that take no array. It has no values.
+#[derive(Debug)]
 pub enum Never {}
 
 /// Makes a value of the pod that a typed read finds. Each call may decline what it is handed, with any error:

@@ -9,6 +9,7 @@ use crate::parts::spa_utils::SpaTypes;
 use core::marker::PhantomData;
 
 /// Writes the elements of an array one by one. After a refusal every call answers `Failed`.
+#[derive(Debug)]
 pub struct ArrayPodSerializer<O: PodOutput, P: FixedSizedPod> {
     out: Option<O>,
     start: usize,

@@ -30,6 +30,7 @@ impl<A: ExactSerialize, R: SerializeMembers> SerializeMembers for (&A, R) {
 }
 
 /// The value of a property that may be missing: None writes no property.
+#[derive(Debug)]
 pub struct Maybe<'a, P>(pub &'a Option<P>);
 
 /// The properties of an object, without flags: the first key and value and those behind it, up to `()`. So

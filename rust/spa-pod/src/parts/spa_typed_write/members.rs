@@ -9,11 +9,13 @@ use crate::parts::spa_utils::SpaTypes;
 use crate::parts::spa_value::PropertyFlags;
 
 /// Writes the members of a struct one by one. After a refusal every call answers `Failed`.
+#[derive(Debug)]
 pub struct StructPodSerializer<O: PodOutput> {
     pod: OpenPod<O>,
 }
 
 /// Writes the properties of an object one by one. After a refusal every call answers `Failed`.
+#[derive(Debug)]
 pub struct ObjectPodSerializer<O: PodOutput> {
     pod: OpenPod<O>,
 }

@@ -6,6 +6,7 @@ use crate::parts::spa_bodies::{begin, close};
 use crate::parts::spa_sink::{GenError, PodOutput, put_two};
 
 /// A struct or an object that is open, so that its size word is 0 for now. After a refusal it has no output any more.
+#[derive(Debug)]
 pub(crate) struct OpenPod<O: PodOutput> {
     out: Option<O>,
     start: usize,

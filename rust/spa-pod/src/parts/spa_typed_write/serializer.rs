@@ -15,11 +15,13 @@ pub trait PodSerialize {
 }
 
 /// Writes one pod to the end of an output.
+#[derive(Debug)]
 pub struct PodSerializer<O: PodOutput> {
     pub(crate) out: O,
 }
 
 /// A pod was written: the output, and the length of the pod in bytes.
+#[derive(Debug)]
 pub struct SerializeSuccess<O: PodOutput> {
     pub(crate) out: O,
     pub(crate) len: u64,

@@ -6,6 +6,7 @@ use crate::shims::memory::AllocError;
 
 /// A choice: its flags and its values.
 #[derive(Debug, PartialEq, Eq)]
+#[derive(Hash)]
 pub struct Choice<T>(pub ChoiceFlags, pub ChoiceEnum<T>);
 
 impl<T: Copy> TryClone for Choice<T> {
@@ -17,6 +18,7 @@ impl<T: Copy> TryClone for Choice<T> {
 
 /// The flags word of a choice. No bit has a meaning yet, and all bits are kept.
 #[derive(Clone, Copy, Debug, PartialEq, Eq)]
+#[derive(Hash)]
 pub struct ChoiceFlags(u32);
 
 bitflag_items! {
@@ -45,6 +47,7 @@ impl Flags for ChoiceFlags {
 
 /// The values of a choice, the default among them.
 #[derive(Debug)]
+#[derive(Hash)]
 pub enum ChoiceEnum<T> {
     /// The one value.
     None(T),

@@ -3,6 +3,7 @@
 use crate::shims::prelude::*;
 /// The number of a type, as in a pod's header. The constants are the basic types; any other number is kept.
 #[derive(Clone, Copy, Debug, PartialEq, Eq)]
+#[derive(Hash)]
 pub struct SpaTypes(pub u32);
 
 impl SpaTypes {

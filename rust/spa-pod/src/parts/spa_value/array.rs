@@ -4,6 +4,8 @@ use crate::parts::spa_utils::{Fd, Float32, Float64, Fraction, Id, Rectangle};
 
 /// The elements of an array, in order, which are of one of the ten types of fixed size.
 #[derive(Debug)]
+#[derive(Eq)]
+#[derive(Hash)]
 pub enum ValueArray {
     /// Units, which have no bytes: any number of them is written as an empty array, which is read as no units.
     None(Vec<()>),

@@ -4,6 +4,8 @@ use crate::parts::spa_utils::{Choice, Fd, Float32, Float64, Fraction, Id, Rectan
 
 /// A choice over one of the nine types of fixed size that have bytes.
 #[derive(Debug)]
+#[derive(Eq)]
+#[derive(Hash)]
 pub enum ChoiceValue {
     /// Among truth values.
     Bool(Choice<bool>),

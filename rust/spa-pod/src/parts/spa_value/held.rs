@@ -8,6 +8,7 @@ use core::ops::Deref;
 /// A value that is dropped by `discard`, a loop, where it goes out of scope: so its nesting depth may be whatever untrusted bytes made it.
 ///
 /// `*` borrows the value. `into_inner` hands it over, after which its own drop calls itself for each level of nesting.
+#[derive(Debug)]
 pub struct Held {
     value: Value,
 }

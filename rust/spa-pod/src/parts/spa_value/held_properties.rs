@@ -9,6 +9,7 @@ use crate::parts::spa_utils::Errno;
 /// The properties, in order, that an object of a macro has so far. Where they aren't handed over, `discard` drops their values, at any nesting
 /// depth.
 #[doc(hidden)]
+#[derive(Debug)]
 pub struct HeldProperties {
     properties: Vec<Property>,
 }

@@ -6,6 +6,7 @@ use crate::shims::flags::{Flag, Flags, bitflag_items};
 
 /// The flags word of a property. Bits without a name are kept.
 #[derive(Clone, Copy, PartialEq, Eq, Debug)]
+#[derive(Hash)]
 pub struct PropertyFlags(u32);
 
 bitflag_items! {
@@ -45,6 +46,8 @@ impl Flags for PropertyFlags {
 
 /// A property of an object: a key, flags and a value. Keys may repeat in an object.
 #[derive(Debug)]
+#[derive(Eq)]
+#[derive(Hash)]
 pub struct Property {
     /// The key. What it means depends on the object's type.
     pub key: u32,
@@ -67,6 +70,8 @@ impl Property {
 
 /// An object: a type, an id, and properties in order.
 #[derive(Debug)]
+#[derive(Eq)]
+#[derive(Hash)]
 pub struct Object {
     /// The object's type: SPA's own are numbered from 262145 on.
     pub type_: u32,

@@ -7,6 +7,9 @@ use crate::parts::spa_utils::{Fd, Float32, Float64, Fraction, Id, Rectangle};
 
 /// Any value that a pod can say.
 #[derive(Debug)]
+#[derive(Eq)]
+#[derive(Hash)]
+#[cfg_attr(not(feature = "parts"), non_exhaustive)]
 pub enum Value {
     /// No value.
     None,

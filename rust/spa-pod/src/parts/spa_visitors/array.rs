@@ -6,6 +6,7 @@ use crate::parts::spa_typed_read::{ObjectPodDeserializer, StructPodDeserializer,
 use core::marker::PhantomData;
 
 /// Answers the elements that it is given.
+#[derive(Debug)]
 pub struct VecVisitor<E> {
     element: PhantomData<E>,
 }

@@ -5,6 +5,7 @@ use crate::parts::spa_fixed_sized::DeserializeError;
 use crate::parts::spa_typed_read::{Never, ObjectPodDeserializer, StructPodDeserializer, Visit, Visitor};
 
 /// Answers the text that it is given, borrowed from the input.
+#[derive(Debug)]
 pub struct StringVisitor;
 
 impl<'de> Visitor<'de> for StringVisitor {
@@ -38,6 +39,7 @@ impl<'de> Visitor<'de> for StringVisitor {
 }
 
 /// Answers the bytes that it is given, borrowed from the input.
+#[derive(Debug)]
 pub struct BytesVisitor;
 
 impl<'de> Visitor<'de> for BytesVisitor {
@@ -71,6 +73,7 @@ impl<'de> Visitor<'de> for BytesVisitor {
 }
 
 /// Answers the bytes of the bitmap that it is given, borrowed from the input.
+#[derive(Debug)]
 pub struct BitmapVisitor;
 
 impl<'de> Visitor<'de> for BitmapVisitor {
@@ -105,6 +108,7 @@ impl<'de> Visitor<'de> for BitmapVisitor {
 
 /// Answers the type number and the address that it is given.
 #[derive(Default)]
+#[derive(Debug)]
 pub struct PointerVisitor;
 
 impl<'de> Visitor<'de> for PointerVisitor {

@@ -12,6 +12,7 @@ pub trait Handed: Sized {
 }
 
 /// Answers the values of the type `T` that it is given.
+#[derive(Debug)]
 pub struct HandedVisitor<T>(pub(crate) PhantomData<T>);
 
 impl<'de, T: Handed> Visitor<'de> for HandedVisitor<T> {

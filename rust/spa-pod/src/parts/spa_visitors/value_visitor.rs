@@ -7,6 +7,7 @@ use crate::parts::spa_value::{Object, Property, Value, discard};
 
 /// Makes a `Value` of any content, of a struct's members and of an object's properties. It declines the elements of an array,
 /// as `UnsupportedType`: `PodDeserializer::deserialize_any` reads those.
+#[derive(Debug)]
 pub struct ValueVisitor {
 }
 

@@ -28,7 +28,7 @@ pub fn negotiate_by_values(a: &[u8], b: &[u8]) -> Result<Vec<u8>, NegotiateError
 /// The object at the front of a side's bytes.
 fn object_at(bytes: &[u8], side: Side) -> Result<Held, NegotiateError> {
     readings_are_normal();
-    match PodDeserializer::deserialize_any_from(bytes) {
+    match PodDeserializer::deserialize_any_from_unbounded(bytes) {
         Ok((_rest, value)) => {
             let held = Held::from(value);
             if is_object(&*held) {

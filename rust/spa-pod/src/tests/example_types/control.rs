@@ -86,7 +86,7 @@ impl<'de> PodDeserialize<'de> for Control {
     fn deserialize(
         deserializer: PodDeserializer<'de>,
     ) -> Result<(Control, DeserializeSuccess<'de>), DeserializeError<&'de [u8]>> {
-        let (value, success) = deserializer.deserialize_any()?;
+        let (value, success) = deserializer.deserialize_any_unbounded()?;
         match control_in(value) {
             Ok(control) => Ok((control, success)),
             Err(e) => Err(e),

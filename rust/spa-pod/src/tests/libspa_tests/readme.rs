@@ -20,7 +20,7 @@ mod read {
 
     /// How many properties the object at the front has.
     pub fn count(bytes: &[u8]) -> Result<usize, DeserializeError<&[u8]>> {
-        let (_rest, value) = PodDeserializer::deserialize_any_from(bytes)?;
+        let (_rest, value) = PodDeserializer::deserialize_any_from_unbounded(bytes)?;
         let held = Held::from(value);
         match &*held {
             Value::Object(object) => Ok(object.properties.len()),

@@ -28,14 +28,14 @@ impl<'de> PodDeserialize<'de> for Any {
     fn deserialize(
         deserializer: PodDeserializer<'de>,
     ) -> Result<(Any, DeserializeSuccess<'de>), DeserializeError<&'de [u8]>> {
-        let (value, success) = deserializer.deserialize_any()?;
+        let (value, success) = deserializer.deserialize_any_unbounded()?;
         Ok((Any(value), success))
     }
 }
 
 /// What the read of any value answers.
 fn read(input: &[u8]) -> Answer<'_> {
-    PodDeserializer::deserialize_any_from(input)
+    PodDeserializer::deserialize_any_from_unbounded(input)
 }
 
 /// What the read by the type `Value` answers.

@@ -46,7 +46,7 @@ pub(crate) fn answer_headers(
 
 /// Appends what a counted read answers, how many headers it opens, and how deep the clone of its value is.
 fn push_counted(input: &[u8], answers: &mut String) -> Result<(), AllocError> {
-    let (answer, count) = PodDeserializer::deserialize_any_counted(input);
+    let (answer, count) = PodDeserializer::deserialize_any_counted_unbounded(input);
     match answer {
         Ok((_, value)) => {
             let value = Held::from(value);
@@ -120,7 +120,7 @@ fn push_same(
 
 /// The value at the front, if it is there.
 fn read(input: &[u8]) -> Result<Option<Held>, AllocError> {
-    match PodDeserializer::deserialize_any_from(input) {
+    match PodDeserializer::deserialize_any_from_unbounded(input) {
         Ok((_, value)) => Ok(Some(Held::from(value))),
         Err(DeserializeError::OutOfMemory) => Err(AllocError),
         Err(_) => Ok(None),

@@ -57,7 +57,7 @@ fn rewritten(input: &[u8]) -> Result<Rewriting, AllocError> {
 
 /// The encoding of the value that is read of the front.
 fn read(input: &[u8]) -> Result<Rewriting, AllocError> {
-    match PodDeserializer::deserialize_any_leniently_from(input) {
+    match PodDeserializer::deserialize_any_leniently_from_unbounded(input) {
         Ok((_, value)) => Ok(Ok(encoding(&Held::from(value))?)),
         Err(DeserializeError::OutOfMemory) => Err(AllocError),
         Err(error) => Ok(Err(error.kind())),

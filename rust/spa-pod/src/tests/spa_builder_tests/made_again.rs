@@ -209,7 +209,7 @@ fn bytes_again(words: &[u32]) -> Result<Vec<u8>, AllocError> {
 
 /// The value of these bytes.
 fn read(bytes: &[u8]) -> Result<Held, DeserializeError<&[u8]>> {
-    let (_, value) = PodDeserializer::deserialize_any_from(bytes)?;
+    let (_, value) = PodDeserializer::deserialize_any_from_unbounded(bytes)?;
     Ok(Held::from(value))
 }
 

@@ -85,7 +85,7 @@ fn rows() -> &'static [(&'static [u8], &'static str)] {
 
 /// The name of the refusal, or that there is none.
 fn answer_to(input: &[u8]) -> &'static str {
-    match PodDeserializer::deserialize_any_from(input) {
+    match PodDeserializer::deserialize_any_from_unbounded(input) {
         Ok((_, value)) => {
             discard(value);
             "accepted"

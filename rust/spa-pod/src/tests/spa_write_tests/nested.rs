@@ -8,7 +8,7 @@ use crate::shims::test::Fail;
 
 /// The value at the front, which is there.
 pub(crate) fn read(input: &[u8]) -> Result<Value, Fail> {
-    match PodDeserializer::deserialize_any_from(input) {
+    match PodDeserializer::deserialize_any_from_unbounded(input) {
         Ok((_, value)) => Ok(value),
         Err(DeserializeError::OutOfMemory) => Err(Fail::from(AllocError)),
         Err(_) => Err(Fail::from("it isn't read")),

@@ -39,7 +39,7 @@ pub(crate) fn between(
 
 /// The value at the front.
 pub(crate) fn read(bytes: &[u8]) -> Result<Held, Fail> {
-    match PodDeserializer::deserialize_any_from(bytes) {
+    match PodDeserializer::deserialize_any_from_unbounded(bytes) {
         Ok((_, value)) => Ok(Held::from(value)),
         Err(DeserializeError::OutOfMemory) => Err(Fail::from(AllocError)),
         Err(_) => Err(Fail::from("it isn't read")),

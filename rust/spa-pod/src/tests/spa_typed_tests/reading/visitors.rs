@@ -209,7 +209,7 @@ fn assert_deep_refused(
 ) -> Result<(), Fail> {
     let input = deep(before, behind)?;
     let found = called(call, input.as_slice())?;
-    assert_said(found.as_str(), "InvalidType", "a deep value");
+    assert_said(found.as_str(), "TooDeep", "a deep value");
     Ok(())
 }
 

@@ -1,0 +1,75 @@
+"""What users of Rust expect of the generated types and calls beside the proved text: attributes in front of public types, and the plain
+names of reads for those that bound the nesting depth. For a generated file, the text, and what stands in its place."""
+import re
+
+# Attributes in front of public types.
+ATTRIBUTES = {
+    '#[derive(Debug)]': ['Builder', 'IoSink', 'Parser', 'StructOf', 'PodDeserializer', 'DeserializeSuccess', 'ArrayPodDeserializer',
+                         'StructPodDeserializer', 'Required', 'Optional', 'ObjectOf', 'Skipped', 'ObjectPodDeserializer', 'Settled', 'Visit', 'Never',
+                         'ArrayPodSerializer', 'Maybe', 'StructPodSerializer', 'ObjectPodSerializer', 'PodSerializer', 'SerializeSuccess', 'Held',
+                         'HeldProperties', 'VecVisitor', 'StringVisitor', 'BytesVisitor', 'BitmapVisitor', 'PointerVisitor', 'HandedVisitor',
+                         'ValueVisitor', 'OpenPod', 'Frames', 'Remainder', 'Written',
+                         'BegunPod', 'What', 'Stage', 'Elements'],
+    '#[derive(Clone)]': ['DeserializeError', 'Fault'],
+    '#[derive(Eq)]': ['DeserializeError', 'Fault', 'Value', 'ValueArray', 'ChoiceValue', 'Object', 'Property'],
+    '#[derive(Hash)]': ['Value', 'ValueArray', 'ChoiceValue', 'Object', 'Property', 'PropertyFlags', 'Choice', 'ChoiceEnum', 'ChoiceFlags',
+                        'Id', 'Fd', 'Float32', 'Float64', 'Fraction', 'Rectangle', 'SpaTypes'],
+    '#[derive(Default)]': ['Id', 'Fd', 'Float32', 'Float64', 'Fraction', 'Rectangle'],
+    # The other packages of this repository, for which the feature `parts` is, match all variants.
+    '#[cfg_attr(not(feature = "parts"), non_exhaustive)]': ['Value', 'Visit', 'DeserializeError', 'FaultKind', 'GenError', 'NegotiateError', 'FilterError', 'Error', 'ParseValueError'],
+}
+PUBLIC = re.compile(r'^pub(?:\(crate\))? (?:struct|enum) (\w+)', re.M)
+
+# The reads of any value whose plain names bound the nesting depth, in src/api/levels.rs.
+READS = re.compile(r'\b(deserialize_any(?:_from|_leniently_from|_counted)?)(?=\()')
+
+# What else stands in place of what, in a file.
+PLACES = {
+    # The read of the type Value is the bounded one.
+    'parts/spa_typed_read/deserializer.rs': [('{\n        deserializer.deserialize_any_unbounded()\n', '{\n        deserializer.deserialize_any()\n')],
+    # A value that is dropped by a loop may nest in any depth.
+    'parts/spa_typed_read/content.rs': [
+        ('    type Content = Value;\n\n    fn of_content(given: Value) -> Held {\n        Held::from(given)\n',
+         '    type Content = crate::api::levels::Unbounded;\n\n    fn of_content(given: crate::api::levels::Unbounded) -> Held {\n        Held::from(given.0)\n'),
+    ],
+    'tests/spa_typed_tests/reading/visitors.rs': [
+        ('assert_said(found.as_str(), "InvalidType", "a deep value")', 'assert_said(found.as_str(), "TooDeep", "a deep value")'),
+    ],
+    # The refusal of a value that nests too deep.
+    'parts/spa_fixed_sized/fault.rs': [
+        ('    OutOfMemory,\n}\n\nimpl<I> DeserializeError<I> {\n',
+         '    OutOfMemory,\n    /// More structs and objects stand in one another than the limit says.\n    TooDeep,\n}\n\nimpl<I> DeserializeError<I> {\n'),
+        ('            DeserializeError::OutOfMemory => "OutOfMemory",\n',
+         '            DeserializeError::OutOfMemory => "OutOfMemory",\n            DeserializeError::TooDeep => "TooDeep",\n'),
+        ('            DeserializeError::OutOfMemory => write!(f, "out of memory"),\n',
+         '            DeserializeError::OutOfMemory => write!(f, "out of memory"),\n'
+         '            DeserializeError::TooDeep => write!(f, "values nest deeper than the limit"),\n'),
+    ],
+    'parts/spa_in_place/in_place.rs': [
+        ('        DeserializeError::OutOfMemory => DeserializeError::OutOfMemory,\n',
+         '        DeserializeError::OutOfMemory => DeserializeError::OutOfMemory,\n'
+         '        DeserializeError::TooDeep => DeserializeError::TooDeep,\n'),
+    ],
+    # Floats print as numbers, by src/api/numbers.rs; the proved tests compare what is printed of their bits.
+    'parts/spa_utils/float.rs': [
+        ('#[derive(Clone, Copy, Debug, PartialEq, Eq)]\npub struct Float%s' % bits,
+         '#[cfg_attr(any(test, feature = "parts"), derive(Debug))]\n#[derive(Clone, Copy, PartialEq, Eq)]\npub struct Float%s' % bits)
+        for bits in ('32', '64')
+    ],
+}
+
+
+def surfaced(path, text):
+    """The text of a generated file with all of that."""
+    text = READS.sub(r'\1_unbounded', text)
+    for old, new in PLACES.get(path, []):
+        if text.count(old) != 1:
+            raise ValueError('%s: "%s" stands in %d places' % (path, old, text.count(old)))
+        text = text.replace(old, new)
+    if not path.startswith('parts/'):
+        return text
+
+    def attributed(found):
+        return ''.join(attribute + '\n' for attribute, names in ATTRIBUTES.items() if found.group(1) in names) + found.group(0)
+
+    return PUBLIC.sub(attributed, text)

@@ -20,6 +20,9 @@ ATTRIBUTES = {
 }
 PUBLIC = re.compile(r'^pub(?:\(crate\))? (?:struct|enum) (\w+)', re.M)
 
+# Public functions whose answers are all that they give: they change nothing, and their answers aren't Results, which say so themselves.
+ANSWERING = re.compile(r'^( *)(pub (?:const )?fn \w+(?:<[^;{}]*?>)?\((?:(?!&mut)[^;{}])*?\) -> (?!Result\b)[^;{]*\{)', re.M)
+
 # The reads of any value whose plain names bound the nesting depth, in src/api/levels.rs.
 READS = re.compile(r'\b(deserialize_any(?:_from|_leniently_from|_counted)?)(?=\()')
 
@@ -72,4 +75,4 @@ def surfaced(path, text):
     def attributed(found):
         return ''.join(attribute + '\n' for attribute, names in ATTRIBUTES.items() if found.group(1) in names) + found.group(0)
 
-    return PUBLIC.sub(attributed, text)
+    return ANSWERING.sub(r'\1#[must_use]\n\1\2', PUBLIC.sub(attributed, text))

@@ -1,7 +1,7 @@
 #![doc = include_str!("../README.md")]
 #![no_std]
 #![forbid(unsafe_code)]
-#![warn(missing_docs)]
+#![warn(missing_docs, missing_debug_implementations)]
 #![cfg_attr(docsrs, feature(doc_cfg))]
 
 extern crate alloc;
@@ -16,7 +16,12 @@ mod api;
 #[allow(unused_imports, unused_variables, dead_code, non_upper_case_globals, missing_docs)]
 // The proved text also drops what has nothing to drop in Rust, and makes empty arrays of what a call gives.
 #[allow(clippy::style, clippy::complexity, clippy::perf, clippy::drop_non_drop, clippy::zero_repeat_side_effects)]
+// Values whose `==` was proved are equal exactly where all fields are, so that a derived Hash is theirs.
+#[allow(clippy::pedantic, clippy::derived_hash_with_manual_eq)]
+#[warn(clippy::must_use_candidate)]
 mod parts;
+// What the proved text calls for each number is put in line, and a search without branches is.
+#[allow(clippy::inline_always, clippy::needless_bitwise_bool)]
 mod shims;
 #[cfg(all(test, feature = "std"))]
 pub(crate) use shims::memory::tests::try_format;
@@ -33,6 +38,8 @@ pub use shims::memory::{AllocError, TryClone};
 pub mod pod {
     pub use crate::api::faults::{FoundFault, find_fault};
     pub use crate::api::levels::MOST_LEVELS;
+    pub use crate::api::values::{WrongType, same};
+    pub use crate::parts::libspa::pod::same as try_same;
     pub use crate::parts::libspa::pod::*;
 }
 

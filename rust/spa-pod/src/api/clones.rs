@@ -5,12 +5,9 @@ use crate::shims::memory::{AllocError, TryClone};
 use crate::utils::dict::CIter;
 use crate::utils::{Choice, ChoiceEnum, SpaTypes};
 
-/// The copy, where there is memory.
-fn copy_of<T: TryClone>(value: &T) -> T {
-    match value.try_clone() {
-        Ok(copy) => copy,
-        Err(_) => panic!("out of memory"),
-    }
+/// What was made, where there is memory.
+pub fn with_memory<T, E>(made: Result<T, E>) -> T {
+    made.unwrap_or_else(|_| panic!("out of memory"))
 }
 
 macro_rules! clone_by_try {
@@ -21,7 +18,7 @@ macro_rules! clone_by_try {
         /// Where memory is refused.
         impl Clone for $name {
             fn clone(&self) -> $name {
-                copy_of(self)
+                with_memory(self.try_clone())
             }
         }
     )* };
@@ -31,13 +28,13 @@ clone_by_try!(Value, ValueArray, ChoiceValue, Object, Property);
 
 impl<T: Copy> Clone for Choice<T> {
     fn clone(&self) -> Choice<T> {
-        copy_of(self)
+        with_memory(self.try_clone())
     }
 }
 
 impl<T: Copy> Clone for ChoiceEnum<T> {
     fn clone(&self) -> ChoiceEnum<T> {
-        copy_of(self)
+        with_memory(self.try_clone())
     }
 }
 

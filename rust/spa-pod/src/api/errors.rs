@@ -18,6 +18,7 @@ impl DeserializeError<&[u8]> {
     /// assert_eq!(count(&[0, 0, 0, 0, 1, 0, 0, 0]).unwrap(), 8);
     /// assert!(count(&[9, 0, 0, 0]).is_err());
     /// ```
+    #[must_use]
     pub fn placed_in(self, input: &[u8]) -> DeserializeError<usize> {
         match self {
             DeserializeError::Nom(fault) => DeserializeError::Nom(Fault {

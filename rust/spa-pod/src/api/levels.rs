@@ -26,12 +26,11 @@ pub(crate) fn within(levels: u32, extent: usize, value: Value) -> Option<Value> 
     Some(value)
 }
 
+/// What a read answers: the bytes that are left, and the value.
+type Answer<'de> = Result<(&'de [u8], Value), DeserializeError<&'de [u8]>>;
+
 /// What an unbounded read answered, where the value nests within so many levels.
-fn bounded<'de>(
-    levels: u32,
-    input: &[u8],
-    read: Result<(&'de [u8], Value), DeserializeError<&'de [u8]>>,
-) -> Result<(&'de [u8], Value), DeserializeError<&'de [u8]>> {
+fn bounded<'de>(levels: u32, input: &[u8], read: Answer<'de>) -> Answer<'de> {
     let (rest, value) = read?;
     match within(levels, input.len() - rest.len(), value) {
         Some(value) => Ok((rest, value)),
@@ -75,7 +74,7 @@ impl<'de> PodDeserializer<'de> {
 
     /// Reads as [`deserialize_any_from`](Self::deserialize_any_from) does, and counts the pod headers that are opened on the way, as
     /// [`deserialize_any_counted_unbounded`](Self::deserialize_any_counted_unbounded) does, which takes any nesting depth.
-    pub fn deserialize_any_counted(input: &'de [u8]) -> (Result<(&'de [u8], Value), DeserializeError<&'de [u8]>>, u64) {
+    pub fn deserialize_any_counted(input: &'de [u8]) -> (Answer<'de>, u64) {
         let (read, opened) = PodDeserializer::deserialize_any_counted_unbounded(input);
         (bounded(MOST_LEVELS, input, read), opened)
     }

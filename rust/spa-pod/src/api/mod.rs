@@ -5,3 +5,5 @@ pub mod faults;
 pub mod levels;
 mod numbers;
 pub mod reading;
+pub mod values;
+mod views;

@@ -295,7 +295,7 @@ impl<'de, T> ReadAs<'de> for Vec<T> where Vec<T>: PodDeserialize<'de> {}
 
 impl<'de, T> ReadAs<'de> for Choice<T> where Choice<T>: PodDeserialize<'de> {}
 
-impl<'de, T: FixedPod> ReadAs<'de> for Settled<T> {}
+impl<T: FixedPod> ReadAs<'_> for Settled<T> {}
 
 impl<'de, T> ReadAs<'de> for T
 where

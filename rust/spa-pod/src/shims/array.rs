@@ -23,34 +23,42 @@ impl core::error::Error for CapacityError {}
 
 impl<const N: usize> ArrayVec<u8, N> {
     /// No bytes.
+    #[must_use]
     pub const fn new() -> Self {
         ArrayVec { bytes: [0; N], len: 0 }
     }
 
     /// How many bytes it holds.
     #[inline(always)]
+    #[must_use]
     pub fn len(&self) -> usize {
         self.len
     }
 
     /// Whether it holds none.
+    #[must_use]
     pub fn is_empty(&self) -> bool {
         self.len == 0
     }
 
     /// How many more it takes.
     #[inline(always)]
+    #[must_use]
     pub fn remaining_capacity(&self) -> usize {
         N - self.len
     }
 
     /// The bytes.
     #[inline(always)]
+    #[must_use]
     pub fn as_slice(&self) -> &[u8] {
         &self.bytes[..self.len]
     }
 
-    /// Puts these bytes at the end, or none where they don't fit.
+    /// Puts these bytes at the end.
+    ///
+    /// # Errors
+    /// Where they don't fit: then none of them is put there.
     #[inline(always)]
     pub fn try_extend_from_slice(&mut self, xs: &[u8]) -> Result<(), CapacityError> {
         if xs.len() > N - self.len {
@@ -62,6 +70,9 @@ impl<const N: usize> ArrayVec<u8, N> {
     }
 
     /// Puts a byte at the end.
+    ///
+    /// # Errors
+    /// Where it doesn't fit.
     pub fn try_push(&mut self, x: u8) -> Result<(), CapacityError> {
         self.try_extend_from_slice(&[x])
     }

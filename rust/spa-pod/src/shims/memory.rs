@@ -38,7 +38,10 @@ impl<T> From<AllocFailed<T>> for AllocError {
 
 /// A copy that may be refused for want of memory.
 pub trait TryClone: Sized {
-    /// The copy, or want of memory.
+    /// The copy.
+    ///
+    /// # Errors
+    /// Want of memory.
     fn try_clone(&self) -> Result<Self, AllocError>;
 }
 
@@ -49,6 +52,7 @@ impl TryClone for String {
 }
 
 /// Growth of a vector. Each call asks for memory first, and leaves the vector as it was where that is refused.
+#[allow(clippy::missing_errors_doc)]
 pub trait VecRoom<T>: Sized {
     /// An empty vector with room for so many.
     fn with_room(count: usize) -> Result<Self, AllocError>;

@@ -16,6 +16,7 @@ pub fn read_fixed<T: CanonicalFixedSizedPod>(body: &[u8]) -> Result<T, Refusal> 
 /// The borrowed text of a string's body, before its one NUL, which is its last byte. None: the body is empty, its last byte isn't
 /// NUL, another byte is, or the bytes before it aren't UTF-8.
 #[cfg_attr(not(debug_assertions), inline(always))]
+#[must_use]
 pub fn text_of(body: &[u8]) -> Option<&str> {
     let Some((last, text)) = body.split_last() else {
         return None;

@@ -4,6 +4,7 @@ use crate::shims::prelude::*;
 use crate::parts::spa_fixed_sized::{DeserializeError, Fault, FaultKind, Refusal};
 
 /// The public refusal for an inner one at this place. Only `Short` and `Text` keep the place.
+#[must_use]
 pub fn error_at(place: &[u8], why: Refusal) -> DeserializeError<&[u8]> {
     match why {
         Refusal::Short => DeserializeError::Nom(Fault {

@@ -31,6 +31,7 @@ pub struct Builder {
 
 impl Builder {
     /// A builder over this vector, which is emptied.
+    #[must_use]
     pub fn new(bytes: Vec<u8>) -> Builder {
         let frames = Frames::new();
         let bytes = Written::new(bytes);
@@ -38,11 +39,13 @@ impl Builder {
     }
 
     /// The bytes of the vector: the closed pods, and behind them those of the open pods so far.
+    #[must_use]
     pub fn as_bytes(&self) -> &[u8] {
         self.bytes.as_slice()
     }
 
     /// How many pods are open. It is the number of the innermost one's frame.
+    #[must_use]
     pub fn open_frames(&self) -> usize {
         self.frames.len()
     }
@@ -56,6 +59,7 @@ impl Builder {
     }
 
     /// The vector, also where pods are open.
+    #[must_use]
     pub fn into_inner(self) -> Vec<u8> {
         self.bytes.into_inner()
     }

@@ -16,11 +16,13 @@ pub struct Front<'de> {
 
 /// The length in bytes of a pod whose body has `size` bytes: its header, the body, and the padding.
 #[cfg_attr(not(debug_assertions), inline(always))]
+#[must_use]
 pub fn extent_of(size: u32) -> usize {
     HEADER_LEN + (size as usize).div_ceil(HEADER_LEN) * HEADER_LEN
 }
 
 /// Opens the pod that the first size word names. None: it isn't all there.
+#[must_use]
 pub fn open(input: &[u8]) -> Option<Front<'_>> {
     if input.len() < HEADER_LEN {
         return None;

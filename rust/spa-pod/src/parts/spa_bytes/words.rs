@@ -16,12 +16,14 @@ pub const POINTER_LEN: usize = 16;
 pub const SHORT_POINTER_LEN: usize = 12;
 
 /// The word at the offset `at`, least byte first.
+#[must_use]
 pub fn u32_at(bytes: &[u8], at: usize) -> u32 {
     let word = &bytes[at..at + 4];
     u32::from_le_bytes([word[0], word[1], word[2], word[3]])
 }
 
 /// The number of the eight bytes at the offset `at`, least byte first.
+#[must_use]
 pub fn u64_at(bytes: &[u8], at: usize) -> u64 {
     let word = &bytes[at..at + 8];
     u64::from_le_bytes([

@@ -17,6 +17,7 @@ pub struct IoSink<W: Write> {
 
 impl<W: Write> IoSink<W> {
     /// A sink over this device. Both counts begin at 0.
+    #[must_use]
     pub fn new(device: W) -> IoSink<W> {
         IoSink {
             device,
@@ -26,16 +27,19 @@ impl<W: Write> IoSink<W> {
     }
 
     /// The device.
+    #[must_use]
     pub fn into_inner(self) -> W {
         self.device
     }
 
     /// How many bytes the device took.
+    #[must_use]
     pub fn written(&self) -> u64 {
         self.written
     }
 
     /// How many writes failed.
+    #[must_use]
     pub fn failures(&self) -> u64 {
         self.failures
     }

@@ -41,16 +41,19 @@ pub struct DictRef<'a> {
 
 impl<'a> DictRef<'a> {
     /// The dictionary of these pairs, with these flags.
+    #[must_use]
     pub fn new(items: &'a [(&'a [u8], &'a [u8])], flags: Flags) -> DictRef<'a> {
         DictRef { items, flags }
     }
 
     /// All pairs in order, as bytes.
+    #[must_use]
     pub fn iter_cstr(&self) -> CIter<'a> {
         CIter { items: self.items }
     }
 
     /// The pairs whose key and value both are UTF-8, in order.
+    #[must_use]
     pub fn iter(&self) -> Iter<'a> {
         Iter {
             inner: self.iter_cstr(),
@@ -58,6 +61,7 @@ impl<'a> DictRef<'a> {
     }
 
     /// The keys that are UTF-8, in order.
+    #[must_use]
     pub fn keys(&self) -> Keys<'a> {
         Keys {
             inner: self.iter_cstr(),
@@ -65,6 +69,7 @@ impl<'a> DictRef<'a> {
     }
 
     /// The values that are UTF-8, in order.
+    #[must_use]
     pub fn values(&self) -> Values<'a> {
         Values {
             inner: self.iter_cstr(),
@@ -72,21 +77,25 @@ impl<'a> DictRef<'a> {
     }
 
     /// How many pairs there are, text or not.
+    #[must_use]
     pub fn len(&self) -> usize {
         self.items.len()
     }
 
     /// Whether there is no pair.
+    #[must_use]
     pub fn is_empty(&self) -> bool {
         self.items.is_empty()
     }
 
     /// The dictionary's flags.
+    #[must_use]
     pub fn flags(&self) -> Flags {
         self.flags
     }
 
     /// The value of the first pair with this key, among the pairs whose key and value are UTF-8. None: no such pair has it.
+    #[must_use]
     pub fn get(&self, key: &str) -> Option<&'a str> {
         let mut pairs = self.iter();
         while let Some((name, value)) = pairs.next() {
@@ -99,6 +108,7 @@ impl<'a> DictRef<'a> {
 
     /// The text that `get` answers, read as a `T`; None where `get` answers none. Refused where the text is no text of a `T`, with
     /// the text and the name of `T`.
+    #[must_use]
     pub fn parse<T: ParsableValue>(&self, key: &str) -> Option<Result<T, ParseValueError<'a>>> {
         let text = self.get(key)?;
         Some(T::parse_value(text).ok_or(ParseValueError {

@@ -15,6 +15,7 @@ pub struct Inside<'a> {
 
 /// Whether pods of this type are containers: structs or objects.
 #[cfg_attr(not(debug_assertions), inline(always))]
+#[must_use]
 pub fn is_container(type_: u32) -> bool {
     type_ == SpaTypes::Struct.0 || type_ == SpaTypes::Object.0
 }
@@ -22,6 +23,7 @@ pub fn is_container(type_: u32) -> bool {
 /// Whether the pods inside are keyed, of a container whose body has `size` bytes. None: it is no container, or an object too short for its type
 /// and id.
 #[cfg_attr(not(debug_assertions), inline(always))]
+#[must_use]
 pub fn keyed_inside(type_: u32, size: usize) -> Option<bool> {
     if type_ == SpaTypes::Struct.0 {
         return Some(false);
@@ -34,6 +36,7 @@ pub fn keyed_inside(type_: u32, size: usize) -> Option<bool> {
 
 /// The pods in the body of a container. None: the type is another one, or the body is too short for an object's type and id.
 #[cfg_attr(not(debug_assertions), inline(always))]
+#[must_use]
 pub fn inside_of(type_: u32, body: &[u8]) -> Option<Inside<'_>> {
     let Some(keyed) = keyed_inside(type_, body.len()) else {
         return None;
@@ -47,12 +50,14 @@ pub fn inside_of(type_: u32, body: &[u8]) -> Option<Inside<'_>> {
 
 /// How many bytes are before each pod: those of a key and flags, or none.
 #[cfg_attr(not(debug_assertions), inline(always))]
+#[must_use]
 pub fn key_len(keyed: bool) -> usize {
     if keyed { HEADER_LEN } else { 0 }
 }
 
 /// The bytes behind the first key and flags, where these are before each pod, and else all. None: key and flags aren't there.
 #[cfg_attr(not(debug_assertions), inline(always))]
+#[must_use]
 pub fn behind_key(keyed: bool, left: &[u8]) -> Option<&[u8]> {
     if !keyed {
         return Some(left);
@@ -66,6 +71,7 @@ pub fn behind_key(keyed: bool, left: &[u8]) -> Option<&[u8]> {
 
 /// Opens the first of the pods, behind its key and flags where `keyed` is set. None: it isn't all there.
 #[cfg_attr(not(debug_assertions), inline(always))]
+#[must_use]
 pub fn open_first(keyed: bool, left: &[u8]) -> Option<Front<'_>> {
     let Some(here) = behind_key(keyed, left) else {
         return None;

@@ -2,6 +2,7 @@
 
 use crate::shims::prelude::*;
 /// The least multiple of a step from `low` to `high`. None: there is none; of the step 0 there never is.
+#[must_use]
 pub fn first_multiple(low: u64, high: u64, step: u64) -> Option<u64> {
     if step == 0 {
         return None;
@@ -17,6 +18,7 @@ pub fn first_multiple(low: u64, high: u64, step: u64) -> Option<u64> {
 }
 
 /// The least multiple of a step from `low` to `high`, which may be below 0: a number is a multiple where its magnitude is. None: there is none.
+#[must_use]
 pub fn first_signed(low: i64, high: i64, step: u64) -> Option<i64> {
     if step == 0 {
         return None;

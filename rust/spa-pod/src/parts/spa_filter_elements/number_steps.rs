@@ -16,6 +16,7 @@ pub struct NumberSteps {
 
 /// The numbers of `steps` that are multiples of another step, too. `least` and `greatest` are the bounds of a number type. Where the least common
 /// multiple isn't within them, only 0 may be a multiple of both: then `low` becomes at least 0, `high` at most 0, and the step stays.
+#[must_use]
 pub fn narrowed(steps: &NumberSteps, other: i64, least: i64, greatest: i64) -> NumberSteps {
     match common_step(steps.step, other, least, greatest) {
         Some(step) => NumberSteps {

@@ -62,6 +62,7 @@ fn meet_wide<T: Element>(a: &Offer<'_, T>, b: &Offer<'_, T>) -> Option<Value> {
 }
 
 /// The element as a value, where both offers admit it; no other element may be admitted by both. None: no element is.
+#[must_use]
 pub fn meet_only<T: Element>(a: &Offer<'_, T>, b: &Offer<'_, T>, x: &T) -> Option<Value> {
     if admits(a, x) && admits(b, x) {
         return Some(x.value());

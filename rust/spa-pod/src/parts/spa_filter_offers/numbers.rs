@@ -29,6 +29,7 @@ impl Numbers {
     }
 
     /// The search key of a value of one or two numbers, whose type has no negative ones.
+    #[must_use]
     pub fn unsigned(type_: u32, first: u64, second: u64) -> Numbers {
         Numbers {
             type_,

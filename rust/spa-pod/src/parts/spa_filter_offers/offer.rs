@@ -21,6 +21,7 @@ pub enum Offer<'a, T> {
 }
 
 /// The offer of a choice. The choice's own flags don't count.
+#[must_use]
 pub fn offer_of<T: Element>(choice: &ChoiceEnum<T>) -> Offer<'_, T> {
     match choice {
         ChoiceEnum::None(default) => Offer::Only(*default),
@@ -47,6 +48,7 @@ pub fn offer_of<T: Element>(choice: &ChoiceEnum<T>) -> Offer<'_, T> {
 }
 
 /// The default of an offer.
+#[must_use]
 pub fn default_of<T: Element>(offer: &Offer<'_, T>) -> T {
     match offer {
         Offer::Only(default) => *default,
@@ -58,11 +60,13 @@ pub fn default_of<T: Element>(offer: &Offer<'_, T>) -> T {
 }
 
 /// Whether two elements are the same.
+#[must_use]
 pub fn is_same<T: Element>(x: &T, y: &T) -> bool {
     x.numbers() == y.numbers()
 }
 
 /// Whether an element is one of these, by a linear search.
+#[must_use]
 pub fn is_among<T: Element>(x: &T, elements: &[T]) -> bool {
     for element in elements {
         if is_same(x, element) {
@@ -82,6 +86,7 @@ fn is_one_of<T: Element>(x: &T, first: &T, others: &[T]) -> bool {
 
 /// Whether an offer admits an element. The alternatives of an Enum are searched one by one.
 #[inline(never)]
+#[must_use]
 pub fn admits<T: Element>(offer: &Offer<'_, T>, x: &T) -> bool {
     match offer {
         Offer::Only(default) => is_same(x, default),

@@ -11,6 +11,7 @@ use crate::shims::memory::AllocError;
 
 /// The borrowed bytes of the elements in the body of an array over the type `T`, where its sizes are right: the child size is the
 /// type's, and whole elements follow. None: they aren't. It asks for no memory.
+#[must_use]
 pub fn open_array<T: CanonicalFixedSizedPod>(body: &[u8]) -> Option<&[u8]> {
     let (_, elements) = body.split_at(HEADER_LEN);
     if u32_at(body, 0) as usize != T::SIZE {
@@ -29,6 +30,7 @@ pub fn open_array<T: CanonicalFixedSizedPod>(body: &[u8]) -> Option<&[u8]> {
 }
 
 /// The bytes that follow the first element, and that element.
+#[must_use]
 pub fn next_element<T: CanonicalFixedSizedPod>(elements: &[u8]) -> (&[u8], T) {
     let (first, rest) = elements.split_at(T::SIZE);
     (rest, T::of_body(first))

@@ -65,6 +65,7 @@ pub enum DeserializeError<I> {
 
 impl<I> DeserializeError<I> {
     /// The variant's name; for `Nom` the name of the fault's kind.
+    #[must_use]
     pub fn kind(&self) -> &'static str {
         match self {
             DeserializeError::Nom(fault) => match fault.kind {

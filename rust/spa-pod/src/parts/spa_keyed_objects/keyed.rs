@@ -23,6 +23,7 @@ impl<'a> Keyed<'a> {
     }
 
     /// The first property with this key, in a time that grows with log n.
+    #[must_use]
     pub fn find(&self, key: u32) -> Option<&'a Property> {
         match self.places.get(&key) {
             Some(place) => Some(&self.properties[*place]),

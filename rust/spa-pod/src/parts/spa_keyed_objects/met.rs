@@ -13,6 +13,7 @@ pub struct Met {
 
 impl Met {
     /// No properties yet.
+    #[must_use]
     pub fn new() -> Met {
         Met {
             properties: Vec::new(),
@@ -20,6 +21,7 @@ impl Met {
     }
 
     /// The properties, which the caller owns then.
+    #[must_use]
     pub fn into_properties(mut self) -> Vec<Property> {
         let properties = core::mem::take(&mut self.properties);
         properties

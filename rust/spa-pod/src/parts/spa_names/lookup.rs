@@ -10,6 +10,7 @@ use crate::parts::spa_names::types::OBJECT_PROP_INFO;
 use crate::parts::spa_utils::SpaTypes;
 
 /// The name of a number. None: the table has none.
+#[must_use]
 pub fn name_of(table: Table, number: u32) -> Option<&'static str> {
     match entry_of(table, number) {
         Some(entry) => Some(&entry.1[entry.2..]),
@@ -18,6 +19,7 @@ pub fn name_of(table: Table, number: u32) -> Option<&'static str> {
 }
 
 /// PipeWire's own name for a number, which ends in its name. None: the table has none.
+#[must_use]
 pub fn path_of(table: Table, number: u32) -> Option<&'static str> {
     match entry_of(table, number) {
         Some(entry) => Some(entry.1),
@@ -26,6 +28,7 @@ pub fn path_of(table: Table, number: u32) -> Option<&'static str> {
 }
 
 /// What is expected of the value under a key, by the table of its object's keys.
+#[must_use]
 pub fn expected_under(keys: Table, key: u32) -> Expected {
     match entry_of(keys, key) {
         Some(entry) => expected_at(entry.3),
@@ -43,6 +46,7 @@ fn expected_at(place: usize) -> Expected {
 }
 
 /// The number of a name. None: the table doesn't have it.
+#[must_use]
 pub fn number_of(table: Table, name: &str) -> Option<u32> {
     match number_at(table, name) {
         Some((number, _)) => Some(number),
@@ -51,6 +55,7 @@ pub fn number_of(table: Table, name: &str) -> Option<u32> {
 }
 
 /// The number of a key by its name, and what is expected of the value under it. None: the table of its object's keys doesn't have the name.
+#[must_use]
 pub fn key_named(keys: Table, name: &str) -> Option<(u32, Expected)> {
     match number_at(keys, name) {
         Some((number, place)) => match entry_near(keys, number, place) {
@@ -77,6 +82,7 @@ fn number_at(table: Table, name: &str) -> Option<(u32, usize)> {
 }
 
 /// The table of the keys of objects of this type.
+#[must_use]
 pub fn keys_of(type_: SpaTypes) -> Table {
     match object_of(type_) {
         Some((_, keys, _)) => keys,
@@ -85,6 +91,7 @@ pub fn keys_of(type_: SpaTypes) -> Table {
 }
 
 /// The table of the ids of objects of this type.
+#[must_use]
 pub fn ids_of(type_: SpaTypes) -> Table {
     match object_of(type_) {
         Some((_, _, ids)) => ids,

@@ -7,6 +7,7 @@ use crate::parts::spa_value::laws::trees_have_their_types;
 use crate::parts::spa_value::{ChoiceValue, Value};
 
 /// Whether a common value is sought for this value and another: it is plain, a None choice, an Enum, or a Range over `Id`, `i32` or `i64`.
+#[must_use]
 pub fn is_supported(value: &Value) -> bool {
     trees_have_their_types();
     match value {

@@ -19,6 +19,7 @@ pub enum ObjectPod<'a> {
 impl ObjectPod<'_> {
     /// The view of the object. None: there is no object in the bytes.
     #[cfg_attr(not(debug_assertions), inline(always))]
+    #[must_use]
     pub fn view(&self) -> Option<ObjectView<'_>> {
         match self {
             ObjectPod::Borrowed(object) => Some(ObjectView {

@@ -40,6 +40,7 @@ impl<'a> Keyed<'a> {
 
     /// The first property with this key. None: no property has it.
     #[cfg_attr(not(debug_assertions), inline(always))]
+    #[must_use]
     pub fn find(&self, key: u32) -> Option<PropertyView<'a>> {
         match &self.order {
             None => find(self.properties, key),
@@ -49,6 +50,7 @@ impl<'a> Keyed<'a> {
 
     /// Whether no property has this key.
     #[cfg_attr(not(debug_assertions), inline(always))]
+    #[must_use]
     pub fn lacks(&self, key: u32) -> bool {
         match self.find(key) {
             Some(_) => false,
@@ -58,12 +60,14 @@ impl<'a> Keyed<'a> {
 
     /// Whether no property of `other` and none before `first` here has the key of `first`. All keys before it are below `bound`.
     #[cfg_attr(not(debug_assertions), inline(always))]
+    #[must_use]
     pub fn is_new_beside(&self, other: &Keyed<'_>, first: &PropertyView<'_>, bound: u64) -> bool {
         other.lacks(first.key) && self.is_new(first, bound)
     }
 
     /// Whether no property before `first` has its key. All keys before it are below `bound`.
     #[cfg_attr(not(debug_assertions), inline(always))]
+    #[must_use]
     pub fn is_new(&self, first: &PropertyView<'_>, bound: u64) -> bool {
         if u64::from(first.key) >= bound {
             return true;
@@ -83,6 +87,7 @@ impl<'a> Keyed<'a> {
 
 /// The bound raised so that this key is below it, too.
 #[cfg_attr(not(debug_assertions), inline(always))]
+#[must_use]
 pub fn raised(bound: u64, key: u32) -> u64 {
     let key = u64::from(key);
     if key < bound { bound } else { key + 1 }

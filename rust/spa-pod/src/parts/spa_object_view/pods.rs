@@ -8,6 +8,7 @@ use crate::parts::spa_utils::SpaTypes;
 const SMALL_LEN: usize = 16;
 
 /// Whether a pod has another type than that of choices.
+#[must_use]
 pub fn is_plain(pod: &[u8]) -> bool {
     if pod.len() < HEADER_LEN {
         return false;
@@ -16,6 +17,7 @@ pub fn is_plain(pod: &[u8]) -> bool {
 }
 
 /// Whether two pods are the same bytes: those of 16 bytes are compared by two numbers each.
+#[must_use]
 pub fn are_same(pod: &[u8], other: &[u8]) -> bool {
     if pod.len() != SMALL_LEN || other.len() != SMALL_LEN {
         return pod == other;

@@ -37,6 +37,7 @@ pub struct Parser<'d> {
 
 impl<'d> Parser<'d> {
     /// A parser at the front of the bytes, with nothing open.
+    #[must_use]
     pub fn new(input: &'d [u8]) -> Parser<'d> {
         Parser {
             innermost: Remainder {
@@ -48,6 +49,7 @@ impl<'d> Parser<'d> {
     }
 
     /// A parser at the front of the pod, whose first get sees the pod itself.
+    #[must_use]
     pub fn from_pod(pod: Pod<'d>) -> Parser<'d> {
         Parser::new(whole_bytes(&pod))
     }

@@ -16,6 +16,7 @@ pub struct Printed<'a> {
 
 impl<'a> Printed<'a> {
     /// This value, printed.
+    #[must_use]
     pub fn new(value: &'a Value) -> Printed<'a> {
         Printed { value }
     }

@@ -15,6 +15,7 @@ pub struct AsyncSeq(i32);
 
 impl AsyncSeq {
     /// Bit 30 over the low 30 bits of the number.
+    #[must_use]
     pub fn from_seq(seq: i32) -> AsyncSeq {
         AsyncSeq((SEQ_COUNT + seq.cast_unsigned() % SEQ_COUNT) as i32)
     }
@@ -23,17 +24,20 @@ impl AsyncSeq {
     ///
     /// # Panics
     /// Where it isn't one.
+    #[must_use]
     pub fn from_raw(code: i32) -> AsyncSeq {
         assert!(code.cast_unsigned() >> SEQ_BITS == 1, "the code is not asynchronous");
         AsyncSeq(code)
     }
 
     /// The sequence number: the low 30 bits.
+    #[must_use]
     pub fn seq(&self) -> i32 {
         (self.0.cast_unsigned() % SEQ_COUNT) as i32
     }
 
     /// The code.
+    #[must_use]
     pub fn raw(&self) -> i32 {
         self.0
     }

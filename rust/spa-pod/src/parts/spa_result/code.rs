@@ -20,16 +20,19 @@ pub enum SpaSuccess {
 
 impl SpaResult {
     /// The result of that code.
+    #[must_use]
     pub fn from_c(code: i32) -> SpaResult {
         SpaResult(code)
     }
 
     /// The result of a call that will complete later, under the low 30 bits of this number.
+    #[must_use]
     pub fn new_return_async(seq: i32) -> SpaResult {
         SpaResult(AsyncSeq::from_seq(seq).raw())
     }
 
     /// Whether the code's top two bits are 01: the call will complete later.
+    #[must_use]
     pub fn is_async(&self) -> bool {
         self.0.cast_unsigned() >> SEQ_BITS == 1
     }

@@ -10,6 +10,7 @@ pub struct Error(pub(crate) Errno);
 
 impl Error {
     /// The error's number.
+    #[must_use]
     pub fn errno(&self) -> Errno {
         self.0
     }

@@ -34,12 +34,14 @@ enum First<'a> {
 ///
 /// `None` says that it isn't, or that more than 1000 structs and objects stand in one another, not counting those in tail position:
 /// such a pod may not be looked into, and may still be canonical.
+#[must_use]
 pub fn canonical_front(input: &[u8]) -> Option<&[u8]> {
     next_canonical(input, &mut no_frames(input))
 }
 
 /// The first pods, as many as `canonical_front` finds to be canonical, and what follows them.
 #[inline(never)]
+#[must_use]
 pub fn canonical_stretch(input: &[u8]) -> (&[u8], &[u8]) {
     let mut frames = [list(input); FEW];
     let mut left = input;

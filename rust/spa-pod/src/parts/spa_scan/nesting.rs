@@ -10,6 +10,7 @@ use crate::parts::spa_events::{inside_of, is_container, open_first};
 /// It takes no memory, and calls itself at most `levels` deep. A service asks it before it compares by `==`, prints by `{:?}` or drops
 /// a value that others made, since these call themselves for each level. On bytes that aren't accepted it counts the structs
 /// and objects that walks over whole pods meet in one another: none where no front is there.
+#[must_use]
 pub fn nests_within(input: &[u8], levels: u32) -> bool {
     match open(input) {
         Some(front) => body_nests_within(front.type_, front.body, levels),
@@ -18,6 +19,7 @@ pub fn nests_within(input: &[u8], levels: u32) -> bool {
 }
 
 /// Whether at most so many structs and objects stand in one another in each pod of an input, as `nests_within` counts them.
+#[must_use]
 pub fn all_nest_within(pods: &[u8], levels: u32) -> bool {
     pods_nest_within(false, pods, levels)
 }

@@ -55,30 +55,35 @@ fn write_over(bytes: &mut Vec<u8>, at: usize, piece: &[u8]) {
 impl Written {
     /// No bytes yet, over this vector.
     #[inline]
+    #[must_use]
     pub fn new(bytes: Vec<u8>) -> Written {
         Written { bytes, count: 0 }
     }
 
     /// How many bytes are written.
     #[cfg_attr(not(debug_assertions), inline(always))]
+    #[must_use]
     pub fn len(&self) -> usize {
         self.count
     }
 
     /// The offset at which the next byte will be written.
     #[cfg_attr(not(debug_assertions), inline(always))]
+    #[must_use]
     pub fn place(&self) -> usize {
         self.count
     }
 
     /// The bytes that are written.
     #[inline]
+    #[must_use]
     pub fn as_slice(&self) -> &[u8] {
         &self.bytes[..self.count]
     }
 
     /// The vector, with the bytes that are written and nothing else.
     #[inline]
+    #[must_use]
     pub fn into_inner(self) -> Vec<u8> {
         let Written { mut bytes, count } = self;
         bytes.truncate(count);

@@ -107,6 +107,7 @@ impl<'de> PodDeserializer<'de> {
     /// - `MissingChoiceValues`: a choice has fewer values than its shape needs.
     /// - `WrongSize`: a body isn't as long as its type's bodies are, or isn't made of whole elements.
     /// - `OutOfMemory`: memory ran out.
+    #[must_use]
     pub fn deserialize_any_counted_unbounded(
         input: &'de [u8],
     ) -> (Result<(&'de [u8], Value), DeserializeError<&'de [u8]>>, u64) {

@@ -63,11 +63,13 @@ impl<'de> ObjectPodDeserializer<'de> {
     }
 
     /// The object's type.
+    #[must_use]
     pub fn type_(&self) -> u32 {
         self.type_
     }
 
     /// The object's id.
+    #[must_use]
     pub fn id(&self) -> u32 {
         self.id
     }

@@ -15,16 +15,19 @@ impl Direction {
     pub const Output: Direction = Direction(1);
 
     /// The direction of that number.
+    #[must_use]
     pub fn from_raw(raw: u32) -> Direction {
         Direction(raw)
     }
 
     /// The number.
+    #[must_use]
     pub fn as_raw(&self) -> u32 {
         self.0
     }
 
     /// The other of the two directions. Any other number stays.
+    #[must_use]
     pub fn reverse(&self) -> Direction {
         match *self {
             Direction::Input => Direction::Output,

@@ -25,11 +25,13 @@ impl Errno {
     pub const PROTO: Errno = Errno(71);
 
     /// The error of that number.
+    #[must_use]
     pub fn from_raw(number: u32) -> Errno {
         Errno(number)
     }
 
     /// The number.
+    #[must_use]
     pub fn raw_os_error(&self) -> u32 {
         self.0
     }

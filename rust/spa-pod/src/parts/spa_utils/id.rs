@@ -9,6 +9,7 @@ pub struct Id(pub u32);
 
 impl Id {
     /// The number.
+    #[must_use]
     pub fn as_raw(&self) -> u32 {
         self.0
     }

@@ -68,11 +68,13 @@ impl SpaTypes {
     pub const Pod: SpaTypes = SpaTypes(20);
 
     /// The type of that number.
+    #[must_use]
     pub fn from_raw(raw: u32) -> SpaTypes {
         SpaTypes(raw)
     }
 
     /// The number.
+    #[must_use]
     pub fn as_raw(&self) -> u32 {
         self.0
     }

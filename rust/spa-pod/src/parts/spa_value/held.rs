@@ -21,6 +21,7 @@ impl From<Value> for Held {
 
 impl Held {
     /// The value itself, which the caller has to drop.
+    #[must_use]
     pub fn into_inner(mut self) -> Value {
         let value = core::mem::take(&mut self.value);
         value

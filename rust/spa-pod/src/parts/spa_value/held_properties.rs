@@ -16,6 +16,7 @@ pub struct HeldProperties {
 
 impl HeldProperties {
     /// No properties.
+    #[must_use]
     pub fn new() -> HeldProperties {
         HeldProperties {
             properties: Vec::new(),
@@ -33,6 +34,7 @@ impl HeldProperties {
     }
 
     /// The object with this type, this id and these properties.
+    #[must_use]
     pub fn into_object(mut self, type_: u32, id: u32) -> Object {
         let properties = core::mem::take(&mut self.properties);
         Object {

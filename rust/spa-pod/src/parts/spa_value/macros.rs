@@ -6,6 +6,7 @@ use crate::parts::spa_utils::ChoiceFlags;
 
 /// The flags of a choice that a macro makes: 0.
 #[doc(hidden)]
+#[must_use]
 pub fn no_flags() -> ChoiceFlags {
     ChoiceFlags::empty()
 }

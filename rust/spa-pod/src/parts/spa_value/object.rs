@@ -59,6 +59,7 @@ pub struct Property {
 
 impl Property {
     /// A property with flags 0.
+    #[must_use]
     pub fn new(key: u32, value: Value) -> Property {
         Property {
             key,

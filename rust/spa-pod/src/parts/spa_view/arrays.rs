@@ -17,16 +17,19 @@ pub struct PodArray<'a> {
 
 impl<'a> PodArray<'a> {
     /// The type of the elements.
+    #[must_use]
     pub fn element_type(&self) -> SpaTypes {
         SpaTypes(u32_at(self.body, SECOND_WORD))
     }
 
     /// The size of one element, in bytes.
+    #[must_use]
     pub fn element_size(&self) -> u32 {
         u32_at(self.body, 0)
     }
 
     /// How many whole elements there are; 0 where the size of an element is 0.
+    #[must_use]
     pub fn len(&self) -> usize {
         let size = self.element_size() as usize;
         if size == 0 {
@@ -76,21 +79,25 @@ pub struct PodChoice<'a> {
 
 impl<'a> PodChoice<'a> {
     /// The choice's pod.
+    #[must_use]
     pub fn as_pod(&self) -> Pod<'a> {
         self.pod
     }
 
     /// The shape word: 0 None, 1 Range, 2 Step, 3 Enum, 4 Flags. A greater one is no shape's.
+    #[must_use]
     pub fn shape(&self) -> u32 {
         u32_at(self.pod.body(), 0)
     }
 
     /// The flags word, which means nothing in a None choice.
+    #[must_use]
     pub fn flags(&self) -> ChoiceFlags {
         ChoiceFlags::from_bits_retain(u32_at(self.pod.body(), SECOND_WORD))
     }
 
     /// The values that the shape takes, the default first: of None one, of Range three, of Step four, of any other all that are there.
+    #[must_use]
     pub fn values(&self) -> PodArray<'a> {
         let (_, values) = self.pod.body().split_at(HEADER_LEN);
         let most = match self.shape() {

@@ -11,11 +11,13 @@ pub struct PodStruct<'a> {
 
 impl<'a> PodStruct<'a> {
     /// The struct's pod.
+    #[must_use]
     pub fn as_pod(&self) -> Pod<'a> {
         self.pod
     }
 
     /// An iterator over the members in order, up to the first that isn't a whole pod.
+    #[must_use]
     pub fn fields(&self) -> PodStructIter<'a> {
         PodStructIter {
             left: self.pod.body(),

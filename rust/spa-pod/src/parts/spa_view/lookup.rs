@@ -72,6 +72,7 @@ impl<'a> FromPod<'a> for &'a [u8] {
 impl<'a> PodObject<'a> {
     /// The value of the first property with the key, or, where that is a None choice, the choice's value. None exactly where no
     /// property has the key, or the first one's value is of another type.
+    #[must_use]
     pub fn get<T: FromPod<'a>>(&self, key: Id) -> Option<T> {
         match self.find_prop(key) {
             Some(prop) => T::from_pod(&prop.value().settled()),

@@ -17,6 +17,7 @@ pub struct Pod<'a> {
 
 impl<'a> Pod<'a> {
     /// The pod at the front of the bytes. None: there are fewer than 8 bytes, or fewer than the whole pod has.
+    #[must_use]
     pub fn from_bytes(bytes: &'a [u8]) -> Option<Pod<'a>> {
         if bytes.len() < HEADER_LEN {
             return None;
@@ -31,21 +32,25 @@ impl<'a> Pod<'a> {
     }
 
     /// Header and body, without the padding.
+    #[must_use]
     pub fn as_bytes(&self) -> &'a [u8] {
         &self.bytes[..HEADER_LEN + self.size() as usize]
     }
 
     /// The length of the pod in bytes, with header and padding.
+    #[must_use]
     pub fn extent(&self) -> usize {
         self.bytes.len()
     }
 
     /// The type in the header.
+    #[must_use]
     pub fn type_(&self) -> SpaTypes {
         SpaTypes(u32_at(self.bytes, TYPE_AT))
     }
 
     /// The size of the body, in bytes.
+    #[must_use]
     pub fn size(&self) -> u32 {
         u32_at(self.bytes, SIZE_AT)
     }

@@ -26,27 +26,32 @@ pub struct PodObject<'a> {
 
 impl<'a> PodObject<'a> {
     /// The object's pod.
+    #[must_use]
     pub fn as_pod(&self) -> Pod<'a> {
         self.pod
     }
 
     /// The object's type.
+    #[must_use]
     pub fn type_(&self) -> SpaTypes {
         SpaTypes(u32_at(self.pod.body(), OBJECT_TYPE_AT))
     }
 
     /// The object's id.
+    #[must_use]
     pub fn id(&self) -> Id {
         Id(u32_at(self.pod.body(), OBJECT_ID_AT))
     }
 
     /// An iterator over the properties in order, up to the first that isn't whole.
+    #[must_use]
     pub fn props(&self) -> PodObjectIter<'a> {
         let (_, left) = self.pod.body().split_at(HEADER_LEN);
         PodObjectIter { left }
     }
 
     /// The first property with the key. None: no property has it.
+    #[must_use]
     pub fn find_prop(&self, key: Id) -> Option<PodProp<'a>> {
         for prop in self.props() {
             if prop.key() == key {
@@ -57,6 +62,7 @@ impl<'a> PodObject<'a> {
     }
 
     /// Whether no property's value is a choice of a shape other than None.
+    #[must_use]
     pub fn is_fixated(&self) -> bool {
         for prop in self.props() {
             if !prop.value().is_settled() {
@@ -75,16 +81,19 @@ pub struct PodProp<'a> {
 
 impl<'a> PodProp<'a> {
     /// The key.
+    #[must_use]
     pub fn key(&self) -> Id {
         Id(u32_at(self.bytes, KEY_AT))
     }
 
     /// The flags.
+    #[must_use]
     pub fn flags(&self) -> PodPropFlags {
         PodPropFlags(u32_at(self.bytes, FLAGS_AT))
     }
 
     /// The value.
+    #[must_use]
     pub fn value(&self) -> Pod<'a> {
         let (_, bytes) = self.bytes.split_at(HEADER_LEN);
         Pod { bytes }

@@ -15,6 +15,7 @@ impl<'a> Pod<'a> {
     ///
     /// The bytes of a None choice's value are a pod: the choice's child header is its header, and the bytes behind the value in
     /// the choice are its padding. A None choice whose child size is greater than its body has room for stays itself.
+    #[must_use]
     pub fn settled(&self) -> Pod<'a> {
         match self.none_value() {
             Some(value) => value,

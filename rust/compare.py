@@ -12,14 +12,14 @@ import re
 import sys
 
 import rattle
-from crates import WHOLE, parts_and_tests
+from crates import WHOLE, crates_of_packages
 
 GHOST_ATTRIBUTES = {'tactic', 'cycle', 'derive_where', 'rattlefmt'}
-MEMORY = r'(?:[&*] )*(?:(?:\w+ \. )+alloc(?: \( \))?|(?:\w+ \. )+allocator \( \)|rt|alloc|\$ alloc|Global)'
+MEMORY = r'(?:[&*] )*(?:(?:\w+ \. )+alloc(?: \( \))?|(?:\w+ \. )+allocator \( \)|self \. rt|rt|alloc|\$ alloc|Global)'
 TYPED = r'(?:mut )?_?alloc : (?:Global|%s)|rt : (?:&? ?HostRuntime|& impl Abort)|%s' % (MEMORY, MEMORY)
 RENAMED = [('push', 'try_push'), ('push_reserved', 'push'), ('reserve', 'make_room'), ('insert', 'try_insert'), ('resize', 'try_resize'),
            ('extend_from_slice', 'try_extend_from_slice'), ('push_str', 'try_push_str'), ('split_off', 'try_split_off'),
-           ('repeat', 'try_repeat'), ('append', 'try_append'), ('with_capacity', 'with_room'), ('from_slice', 'try_from_slice'),
+           ('repeat', 'try_repeat'), ('append', 'try_append'), ('with_capacity', 'with_room'), ('from_slice', 'try_from_slice'), ('reserve_exact', 'make_room_exact'),
            ('from_str', 'try_from_str'), ('from_array', 'try_from_array'), ('collect', 'try_to_vec'), ('to_vec', 'try_to_vec')]
 
 # The rules of docs/RUST.md: a name, what goes, and what comes in its place, as tokens with spaces between them. A group of what goes is
@@ -36,6 +36,7 @@ RULES = [
     ('memory in macros', r'in (?:\$ alloc : expr|%s) ;' % MEMORY, r''),
     ('memory in macros', r'%s ;' % MEMORY, r''),
     ('memory in macros', r'(vec|format) ! ([\[(]) in %s ;' % MEMORY, r'crate : : try_\1 ! \2'),
+    ('memory in macros', r'(vec|format) ! ([\[(]) in %s ;' % MEMORY, r'spa_pod : : try_\1 ! \2'),
     ('memory in macros', r'vec ! \[ in \$ alloc ;', r'$ crate : : try_vec ! ['),
     ('fallible copies', r'Clone', r'TryClone'),
     ('fallible copies', r'\. clone \( \)', r'. try_clone ( )'),
@@ -43,6 +44,10 @@ RULES = [
     ('fallible copies', r'1\.clone \( \)', r'1.try_clone ( )'),
     ('fallible copies', r'fn clone \( & self \)', r'fn try_clone ( & self )'),
     ('names of fallible calls', r'Vec : : reserve', r'VecRoom : : make_room'),
+    ('names of fallible calls', r'\. replace \( %s ,' % MEMORY, r'. try_replace ('),
+    ('runtime', r"< 'a > \{ (?:pub )?rt : & 'a HostRuntime , \}", r'{ }'),
+    ('runtime', r"SystemFiles < '_ >", r'SystemFiles'),
+    ('bits of floats', r'(f32|f64)_from_bits_with_nan', r'\1 : : from_bits'),
     ('search for NUL', r'contains \( & 0 \)', r'has_nul ( )'),
     ('Drop', r'# \[ derive \( Drop \) \]', r''),
     ('Drop', r', Drop|Drop ,|\+ Drop|: Drop|Drop \+|: Drop \+', r''),
@@ -54,11 +59,13 @@ RULES = [
     ('errors', r', thiserror : : Error', r''),
     ('errors', r'# \[ error \( "[^"]*" \) \]', r''),
     ('final', r'final', r''),
-    ('paths into crates', r'', r'crate : : (?:parts|tests) : :'),
-    ('paths into crates', r'crate : :', r'crate : : (?:parts|tests) : : \w+ : :'),
+    ('paths into crates', r'', r'(?:crate|spa_pod|spa_pod_cli|spav) : : parts : :'),
+    ('paths into crates', r'crate : :', r'(?:crate|spa_pod|spa_pod_cli|spav) : : parts : : \w+ : :'),
     ('paths into crates', r'\$ crate : :', r'\$ crate : : macros : : \w+ : :'),
+    ('paths into crates', r'bitflags : :', r'(?:crate|spa_pod) : : shims : : flags : :'),
+    ('paths into crates', r'(?:hex|itoa|ryu|fast_float) : :', r'(?:crate|spa_pod) : : shims : : numerals : :'),
+    ('paths into crates', r'anyhow : :', r'crate : : shims : : anyhow : :'),
     ('paths', r'std : :', r'core : :'),
-    ('paths', r'bitflags : :', r'crate : : shims : : flags : :'),
     ('tests', r'\) - > Result < \( \) , Fail > \{',
      r'\) \{ crate : : shims : : test : : run \( (\w+) \( \) \) \} fn \1 \( \) - > Result < \( \) , Fail > \{'),
     ('tests', r'fn main \( rt : HostRuntime \)', r'pub fn main \( \)'),
@@ -67,6 +74,9 @@ RULES = [
     ('tests', r'rt \. stdin', r'crate : : shims : : test : : stdin'),
     ('tests', r'rt \. stdout', r'crate : : shims : : test : : stdout'),
     ('features', r'', r'# [ cfg ( feature = "std" ) ]'),
+    ('laws are not public', r'', r'# [ cfg ( feature = "parts" ) ]'),
+    ('exports', r'# \[ unsafe \( no_mangle \) \] pub extern "C" fn', r'pub fn'),
+    ('exports', r'mod (\w+) ;', r'pub ( crate ) mod \1 ;'),
     ('asserted', r'', r'assert ! \( [^;]* \) ;'),
     ('inlined', r'', r'# [ cfg_attr ( not ( debug_assertions ) , inline ( always ) ) ]'),
     ('inlined', r'# \[ inline \( always \) \]', r'# [ cfg_attr ( not ( debug_assertions ) , inline ( always ) ) ]'),
@@ -96,6 +106,22 @@ def compiled(rules):
 
 PATTERNS = {'paths into crates', 'tests', 'asserted', 'surface'}
 COMPILED = list(compiled(RULES))
+
+
+def laws_of(texts):
+    """The rules of the laws that do nothing, by the texts of all files of laws: of each crate and module, its tokens without contracts."""
+    names, before = set(), None
+    while before != names:
+        before = set(names)
+        calls = r'(?:(?:\w*laws : : )?(?:%s) (?:: : < [^;]*? > )?\( [^;]*?\) ; )*' % '|'.join(sorted(names) or ['-'])
+        function = re.compile(r'pub fn (\w+) (?:< [^{]*? > )?\( [^{]*?\) \{ %s\} ' % calls)
+        for text in texts.values():
+            names.update(function.findall(text))
+    whole = {file for file, text in texts.items() if 'fn ' not in function.sub('', text)}
+    any_of = '(?:%s)' % '|'.join(sorted(names) or ['-'])
+    rules = [('laws', r'(?:\w*laws : : )?%s (?:: : < [^;]*? > )?\( [^;]*?\) ;' % any_of, ''), ('laws', function.pattern[:-1].replace(r'(\w+)', any_of), '')]
+    rules += [('laws', r'pub mod %s ;' % module, '') for module in {module for _, module in whole}]
+    return names, whole, list(compiled(rules))
 
 
 def contracts_dropped(tokens):
@@ -166,34 +192,46 @@ def uses_apart(tokens):
     return out, paths
 
 
-def same_place(path, name, crates):
+# Modules of shims, for what they stand.
+SHIMS = [('std::alloc', 'memory'), ('std::collections', 'sorted'), ('std::test', 'test'), ('std::simd', 'lanes'), ('bitflags', 'flags'),
+         ('arrayvec', 'array'), ('json', 'json'), ('clap', 'clap')]
+
+
+def same_place(path, name):
     """A Rust path as the Rattle file of the crate of this name has it."""
-    path = re.sub(r'^crate::(?:parts|tests)::(\w+)', lambda m: 'crate' if m.group(1) == name else m.group(1), path)
-    for old, new in (('std::alloc', 'crate::shims::memory'), ('std::collections', 'crate::shims::sorted'), ('std::test', 'crate::shims::test'),
-                     ('bitflags', 'crate::shims::flags'), ('arrayvec', 'crate::shims::array'), ('std', 'core')):
-        path = re.sub('^%s(?=::|$)' % new, old, path)
+    path = re.sub(r'^\w+::parts::(\w+)', lambda m: 'crate' if m.group(1) == name else m.group(1), path)
+    for old, new in SHIMS:
+        path = re.sub(r'^(?:crate|spa_pod)::shims::%s(?=::|$)' % new, old, path)
+    path = re.sub('^core(?=::|$)', 'std', path)
     return path
 
 
-def judge_uses(rattles, rusts, name, crates, macros):
+def judge_uses(rattles, rusts, name, macros, laws):
     """Which paths differ otherwise than by rule, and how many by which."""
     counts, faults = collections.Counter(), []
-    left = collections.Counter()
+    left, may_go = collections.Counter(), collections.Counter()
     for (public, path), count in rattles.items():
         last = path.split('::')[-1]
         if last in ('Global', 'Abort', 'Model'):
             counts['allocator' if last == 'Global' else 'imports'] += count
-        elif name == WHOLE and public and path.split(' ')[0].endswith('laws'):
-            left['crate ', path] += count
-            counts['laws are not public'] += count
+        elif path.split(' ')[0] in ('std::fmt::Write', 'std::num::f32_from_bits_with_nan', 'std::num::f64_from_bits_with_nan'):
+            counts['printing'] += count
+        elif last in laws[0] or name == WHOLE and tuple(path.split(' ')[0].split('::')) in laws[1] or not public and last == 'laws':
+            may_go[public, path] += count
         else:
             left[public, path] += count
     for (public, path), count in rusts.items():
-        if path == 'crate::shims::prelude::*':
+        if path.endswith('::shims::prelude::*'):
             counts['prelude'] += count
             continue
-        found = next((p for p in left if p[0] == public and (p[1] == same_place(path, name, crates)
-                      or path.startswith('crate::') and path.count('::') == 1 and p[1].split('::')[-1] == path[7:] and path[7:] in macros)), None)
+        macro = re.fullmatch(r'(?:crate|spa_pod)::(\w+)', path)
+        places = [same_place(path, name), *(path.replace('crate::shims::numerals', kit) for kit in ('hex', 'itoa', 'ryu', 'fast_float')),
+                  path.replace('spa_pod::shims::numerals', 'itoa'), path.replace('spa_pod::shims::numerals', 'ryu')]
+        found = next((p for p in [*left, *may_go] if p[0] == public and (p[1] in places
+                      or macro and p[1].split('::')[-1] == macro.group(1) and macro.group(1) in macros)), None)
+        if found in may_go:
+            may_go[found] -= count
+            continue
         if found is None or left[found] < count:
             faults.append('+ use %s%s' % (public, path))
         else:
@@ -203,7 +241,7 @@ def judge_uses(rattles, rusts, name, crates, macros):
     return counts, faults
 
 
-def instances(a, i, b, j):
+def instances(a, i, b, j, laws):
     """The instances of rules that begin at these places of both texts: the rule, and the places behind."""
     found = TAKEN.match(a, i)
     if found:
@@ -211,7 +249,7 @@ def instances(a, i, b, j):
         wanted = ''.join('let %s = core : : mem : : take ( & mut self . %s ) ; ' % (f, f) for f in fields)
         if b.startswith(wanted, j):
             yield 'drop(self)', found.end(), j + len(wanted)
-    for name, goes, comes in COMPILED:
+    for name, goes, comes in COMPILED + laws:
         found = goes.match(a, i)
         if not found:
             continue
@@ -225,7 +263,7 @@ def instances(a, i, b, j):
                 yield name, found.end(), new.end()
 
 
-def walk(a, b):
+def walk(a, b, laws):
     """Both texts of tokens side by side: the rules whose instances stand where the tokens aren't the same; and where no rule says how
     to go on, the two places."""
     a, b = ''.join(t + ' ' for t in a), ''.join(t + ' ' for t in b)
@@ -244,7 +282,7 @@ def walk(a, b):
                 (i, j), rule = behind[i, j]
                 rules += [rule] if rule else []
             return rules, None
-        for name, to_i, to_j in instances(a, i, b, j):
+        for name, to_i, to_j in instances(a, i, b, j, laws):
             if (to_i, to_j) != (i, j):
                 left.append((to_i, to_j, ((i, j), name)))
         if i < len(a) and j < len(b):
@@ -255,48 +293,53 @@ def walk(a, b):
     return [], '.. %s | %s | %s' % (a[max(0, i - 60):i], a[i:i + 120], b[j:j + 120])
 
 
-def judge(source, rust, name, crates, macros):
+NO_LAWS = set(), set(), []
+
+
+def judge(source, rust, name, macros, laws=NO_LAWS):
     """How often each rule is used, and what no rule says, of a Rattle file and the Rust file made of it."""
     a, rattle_uses = uses_apart(contracts_dropped(rattle.code(source)))
     b, rust_uses = uses_apart(rattle.code(rust))
-    counts, faults = judge_uses(rattle_uses, rust_uses, name, crates, macros)
-    rules, fault = walk(a, b)
+    counts, faults = judge_uses(rattle_uses, rust_uses, name, macros, laws)
+    rules, fault = walk(a, b, laws[2])
     counts.update(rules)
     if fault:
         faults.append(fault)
     return counts, faults
 
 
+def rattle_files(crates, name):
+    """The Rattle files of a crate: the path in src/ without its ending, and the text."""
+    folder = os.path.join(crates, name, 'src')
+    for root, _, found in os.walk(folder):
+        for file in sorted(found):
+            if file.endswith('.rt'):
+                with open(os.path.join(root, file), encoding='utf-8') as f:
+                    yield os.path.relpath(os.path.join(root, file), folder)[:-3], f.read()
+
+
 def main():
     crates, out = sys.argv[1:3]
-    parts, tests = parts_and_tests(crates)
+    packages = crates_of_packages(crates)
+    sources = {(name, path): text for names in packages.values() for name in names for path, text in rattle_files(crates, name)}
+    macros = {macro for text in sources.values() for macro in re.findall(r'macro_rules! (\w+)', text)}
+    laws = laws_of({file: ''.join(t + ' ' for t in uses_apart(contracts_dropped(rattle.code(text)))[0]) for file, text in sources.items()
+                    if file[1].endswith('laws')})
     total, faults, files, same = collections.Counter(), 0, 0, 0
-    macros = set()
-    for name in parts:
-        for root, _, found in os.walk(os.path.join(crates, name, 'src')):
-            for file in found:
-                with open(os.path.join(root, file), encoding='utf-8') as f:
-                    macros.update(re.findall(r'macro_rules! (\w+)', f.read()))
-    for home, names in (('parts', parts), ('tests', tests)):
-        for name in names:
-            folder = os.path.join(crates, name, 'src')
-            for root, _, found in os.walk(folder):
-                for file in sorted(found):
-                    if not file.endswith('.rt'):
-                        continue
-                    path = os.path.relpath(os.path.join(root, file), folder)[:-3]
-                    made = '%s/%s/%s.rs' % (home, name, 'mod' if path in ('lib', 'main') else path)
-                    with open(os.path.join(root, file), encoding='utf-8') as f:
-                        source = f.read()
-                    with open(os.path.join(out, 'src', made), encoding='utf-8') as f:
-                        rust = f.read()
-                    counts, wrong = judge(source, rust, name, crates, macros)
-                    total.update(counts)
-                    faults += len(wrong)
-                    files += 1
-                    same += set(counts) <= {'prelude', 'imports', 'paths'}
-                    for fault in wrong:
-                        print('%s: %s' % (made, fault))
+    for package, names in packages.items():
+        for (name, path), source in sources.items():
+            if name not in names or (name, path) in laws[1] or not os.path.isdir(os.path.join(out, package, 'src/parts')):
+                continue
+            made = '%s/src/parts/%s/%s.rs' % (package, name, 'mod' if path in ('lib', 'main') else path)
+            with open(os.path.join(out, made), encoding='utf-8') as f:
+                rust = f.read()
+            counts, wrong = judge(source, rust, name, macros, laws)
+            total.update(counts)
+            faults += len(wrong)
+            files += 1
+            same += set(counts) <= {'prelude', 'imports', 'paths'}
+            for fault in wrong:
+                print('%s: %s' % (made, fault))
     print('%d files; in %d of them nothing but names of places differs' % (files, same))
     for rule, count in total.most_common():
         print('%6d %s' % (count, rule))

@@ -1,15 +1,31 @@
-"""Which proved crates the Rust crate is made of, by what crates.txt says each stands on."""
+"""Which Rust packages are made of the proved crates, by what crates.txt says each of these stands on."""
 import os
 
 # The crate that gives the libraries under libspa's paths.
 WHOLE = 'libspa'
-# The libraries that are public beside it; with these come those that they stand on.
-BESIDE = ['spa_names', 'spa_events', 'spa_negotiate', 'spa_filter_pods']
-# Crates of tests are those whose names end so, and programs that answer rows, each of which becomes a test. Those that stand on a crate of the kit without a shim, as what reads text does, are left out.
+# The packages in rust/, and the crates for which each is there. A crate that these stand on is in the first package that needs it.
+PACKAGES = {
+    'spa-pod': [WHOLE, 'spa_names', 'spa_events', 'spa_negotiate', 'spa_filter_pods', 'spa_text'],
+    'spa-pod-cli': ['podtool', 'pod'],
+    'spav': ['spav'],
+}
+# The programs, of which each package has its own `main`.
+PROGRAMS = {'podtool', 'pod'}
+# The crate whose functions C calls.
+EXPORTED = 'spav'
+# The crates of spa-pod that are behind its feature `text`.
+OF_TEXT = {'spa_text_read', 'spa_text'}
+# The package of tests, made by rust/check. Crates of tests are those whose names end so, and programs that answer rows, each of which becomes a test.
+TESTS = 'tests'
 TEST_SUFFIXES = ('_tests', '_rows')
 ROWS_SUFFIX = '_rows'
-# The kit's crates for which shims stand.
-SHIMS = {'bitflags', 'arrayvec', 'thiserror'}
+# The kit's crates, and the std's modules, for which shims stand: the package and the module in its src/shims. thiserror's derive needs none.
+SHIMS = {
+    'bitflags': ('spa-pod', 'flags'), 'arrayvec': ('spa-pod', 'array'), 'std::alloc': ('spa-pod', 'memory'), 'std::collections': ('spa-pod', 'sorted'),
+    'json': ('spa-pod', 'json'), 'fast_float': ('spa-pod', 'numerals'), 'hex': ('spa-pod', 'numerals'), 'itoa': ('spa-pod', 'numerals'),
+    'ryu': ('spa-pod', 'numerals'), 'clap': ('spa-pod-cli', 'clap'), 'std::simd': ('spa-pod-cli', 'lanes'),
+    'anyhow': (TESTS, 'anyhow'), 'std::test': (TESTS, 'test'), 'thiserror': None,
+}
 
 
 def listed(crates):
@@ -38,15 +54,12 @@ def with_those_below(names, stands_on):
     return [name for name in stands_on if name in found]
 
 
-def parts_and_tests(crates):
-    """The libraries, and the crates that only tests need."""
-    stands_on = listed(crates)
-    parts = with_those_below([WHOLE] + BESIDE, stands_on)
-    needed = set()
-    for name in stands_on:
-        if name.endswith(TEST_SUFFIXES):
-            try:
-                needed.update(with_those_below([name], stands_on))
-            except ValueError:
-                pass
-    return parts, [name for name in stands_on if name in needed and name not in parts]
+def crates_of_packages(crates):
+    """For each package, and the one of tests, its crates in the order of crates.txt."""
+    stands_on, placed, packages = listed(crates), set(PROGRAMS), {}
+    packages_and_roots = dict(PACKAGES)
+    packages_and_roots[TESTS] = [name for name in stands_on if name.endswith(TEST_SUFFIXES)]
+    for package, roots in packages_and_roots.items():
+        packages[package] = [name for name in with_those_below(roots, stands_on) if name not in placed]
+        placed.update(packages[package])
+    return packages

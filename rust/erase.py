@@ -1,34 +1,33 @@
 #!/usr/bin/env python3
-"""Makes the Rust crate spa-pod of the proved crates: drops contracts and ghost items, erases the allocator, and names std's
-fallible calls as the crate's own module `memory` names them. docs/RUST.md lists the rules with their reasons.
+"""Makes the Rust packages of the proved crates: drops contracts and ghost items, erases the allocator, and names std's fallible calls
+as spa-pod's module `memory` names them. docs/RUST.md lists the rules with their reasons.
 
-usage: erase.py CRATES OUT     (CRATES: the folder of the proved crates; OUT: the Rust crate's folder)"""
+usage: erase.py CRATES OUT     (CRATES: the folder of the proved crates; OUT: the folder of the Rust packages)"""
 import os
 import re
 import shutil
 import sys
 
 import rattle
-from crates import ROWS_SUFFIX, WHOLE, parts_and_tests
+from crates import EXPORTED, OF_TEXT, PACKAGES, ROWS_SUFFIX, SHIMS, TESTS, WHOLE, crates_of_packages
 from surface import surfaced
 from words import WORDS
 
 # What takes memory: an allocator, or the runtime that hands one out, as an argument, a parameter, a field or a part of a `use`.
-MEMORY = r'(?:\*\s*|&\s*)*(?:rt|_?alloc|\$alloc|Global|[\w.]+\.alloc(?:\(\))?|[\w.]+\.allocator\(\))'
+MEMORY = r'(?:\*\s*|&\s*)*(?:rt|self\.rt|_?alloc|\$alloc|Global|[\w.]+\.alloc(?:\(\))?|[\w.]+\.allocator\(\))'
 TYPED = r'(?:%s\s*:\s*(?:Global|&?HostRuntime|&impl Abort|%s)|%s)' % (MEMORY, MEMORY, MEMORY)
 
 # Methods of std that may be refused memory, as the module `memory` names them.
 FALLIBLE = {
     'push': 'try_push', 'push_reserved': 'push', 'reserve': 'make_room', 'insert': 'try_insert', 'resize': 'try_resize',
     'extend_from_slice': 'try_extend_from_slice', 'push_str': 'try_push_str', 'split_off': 'try_split_off',
-    'repeat': 'try_repeat', 'clone': 'try_clone',
+    'repeat': 'try_repeat', 'clone': 'try_clone', 'reserve_exact': 'make_room_exact',
 }
 NAMED = {'with_capacity': 'with_room', 'from_slice': 'try_from_slice', 'from_str': 'try_from_str', 'from_array': 'try_from_array'}
 
 ATTRIBUTES = ('tactic', 'cycle', 'derive_where', 'rattlefmt')
-# What std's names are in a crate without std.
-HOMES = [('std::alloc', 'crate::shims::memory'), ('std::collections', 'crate::shims::sorted'), ('std::test', 'crate::shims::test'),
-         ('bitflags', 'crate::shims::flags'), ('arrayvec', 'crate::shims::array')]
+# What of std needs files, memory or an environment, and isn't in core.
+OF_STD = r'(?:io|thread|env|fs|process)\b'
 
 
 def trim(out):
@@ -112,6 +111,12 @@ def drop_memory(text):
     text = re.sub(r'\b(print(?:ln)?)!\(\s*rt;\s*', r'crate::shims::test::\1!(', text)
     text = re.sub(r'\brt\.(stdin|stdout)\(\)', r'crate::shims::test::\1()', text)
     text = re.sub(r'^fn main\(rt: HostRuntime\)', 'pub fn main()', text, flags=re.M)
+    # A struct over the runtime alone.
+    for name in re.findall(r"\bstruct (\w+)<'a> \{\s*(?:pub )?rt: &'a HostRuntime,\s*\}", text):
+        text = re.sub(r"\bstruct %s<'a> \{[^}]*\}" % name, 'struct %s {}' % name, text)
+        text = text.replace("%s<'_>" % name, name)
+    # A text's copy with other words; cells and options have a method of this name, too.
+    text = re.sub(r'\.replace\(%s, ' % MEMORY, '.try_replace(', text)
     # Items of lists: the first, one behind another, the only one.
     before = None
     while before != text:
@@ -121,6 +126,35 @@ def drop_memory(text):
         text = re.sub(r'\{ alloc \}', '{}', text)
         text = re.sub(r'(?<!Some)(?<!Ok)\(\s*%s\s*\)' % TYPED, '()', text)
     return text
+
+
+# A function that does nothing.
+EMPTY = re.compile(r'^(?:[ \t]*\x01d\d+\x02\n)*[ \t]*pub fn (\w+)(?:<[^{]*>)?\([^{]*\)\s*\{\s*\}\n*', re.M)
+
+
+def laws_of(files):
+    """The names of the functions in files of laws that do nothing but call such, and, as pairs of crate and module, the files without
+    another item."""
+    texts = {(name, path): drop_contracts(rattle.hide(text)[0]) for name, found in files.items() for path, text in found if path.endswith('laws')}
+    laws, before = set(), None
+    while before != laws:
+        before = set(laws)
+        texts = {file: drop_calls(text, laws) for file, text in texts.items()}
+        laws.update(*(EMPTY.findall(text) for text in texts.values()))
+    return laws | {file for file, text in texts.items() if not re.search(r'\bfn\b', EMPTY.sub('', text))}
+
+
+def drop_calls(text, laws):
+    """Without the statements that call such functions."""
+    functions = '|'.join(law for law in laws if isinstance(law, str))
+    return re.sub(r'^[ \t]*(?:\w*laws::)?(?:%s)(?:::<[^;]*>)?\([^;]*\);\n' % functions, '', text, flags=re.M) if functions else text
+
+
+def drop_laws(text, place):
+    """Without the functions that do nothing, their calls, and their modules."""
+    text = EMPTY.sub(lambda m: '' if m.group(1) in place.laws else m.group(0), drop_calls(text, place.laws))
+    return re.sub(r'^(?:[ \t]*\x01d\d+\x02\n)*[ \t]*pub mod (\w+);\n', lambda m: '' if (place.name, m.group(1)) in place.laws else m.group(0),
+                  text, flags=re.M)
 
 
 def drop_bounds(text):
@@ -169,16 +203,45 @@ def name_calls(text):
     return re.sub(r'(: (?:[\w ]+\+ )*)Clone\b(?=\s*[,>+{])', r'\1TryClone', text)
 
 
-def name_paths(text, name, home, parts, tests):
-    """Paths as they are in one crate."""
+class Place:
+    """Where the crate of this name is: its package, and where what it names is from there. `macros` says which macros each crate exports,
+    `laws` has the names of the functions, and the modules of such alone, that only proofs cite."""
+
+    def __init__(self, name, packages, macros, laws=frozenset()):
+        self.name, self.macros, self.laws = name, macros, laws
+        self.packages = {crate: package for package, crates in packages.items() for crate in crates}
+        self.package = self.packages[name]
+
+    def root(self, package):
+        """The root of a package."""
+        return 'crate' if package == self.package else package.replace('-', '_')
+
+    def crate(self, name):
+        """The module of a proved crate."""
+        return '%s::parts::%s' % (self.root(self.packages[name]), name)
+
+    def shim(self, package, module):
+        """A module of a package's shims."""
+        return '%s::shims::%s' % (self.root(package), module)
+
+    def home(self, path):
+        """A path whose front is a crate of the kit, or a module of std, with a shim."""
+        for old, shim in SHIMS.items():
+            if shim and (path == old or path.startswith(old + '::')):
+                return self.shim(*shim) + path[len(old):]
+        return path
+
+
+def name_paths(text, place):
+    """Paths as they are in the packages."""
+    pods = place.root('spa-pod').replace('crate', '\x03')
     text = re.sub(r'\$crate::(\w+)!', '$\x03::\\1!', text)
-    text = re.sub(r'\$crate::(?=\w)', '$\x03::macros::%s::' % name, text)
-    text = re.sub(r'\bcrate::try_', '\x03::try_', text)
+    text = re.sub(r'\$crate::(?=\w)', '$\x03::macros::%s::' % place.name, text)
+    text = re.sub(r'\bcrate::try_', pods + '::try_', text)
     text = text.replace('crate::shims', '\x03::shims').replace('core::mem', '\x04::mem')
-    text = re.sub(r'\bcrate::', '%s::%s::' % (home, name), text)
-    for names, place in ((parts, '\x03::parts'), (tests, '\x03::tests')):
-        for other in names:
-            text = re.sub(r'(?<![\w:.$])%s(?=::|;)(?!:[^:])' % other, '%s::%s' % (place, other), text)
+    text = re.sub(r'(?<!\$)\bcrate::', '\x03::parts::%s::' % place.name, text)
+    names = '|'.join(sorted(place.packages, key=len, reverse=True))
+    text = re.sub(r'(?<![\w:.$])(?<!mod )(%s)(?=::|;)(?!:[^:])' % names, lambda m: place.crate(m.group(1)).replace('crate', '\x03'), text)
     return text.replace('\x03', 'crate').replace('\x04', 'core')
 
 
@@ -195,7 +258,7 @@ def names_of(braces):
     return [p for p in parts + [part.strip()] if p]
 
 
-def name_imports(text, name, macros, of_std):
+def name_imports(text, place, of_std):
     """`use` items: without what is erased, and from where things stand in Rust."""
     def one(found):
         lead, public, path = found.group(1), found.group(2) or '', found.group(3)
@@ -207,17 +270,20 @@ def name_imports(text, name, macros, of_std):
             parts = [part]
         else:
             return found.group(0)
-        kept = [p for p in parts if p not in ('Global', 'Abort', 'Model')]
+        kept = [p for p in parts if p not in ('Global', 'Abort', 'Model') and not p.endswith('_from_bits_with_nan')]
+        if base == 'std::fmt':
+            kept = [p for p in kept if p.split(' ')[0] != 'Write']
         root = base.split('::')[0]
-        ours = [p for p in kept if p in macros.get(name if root == 'crate' else root, ())]
-        hidden = [p for p in parts if public and name == WHOLE and p.split(' ')[0].endswith('laws')]
+        own = place.name if root == 'crate' else root
+        kept = [p for p in kept if p.split(' ')[0] not in place.laws and (own, p.split(' ')[0]) not in place.laws]
+        kept = [p for p in kept if public or p != 'laws' or re.search(r'\blaws::\w+\s*\(', text)]
+        ours = [p for p in kept if p in place.macros.get(own, ())]
+        hidden = [p for p in kept if public and place.name == WHOLE and p.split(' ')[0].endswith('laws')]
         kept = [p for p in kept if p not in ours and p not in hidden]
-        for old, new in HOMES:
-            if base == old or base.startswith(old + '::'):
-                base = new + base[len(old):]
-        if base.startswith('std::') and not base.startswith('std::io') or base == 'std':
+        base = place.home(base)
+        if base == 'std' or base.startswith('std::') and not re.match('std::' + OF_STD, base):
             base = 'core' + base[3:]
-        of_files = [p for p in kept if base == 'core' and p.split('::')[0] == 'io']
+        of_files = [p for p in kept if base == 'core' and re.match(OF_STD, p)]
         kept = [p for p in kept if p not in of_files]
         lines = ['%s#[cfg(feature = "std")]\n' % lead] if public and root in of_std else []
         for part in of_files:
@@ -229,9 +295,9 @@ def name_imports(text, name, macros, of_std):
         elif kept:
             lines.append('%s%suse %s::{%s};\n' % (lead, public, base, ', '.join(kept)))
         for law in hidden:
-            lines.append('%spub(crate) use %s::%s;\n' % (lead, base, law))
+            lines.append('%s#[cfg(feature = "parts")]\n%spub use %s::%s;\n' % (lead, lead, base, law))
         if ours:
-            lines.append('%s%suse \x03::%s;\n' % (lead, public, ours[0] if len(ours) == 1 else '{%s}' % ', '.join(ours)))
+            lines.append('%s%suse %s::%s;\n' % (lead, public, place.root('spa-pod').replace('crate', '\x03'), ours[0] if len(ours) == 1 else '{%s}' % ', '.join(ours)))
         return ''.join(lines)
 
     return re.sub(r'^([ \t]*)(pub(?:\(\w+\))? )?use ([^;]*);\n', one, text, flags=re.M)
@@ -272,14 +338,19 @@ def assert_required(text, file):
     return text
 
 
-def erase(source, name, home, macros, parts, tests, of_std=()):
-    """The Rust text of a Rattle file of the crate of this name. `home` is the module where such crates stand, `macros` says which
-    macros each crate exports; `parts` and `tests` are the names of the crates in these two modules."""
+def erase(source, place, of_std=()):
+    """The Rust text of a Rattle file of a crate; `of_std` are the crates that are behind the feature `std`."""
     text, kept = rattle.hide(source)
     text = drop_contracts(text)
     text = drop_item(text, r'impl(?:<[^{]*>)? Model for [^{]*\{')
     text = re.sub(r'\bfinal fn\b', 'fn', text)
     text = drop_memory(text)
+    text = drop_laws(text, place)
+    # What C calls is exported by rust/spav/src/exports.rs. The name of the ABI is a literal, and hidden.
+    text = re.sub(r'^#\[unsafe\(no_mangle\)\]\n', '', text, flags=re.M)
+    text = re.sub(r'\bpub extern \x01s\d+\x02 fn', 'pub fn', text)
+    if place.name == EXPORTED:
+        text = re.sub(r'^mod ', 'pub(crate) mod ', text, flags=re.M)
     text = re.sub(r'^([ \t]*)(#\[test\]\s*)fn (\w+)\(\) -> Result<\(\), Fail> \{\n',
                   r'\1\2fn \3() {\n\1    crate::shims::test::run(\3_answers())\n\1}\n\n\1fn \3_answers() -> Result<(), Fail> {\n', text, flags=re.M)
     text = drop_bounds(text)
@@ -294,13 +365,14 @@ def erase(source, name, home, macros, parts, tests, of_std=()):
     text = re.sub(r', thiserror::Error\b', '', text)
     text = re.sub(r'^[ \t]*#\[error\([^\]]*\)\]\n', '', text, flags=re.M)
     text = re.sub(r'\bprove(_eq)?!\(', r'debug_assert\1!(', text)
-    text = name_imports(text, name, macros, of_std)
-    text = re.sub(r'(?<![\w:$])(bitflags|arrayvec)::', lambda m: '%s::' % dict(HOMES)[m.group(1)], text)
-    text = re.sub(r'(?<![\w:$])std::(?!io\b|thread\b|env\b)', 'core::', text)
-    text = name_paths(text, name, 'crate::' + home, parts, tests)
+    text = re.sub(r'\b(f32|f64)_from_bits_with_nan\(', r'\1::from_bits(', text)
+    text = name_imports(text, place, of_std)
+    text = re.sub(r'(?<![\w:$])(\w+)(?=::)', lambda m: place.home(m.group(1)), text)
+    text = re.sub(r'(?<![\w:$])std::(?!%s)' % OF_STD, 'core::', text)
+    text = name_paths(text, place)
     # What a crate without std, and with fallible growth, has in scope.
-    if name != WHOLE:
-        prelude = 'use crate::shims::prelude::*;'
+    if IN_SCOPE.search(text):
+        prelude = 'use %s::*;' % place.shim('spa-pod', 'prelude')
         inner = re.match('(?:\x01[ic]\\d+\x02\n|#!\\[[^\\]]*\\]\n|\\s*\n)*', text).group(0)
         text = inner + prelude + '\n' + text[len(inner):]
         text = re.sub(r'^([ \t]*)((?:pub(?:\(crate\))? )?mod \w+ \{)\n', r'\1\2\n\1    %s\n' % prelude, text, flags=re.M)
@@ -309,6 +381,10 @@ def erase(source, name, home, macros, parts, tests, of_std=()):
     text = re.sub(r'\{\n\n', '{\n', text)
     text = re.sub(r'\n\n([ \t]*\})', r'\n\1', text)
     return rattle.show(text, kept)
+
+
+# What the prelude has.
+IN_SCOPE = re.compile(r'\b(?:Vec|String|TryClone|VecRoom|has_nul|try_\w+|make_room\w*|with_room)\b|\bwrite(?:ln)?!')
 
 
 def sources(folder):
@@ -323,12 +399,9 @@ def sources(folder):
     return sorted(found)
 
 
-def exported_macros(crates, parts):
-    """The names of the macros that each crate exports."""
-    found = {}
-    for name in parts:
-        for _, text in sources(os.path.join(crates, name, 'src')):
-            found.setdefault(name, set()).update(re.findall(r'#\[macro_export\]\s*macro_rules! (\w+)', text))
+def exported_macros(files):
+    """The names of the macros that each crate exports, of the files of each."""
+    found = {name: {macro for _, text in texts for macro in re.findall(r'#\[macro_export\]\s*macro_rules! (\w+)', text)} for name, texts in files.items()}
     found[WHOLE] = set().union(*found.values())
     return found
 
@@ -346,39 +419,66 @@ def reworded(path, text):
 ROWS = '''
 #[test]
 fn NAME_are_answered() {
-    crate::shims::test::answer_rows(include_str!("NAME/stdin"), include_str!("NAME/stdout"), NAME::main);
+    crate::shims::test::answer_rows(include_str!("FOLDER/stdin"), include_str!("FOLDER/stdout"), NAME::main);
 }
 '''
 
 
+HEAD = '''// @generated by rust/erase.py
+//! The proved crates, a module each.
+// The text follows its proofs. What lints say of style goes unheeded; those of correctness stand.
+#![allow(unused_imports, unused_variables, dead_code, non_upper_case_globals, missing_docs)]
+// The proved text also drops what has nothing to drop in Rust, and makes empty arrays of what a call gives.
+#![allow(clippy::style, clippy::complexity, clippy::perf, clippy::drop_non_drop, clippy::zero_repeat_side_effects)]
+// Values whose `==` was proved are equal exactly where all fields are, so that a derived Hash is theirs.
+#![allow(clippy::pedantic, clippy::derived_hash_with_manual_eq)]
+'''
+# With this feature all that the modules have is public.
+OF_OTHERS = '#![cfg_attr(feature = "parts", allow(missing_debug_implementations, clippy::must_use_candidate))]\n'
+
+
+def modules(names, package, of_std):
+    """The text that names the crates of a package as its modules."""
+    features = [(of_std, 'std'), (OF_TEXT, 'text')] if package == 'spa-pod' else []
+    items = ''
+    for name in sorted(names):
+        items += ''.join('#[cfg(feature = "%s")]\n' % feature for those, feature in features if name in those)
+        items += 'pub mod %s;\n' % name
+    rows = [name for name in sorted(names) if name.endswith(ROWS_SUFFIX)]
+    items += ''.join(ROWS.replace('FOLDER', '../../../../crates/' + name).replace('NAME', name) for name in rows)
+    return HEAD + (OF_OTHERS if package == 'spa-pod' else '') + '\n' + items
+
+
+GENERATED = '// @generated by rust/erase.py of crates/%s/src/%s.rt\n'
+
+
 def generate(crates):
-    """All generated files: path in src/ and text."""
-    parts, tests = parts_and_tests(crates)
-    macros = exported_macros(crates, parts)
+    """All generated files of the packages: path, and text."""
+    packages = crates_of_packages(crates)
+    files = {name: sources(os.path.join(crates, name, 'src')) for names in packages.values() for name in names}
+    macros, laws = exported_macros(files), laws_of(files)
+    of_std = [name for name, found in files.items() if any('std::io' in text for _, text in found)]
     made = {}
-    of_std = [name for name in parts if any('std::io' in text for _, text in sources(os.path.join(crates, name, 'src')))]
-    for home, names in (('parts', parts), ('tests', tests)):
+    for package, names in packages.items():
         for name in names:
-            for path, text in sources(os.path.join(crates, name, 'src')):
-                file = '%s/%s/%s.rs' % (home, name, 'mod' if path in ('lib', 'main') else path)
-                made[file] = surfaced(file, reworded(file, inline(assert_required(erase(text, name, home, macros, parts, tests, of_std), path), path)))
-            if name.endswith(ROWS_SUFFIX):
-                for stream in ('stdin', 'stdout'):
-                    with open(os.path.join(crates, name, stream), encoding='utf-8') as f:
-                        made['%s/%s/%s' % (home, name, stream)] = f.read()
-        items = ''.join('%spub mod %s;\n' % ('#[cfg(feature = "std")]\n' if name in of_std else '', name) for name in sorted(names))
-        items += ''.join(ROWS.replace('NAME', name) for name in sorted(names) if name.endswith(ROWS_SUFFIX))
-        made[home + '/mod.rs'] = '//! Made by rust/erase.py of the proved crates, a module each.\n' + items
+            place = Place(name, packages, macros, laws)
+            for path, text in files[name]:
+                file = '%s/src/parts/%s/%s.rs' % (package, name, 'mod' if path in ('lib', 'main') else path)
+                if (name, path) in laws:
+                    continue
+                text = reworded(file, inline(assert_required(erase(text, place, of_std), path), path))
+                made[file] = GENERATED % (name, path) + surfaced(file, text)
+        made[package + '/src/parts/mod.rs'] = modules(names, package, of_std)
     return made
 
 
 def main():
     crates, out = sys.argv[1:3]
     made = generate(crates)
-    for home in ('parts', 'tests'):
-        shutil.rmtree(os.path.join(out, 'src', home), ignore_errors=True)
+    for package in [*PACKAGES, TESTS]:
+        shutil.rmtree(os.path.join(out, package, 'src/parts'), ignore_errors=True)
     for file, text in made.items():
-        path = os.path.join(out, 'src', file)
+        path = os.path.join(out, file)
         os.makedirs(os.path.dirname(path), exist_ok=True)
         with open(path, 'w', encoding='utf-8') as f:
             f.write(text)

@@ -9,7 +9,7 @@ ATTRIBUTES = {
                          'ArrayPodSerializer', 'Maybe', 'StructPodSerializer', 'ObjectPodSerializer', 'PodSerializer', 'SerializeSuccess', 'Held',
                          'HeldProperties', 'VecVisitor', 'StringVisitor', 'BytesVisitor', 'BitmapVisitor', 'PointerVisitor', 'HandedVisitor',
                          'ValueVisitor', 'OpenPod', 'Frames', 'Remainder', 'Written',
-                         'BegunPod', 'What', 'Stage', 'Elements'],
+                         'BegunPod', 'What', 'Stage', 'Elements', 'TextPrinter', 'TextReader', 'AtPath', 'InPlace'],
     '#[derive(Clone)]': ['DeserializeError', 'Fault'],
     '#[derive(Eq)]': ['DeserializeError', 'Fault', 'Value', 'ValueArray', 'ChoiceValue', 'Object', 'Property'],
     '#[derive(Hash)]': ['Value', 'ValueArray', 'ChoiceValue', 'Object', 'Property', 'PropertyFlags', 'Choice', 'ChoiceEnum', 'ChoiceFlags',
@@ -29,17 +29,17 @@ READS = re.compile(r'\b(deserialize_any(?:_from|_leniently_from|_counted)?)(?=\(
 # What else stands in place of what, in a file.
 PLACES = {
     # The read of the type Value is the bounded one.
-    'parts/spa_typed_read/deserializer.rs': [('{\n        deserializer.deserialize_any_unbounded()\n', '{\n        deserializer.deserialize_any()\n')],
+    'spa-pod/src/parts/spa_typed_read/deserializer.rs': [('{\n        deserializer.deserialize_any_unbounded()\n', '{\n        deserializer.deserialize_any()\n')],
     # A value that is dropped by a loop may nest in any depth.
-    'parts/spa_typed_read/content.rs': [
+    'spa-pod/src/parts/spa_typed_read/content.rs': [
         ('    type Content = Value;\n\n    fn of_content(given: Value) -> Held {\n        Held::from(given)\n',
          '    type Content = crate::api::levels::Unbounded;\n\n    fn of_content(given: crate::api::levels::Unbounded) -> Held {\n        Held::from(given.0)\n'),
     ],
-    'tests/spa_typed_tests/reading/visitors.rs': [
+    'tests/src/parts/spa_typed_tests/reading/visitors.rs': [
         ('assert_said(found.as_str(), "InvalidType", "a deep value")', 'assert_said(found.as_str(), "TooDeep", "a deep value")'),
     ],
     # The refusal of a value that nests too deep.
-    'parts/spa_fixed_sized/fault.rs': [
+    'spa-pod/src/parts/spa_fixed_sized/fault.rs': [
         ('    OutOfMemory,\n}\n\nimpl<I> DeserializeError<I> {\n',
          '    OutOfMemory,\n    /// More structs and objects stand in one another than the limit says.\n    TooDeep,\n}\n\nimpl<I> DeserializeError<I> {\n'),
         ('            DeserializeError::OutOfMemory => "OutOfMemory",\n',
@@ -48,13 +48,13 @@ PLACES = {
          '            DeserializeError::OutOfMemory => write!(f, "out of memory"),\n'
          '            DeserializeError::TooDeep => write!(f, "values nest deeper than the limit"),\n'),
     ],
-    'parts/spa_in_place/in_place.rs': [
+    'spa-pod/src/parts/spa_in_place/in_place.rs': [
         ('        DeserializeError::OutOfMemory => DeserializeError::OutOfMemory,\n',
          '        DeserializeError::OutOfMemory => DeserializeError::OutOfMemory,\n'
          '        DeserializeError::TooDeep => DeserializeError::TooDeep,\n'),
     ],
     # Floats print as numbers, by src/api/numbers.rs; the proved tests compare what is printed of their bits.
-    'parts/spa_utils/float.rs': [
+    'spa-pod/src/parts/spa_utils/float.rs': [
         ('#[derive(Clone, Copy, Debug, PartialEq, Eq)]\npub struct Float%s' % bits,
          '#[cfg_attr(any(test, feature = "parts"), derive(Debug))]\n#[derive(Clone, Copy, PartialEq, Eq)]\npub struct Float%s' % bits)
         for bits in ('32', '64')
@@ -69,7 +69,7 @@ def surfaced(path, text):
         if text.count(old) != 1:
             raise ValueError('%s: "%s" stands in %d places' % (path, old, text.count(old)))
         text = text.replace(old, new)
-    if not path.startswith('parts/'):
+    if not path.startswith('spa-pod/'):
         return text
 
     def attributed(found):

@@ -13,6 +13,7 @@ SOURCE = '''//! Counts.
 #![tactic(auto)]
 ghost use Rattle.std.specs.Prelude.{◌≡◌, ℕ};
 
+use crate::laws::counts_grow;
 use crate::other::Thing;
 use std::alloc::{AllocError, Global};
 use std::fmt;
@@ -38,6 +39,7 @@ impl Counts {
         ensures kept { length result.items ≡ 1 + length self.items }
     {
         self.items.push(count)?;
+        counts_grow();
         let more = small(alloc, &self.items, Vec::new(alloc))?;
         Ok(Counts { alloc, items: more })
     }
@@ -102,8 +104,66 @@ impl Drop for Counts {
 '''
 
 
-def faults(rust, source=SOURCE):
-    return compare.judge(source, rust, 'counts', None, set())[1]
+LAWS = '''//! Laws.
+/// More is more.
+pub fn counts_grow()
+    ensures { ◌≤◌ }
+{
+}
+'''
+
+# What only the programs, text with names and the tests have.
+PROGRAM = '''use counts::with;
+use json::{Reader, Token};
+use std::fmt::Write;
+use std::num::f32_from_bits_with_nan;
+use std::simd::prelude::*;
+
+pub struct SystemFiles<'a> {
+    pub rt: &'a HostRuntime,
+}
+
+impl Files for SystemFiles<'_> {
+    fn text(&self, alloc: Global, name: &str) -> Result<String, AllocError> {
+        let mut text = name.replace(alloc, ",", " ")?;
+        text.reserve_exact(itoa::Buffer::new().format(3).len())?;
+        write!(text, "{}", f32_from_bits_with_nan(0))?;
+        let open = File::open(self.rt, name)?;
+        format!(in alloc; "{text}")
+    }
+}
+'''
+
+ERASED_PROGRAM = '''use spa_pod::shims::prelude::*;
+use spa_pod::parts::counts::with;
+use spa_pod::shims::json::{Reader, Token};
+use crate::shims::lanes::prelude::*;
+
+pub struct SystemFiles {}
+
+impl Files for SystemFiles {
+    fn text(&self, name: &str) -> Result<String, AllocError> {
+        let mut text = name.try_replace(",", " ")?;
+        text.make_room_exact(spa_pod::shims::numerals::Buffer::new().format(3).len())?;
+        write!(text, "{}", f32::from_bits(0))?;
+        let open = File::open(name)?;
+        spa_pod::try_format!("{text}")
+    }
+}
+'''
+
+PACKAGES = {'spa-pod': ['counts'], 'spa-pod-cli': ['program']}
+FILES = {'counts': [('laws', LAWS), ('lib', SOURCE)], 'program': [('files', PROGRAM)]}
+ERASED_LAWS = erase.laws_of(FILES)
+
+
+def erased(source, name):
+    return erase.erase(source, erase.Place(name, PACKAGES, {}, ERASED_LAWS))
+
+
+def faults(rust, source=SOURCE, name='counts'):
+    laws = compare.laws_of({('counts', 'laws'): ' '.join(compare.contracts_dropped(rattle.code(LAWS))) + ' '})
+    return compare.judge(source, rust, name, set(), laws)[1]
 
 
 class Rules(unittest.TestCase):
@@ -115,10 +175,20 @@ class Rules(unittest.TestCase):
         self.assertEqual(rattle.show(hidden, kept), text)
 
     def test_a_file_is_erased(self):
-        self.assertEqual(erase.erase(SOURCE, 'counts', 'parts', {}, ['counts'], []), RUST)
+        self.assertEqual(erased(SOURCE, 'counts'), RUST)
+        self.assertEqual(erased(PROGRAM, 'program'), ERASED_PROGRAM)
+
+    def test_laws_that_do_nothing_are_erased(self):
+        self.assertEqual(ERASED_LAWS, {'counts_grow', ('counts', 'laws')})
+        self.assertEqual(erased('pub mod laws;\npub mod other;\n', 'counts'), 'pub mod other;\n')
+        self.assertEqual(erased(LAWS, 'counts'), '//! Laws.\n')
+
+    def test_a_module_that_needs_no_prelude_has_none(self):
+        self.assertEqual(erased('pub fn one() -> u32 {\n    1\n}\n', 'counts'), 'pub fn one() -> u32 {\n    1\n}\n')
 
     def test_the_erased_file_differs_by_rules(self):
         self.assertEqual(faults(RUST), [])
+        self.assertEqual(faults(ERASED_PROGRAM, PROGRAM, 'program'), [])
 
     def test_each_other_change_is_seen(self):
         for old, new in [('count)?;', 'count + 1)?;'), ('self.items.try_push(count)?;\n', ''), ('&self.items', '&items'),
@@ -128,6 +198,13 @@ class Rules(unittest.TestCase):
                          ('use core::fmt;\n', 'use core::fmt;\nuse core::mem;\n'), ('#[derive(Debug)]', '#[derive(Debug, Clone)]'), ('!text.has_nul()', 'text.has_nul()')]:
             self.assertIn(old, RUST)
             self.assertNotEqual(faults(RUST.replace(old, new, 1)), [], (old, new))
+
+    def test_each_other_change_of_a_program_is_seen(self):
+        for old, new in [('from_bits(0)', 'from_bits(1)'), ('try_replace(",", " ")', 'try_replace(" ", ",")'), ('SystemFiles {}', 'SystemFiles { a: u8 }'),
+                         ('parts::counts', 'parts::others'), ('shims::json', 'shims::flags'), ('numerals::Buffer', 'lanes::Buffer'),
+                         ('File::open(name)', 'File::create(name)'), ('lanes::prelude', 'lanes::other')]:
+            self.assertIn(old, ERASED_PROGRAM)
+            self.assertNotEqual(faults(ERASED_PROGRAM.replace(old, new, 1), PROGRAM, 'program'), [], (old, new))
 
     def test_each_change_of_the_source_is_seen(self):
         for old, new in [('self.items.push(count)?;', 'self.items.push_reserved(count);'), ('Ok(Counts', 'Err(Counts'),
@@ -157,7 +234,7 @@ class Rules(unittest.TestCase):
 
     def test_a_kit_crate_without_a_shim_is_an_error(self):
         from crates import with_those_below
-        self.assertRaises(ValueError, with_those_below, ['a'], {'a': ['json']})
+        self.assertRaises(ValueError, with_those_below, ['a'], {'a': ['regex']})
         self.assertEqual(with_those_below(['a'], {'b': [], 'a': ['b', 'bitflags']}), ['b', 'a'])
 
 

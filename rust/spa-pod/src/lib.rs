@@ -12,22 +12,17 @@ extern crate std;
 compile_error!("spa-pod counts bytes in a usize of 64 bits");
 
 mod api;
-// The text follows its proofs. What lints say of style goes unheeded; those of correctness stand.
-#[allow(unused_imports, unused_variables, dead_code, non_upper_case_globals, missing_docs)]
-// The proved text also drops what has nothing to drop in Rust, and makes empty arrays of what a call gives.
-#[allow(clippy::style, clippy::complexity, clippy::perf, clippy::drop_non_drop, clippy::zero_repeat_side_effects)]
-// Values whose `==` was proved are equal exactly where all fields are, so that a derived Hash is theirs.
-#[allow(clippy::pedantic, clippy::derived_hash_with_manual_eq)]
-#[warn(clippy::must_use_candidate)]
+#[cfg(not(feature = "parts"))]
 mod parts;
-// What the proved text calls for each number is put in line, and a search without branches is.
-#[allow(clippy::inline_always, clippy::needless_bitwise_bool)]
+// For the other packages of this repository.
+#[cfg(feature = "parts")]
+#[doc(hidden)]
+pub mod parts;
+#[cfg(not(feature = "parts"))]
 mod shims;
-#[cfg(all(test, feature = "std"))]
-pub(crate) use shims::memory::tests::try_format;
-#[cfg(all(test, feature = "std"))]
-#[allow(unused_imports, unused_variables, dead_code, clippy::all)]
-mod tests;
+#[cfg(feature = "parts")]
+#[doc(hidden)]
+pub mod shims;
 
 pub use api::reading::{ReadAs, ReadError, ReadErrorKind, read, read_as, read_leniently, read_unbounded, write, write_as};
 pub use parts::libspa::{constants, utils};
@@ -112,6 +107,40 @@ pub mod events {
 pub mod names {
     pub use crate::parts::spa_names::{formats, ids, keys, shapes, types};
     pub use crate::parts::spa_names::{Expected, Table, expected_under, ids_of, keys_of, name_of, number_of, path_of};
+}
+
+/// Values as text with names: strict JSON, which loses nothing.
+///
+/// ```
+/// use spa_pod::pod::Value;
+/// use spa_pod::text::{Strictness, TextReader, print, print_pretty, read};
+///
+/// # fn main() -> Result<(), Box<dyn std::error::Error>> {
+/// let line = r#"{"type":"Props","id":"Props","props":{"volume":0.5,"mute":true}}"#;
+/// let value = read(line)?;
+/// let mut text = Vec::new();
+/// print(&value, &mut text)?;
+/// assert_eq!(text, line.as_bytes());
+///
+/// // Each property on a line of its own.
+/// text.clear();
+/// print_pretty(&read("[1]")?, &mut text)?;
+/// assert_eq!(text, b"[\n  1\n]");
+///
+/// // Strictly, a value has the type that belongs under its key.
+/// let wrong = line.replace("true", "1");
+/// assert!(read(&wrong).is_ok());
+/// let error = TextReader::new().read_with(&wrong, Strictness::Strict).unwrap_err();
+/// assert_eq!((error.column, error.path.as_str()), (60, ".props.mute"));
+/// # Ok(())
+/// # }
+/// ```
+#[cfg(feature = "text")]
+#[cfg_attr(docsrs, doc(cfg(feature = "text")))]
+pub mod text {
+    pub use crate::parts::spa_text::{
+        AtPath, Cause, FullType, InPlace, Misfit, Strictness, TextError, TextPrinter, TextReader, print, print_pretty, read,
+    };
 }
 
 /// What the exported macros name. It is no part of the interface.

@@ -189,9 +189,20 @@ macro_rules! try_vec {
     };
 }
 
-/// What only the tests call.
-#[cfg(test)]
-pub mod tests {
+/// A text of this form, or want of memory.
+#[cfg(feature = "parts")]
+#[doc(hidden)]
+#[macro_export]
+macro_rules! try_format {
+    ($($t:tt)*) => {
+        $crate::shims::memory::more::text_of(format_args!($($t)*))
+    };
+}
+
+/// What text with names, the programs and the tests call beside the above.
+#[cfg(any(feature = "text", feature = "parts"))]
+#[allow(dead_code)]
+pub mod more {
     use super::{AllocError, AllocFailed, String, TryClone, Vec, VecRoom};
     use core::fmt;
 
@@ -199,18 +210,81 @@ pub mod tests {
     pub trait StringRoom {
         /// Puts a text at the end.
         fn try_push_str(&mut self, text: &str) -> Result<(), AllocError>;
+        /// Puts a letter at the end.
+        fn try_push(&mut self, letter: char) -> Result<(), AllocError>;
         /// What `write!` calls.
         fn write_fmt(&mut self, words: fmt::Arguments<'_>) -> Result<(), AllocError>;
     }
 
     impl StringRoom for String {
         fn try_push_str(&mut self, text: &str) -> Result<(), AllocError> {
+            self.try_reserve(text.len()).map_err(|_| AllocError)?;
             self.push_str(text);
             Ok(())
         }
 
+        fn try_push(&mut self, letter: char) -> Result<(), AllocError> {
+            self.try_push_str(letter.encode_utf8(&mut [0; 4]))
+        }
+
         fn write_fmt(&mut self, words: fmt::Arguments<'_>) -> Result<(), AllocError> {
-            fmt::Write::write_fmt(self, words).map_err(|_| AllocError)
+            fmt::write(&mut Growing(self), words).map_err(|_| AllocError)
+        }
+    }
+
+    /// A text that asks for memory first.
+    struct Growing<'a>(&'a mut String);
+
+    impl fmt::Write for Growing<'_> {
+        fn write_str(&mut self, text: &str) -> fmt::Result {
+            self.0.try_push_str(text).map_err(|_| fmt::Error)
+        }
+    }
+
+    /// What these words say.
+    pub fn text_of(words: fmt::Arguments<'_>) -> Result<String, AllocError> {
+        let mut text = String::new();
+        text.write_fmt(words)?;
+        Ok(text)
+    }
+
+    /// Copies of a text.
+    pub trait Copies {
+        /// So many copies, one behind another.
+        fn try_repeat(&self, count: usize) -> Result<String, AllocError>;
+        /// A copy with one text in place of another.
+        fn try_replace(&self, old: &str, new: &str) -> Result<String, AllocError>;
+    }
+
+    impl Copies for str {
+        fn try_repeat(&self, count: usize) -> Result<String, AllocError> {
+            let mut text = String::new();
+            text.try_reserve(self.len().saturating_mul(count)).map_err(|_| AllocError)?;
+            (0..count).for_each(|_| text.push_str(self));
+            Ok(text)
+        }
+
+        fn try_replace(&self, old: &str, new: &str) -> Result<String, AllocError> {
+            let mut text = String::new();
+            let mut parts = self.split(old);
+            text.try_push_str(parts.next().unwrap_or_default())?;
+            for part in parts {
+                text.try_push_str(new)?;
+                text.try_push_str(part)?;
+            }
+            Ok(text)
+        }
+    }
+
+    /// Room for no more than is asked for.
+    pub trait Exactly {
+        /// Asks for room for so many more.
+        fn make_room_exact(&mut self, more: usize) -> Result<(), AllocError>;
+    }
+
+    impl<T> Exactly for Vec<T> {
+        fn make_room_exact(&mut self, more: usize) -> Result<(), AllocError> {
+            self.try_reserve_exact(more).map_err(|_| AllocError)
         }
     }
 
@@ -224,12 +298,15 @@ pub mod tests {
 
     impl<T> SplitOff<T> for Vec<T> {
         fn try_append(&mut self, other: &mut Vec<T>) -> Result<(), AllocError> {
+            self.make_room(other.len())?;
             self.append(other);
             Ok(())
         }
 
         fn try_split_off(&mut self, at: usize) -> Result<Vec<T>, AllocError> {
-            Ok(self.split_off(at))
+            let mut behind = Vec::with_room(self.len() - at)?;
+            behind.extend(self.drain(at..));
+            Ok(behind)
         }
     }
 
@@ -255,11 +332,17 @@ pub mod tests {
         }
     }
 
-    /// A text of this form.
-    macro_rules! try_format {
-        ($($t:tt)*) => {
-            Ok::<alloc::string::String, $crate::shims::memory::AllocError>(alloc::format!($($t)*))
-        };
+    #[cfg(feature = "std")]
+    impl From<AllocError> for std::io::Error {
+        fn from(_: AllocError) -> std::io::Error {
+            std::io::Error::from(std::io::ErrorKind::OutOfMemory)
+        }
     }
-    pub(crate) use try_format;
+
+    #[cfg(feature = "std")]
+    impl<T> From<AllocFailed<T>> for std::io::Error {
+        fn from(_: AllocFailed<T>) -> std::io::Error {
+            std::io::Error::from(AllocError)
+        }
+    }
 }

@@ -1,19 +1,26 @@
 //! What the generated modules call in place of what the proofs' standard library has and Rust's hasn't.
 //!
 //! This is written by hand. It is trusted where those calls were proved.
+
+// What the proved text calls for each number is put in line, and a search without branches is.
+#![allow(clippy::inline_always, clippy::needless_bitwise_bool)]
+#![cfg_attr(feature = "parts", allow(missing_debug_implementations))]
+
 pub mod array;
 pub mod bytes;
 pub mod flags;
+#[cfg(feature = "text")]
+pub mod json;
 pub mod memory;
+#[cfg(feature = "text")]
+pub mod numerals;
 pub mod sorted;
-#[cfg(all(test, feature = "std"))]
-#[allow(dead_code, unused_macros, unused_imports)]
-pub mod test;
 
 /// What each generated module has in scope.
 pub mod prelude {
-    #[cfg(test)]
-    pub use super::memory::tests::{SliceToVec, SplitOff, StringRoom};
+    #[cfg(any(feature = "text", feature = "parts"))]
+    #[allow(unused_imports)]
+    pub use super::memory::more::{Copies, Exactly, SliceToVec, SplitOff, StringRoom};
     pub use super::bytes::Bytes;
     pub use super::memory::{Text, ToVec, TryClone, VecRoom};
     pub use alloc::string::String;

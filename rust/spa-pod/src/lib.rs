@@ -24,6 +24,7 @@ mod shims;
 #[doc(hidden)]
 pub mod shims;
 
+pub use api::declared::PodField;
 pub use api::reading::{ReadAs, ReadError, ReadErrorKind, read, read_as, read_leniently, read_unbounded, write, write_as};
 pub use parts::libspa::{constants, utils};
 pub use shims::array::{ArrayVec, CapacityError};
@@ -146,6 +147,10 @@ pub mod text {
 /// What the exported macros name. It is no part of the interface.
 #[doc(hidden)]
 pub mod macros {
+    pub use crate::api::declared::{Flagged, PodField};
+    pub use crate::pod::PropertyFlags;
+    pub use crate::pod::deserialize::{DeserializeAs, ObjectOf, Optional, Required, StructOf};
+    pub use crate::pod::serialize::{GenError, Maybe, PodOutput, SerializeAs, write_object, write_struct};
     pub use crate::parts::{spa_builder, spa_parser, spa_value};
     pub use crate::shims::memory::VecRoom;
     pub use alloc::vec::Vec;

@@ -51,9 +51,12 @@ fn values_are_made_of_rusts() {
     }
 }
 
+/// The name of a type, and whether its look finds what the row of this type holds.
+type Look = (&'static str, fn(&Value) -> bool);
+
 #[test]
 fn each_look_finds_its_own_type_alone() {
-    let looks: [(&str, fn(&Value) -> bool); 17] = [
+    let looks: [Look; 17] = [
         ("Bool", |value| value.as_bool() == Some(true)),
         ("Id", |value| value.as_id() == Some(Id(7))),
         ("Int", |value| value.as_int() == Some(-3)),

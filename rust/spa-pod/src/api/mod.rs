@@ -1,5 +1,6 @@
 //! What Rust's users expect of these types beside the proved items. It is written by hand, over the generated modules.
 mod clones;
+pub mod declared;
 mod errors;
 pub mod faults;
 pub mod levels;

@@ -24,6 +24,9 @@ mod shims;
 #[doc(hidden)]
 pub mod shims;
 
+#[cfg(feature = "std")]
+#[cfg_attr(docsrs, doc(cfg(feature = "std")))]
+pub use api::compat;
 pub use api::declared::PodField;
 pub use api::reading::{ReadAs, ReadError, ReadErrorKind, read, read_as, read_leniently, read_unbounded, write, write_as};
 pub use parts::libspa::{constants, utils};

@@ -151,7 +151,7 @@ fn nest(levels: u32) -> Vec<u8> {
 }
 
 /// The name of what a call answers.
-fn said<'de, T>(answer: Result<T, DeserializeError<&'de [u8]>>) -> &'static str {
+fn said<T>(answer: Result<T, DeserializeError<&[u8]>>) -> &'static str {
     answer.map_or_else(|error| error.kind(), |_| "read")
 }
 

@@ -1,5 +1,7 @@
 //! What Rust's users expect of these types beside the proved items. It is written by hand, over the generated modules.
 mod clones;
+#[cfg(feature = "std")]
+pub mod compat;
 pub mod declared;
 mod errors;
 pub mod faults;

@@ -81,7 +81,7 @@ RULES = [
     ('inlined', r'', r'# [ cfg_attr ( not ( debug_assertions ) , inline ( always ) ) ]'),
     ('inlined', r'# \[ inline \( always \) \]', r'# [ cfg_attr ( not ( debug_assertions ) , inline ( always ) ) ]'),
     ('surface', r'', r'# \[ (?:derive \( (?:Debug|Clone|Eq|Hash|Default) \)|cfg_attr \( not \( feature = "parts" \) , non_exhaustive \)|must_use) \]'),
-    ('printed floats', r'# \[ derive \( Clone , Copy , Debug ,', r'# [ cfg_attr ( any ( test , feature = "parts" ) , derive ( Debug ) ) ] # [ derive ( Clone , Copy ,'),
+    ('printed floats', r'# \[ derive \( Clone , Copy , Debug ,', r'# [ cfg_attr ( feature = "parts" , derive ( Debug ) ) ] # [ derive ( Clone , Copy ,'),
     ('bounded reads', r'deserialize_any(|_from|_leniently_from|_counted) \(', r'deserialize_any\1_unbounded ('),
     ('bounded reads', r'type Content = Value ; fn of_content \( given : Value \) - > Held \{ Held : : from \( given \) \}',
      r'type Content = crate : : api : : levels : : Unbounded ; '

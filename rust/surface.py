@@ -56,7 +56,7 @@ PLACES = {
     # Floats print as numbers, by src/api/numbers.rs; the proved tests compare what is printed of their bits.
     'spa-pod/src/parts/spa_utils/float.rs': [
         ('#[derive(Clone, Copy, Debug, PartialEq, Eq)]\npub struct Float%s' % bits,
-         '#[cfg_attr(any(test, feature = "parts"), derive(Debug))]\n#[derive(Clone, Copy, PartialEq, Eq)]\npub struct Float%s' % bits)
+         '#[cfg_attr(feature = "parts", derive(Debug))]\n#[derive(Clone, Copy, PartialEq, Eq)]\npub struct Float%s' % bits)
         for bits in ('32', '64')
     ],
 }

@@ -1,6 +1,6 @@
 //! Floats by their bits, and Rust's own.
 use crate::utils::{Float32, Float64};
-#[cfg(not(any(test, feature = "parts")))]
+#[cfg(not(feature = "parts"))]
 use core::fmt::Debug;
 use core::fmt::{Display, Formatter, Result};
 
@@ -26,7 +26,7 @@ macro_rules! float_by_bits {
         }
 
         /// The number, and of a NaN its bits: floats are equal where their bits are.
-        #[cfg(not(any(test, feature = "parts")))]
+        #[cfg(not(feature = "parts"))]
         impl Debug for $name {
             fn fmt(&self, f: &mut Formatter<'_>) -> Result {
                 let number = <$float>::from_bits(self.0);

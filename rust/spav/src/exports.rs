@@ -6,7 +6,7 @@ use core::ffi::c_char;
 use core::slice::{from_raw_parts, from_raw_parts_mut};
 use spa_pod::parts::spa_events::Event;
 
-const EFAULT: i32 = -14;
+const EFAULT: i32 = 14;
 
 /// The elements of a region that is read; none where it is NULL and isn't empty.
 ///

@@ -8,7 +8,6 @@ ghost use Rattle.spa_value.specs.Views.{property_views, views};
 
 use spa_bytes::HEADER_LEN;
 use spa_value::{Property, Value};
-use std::alloc::Global;
 
 /// Is it a struct or an object?
 #[inline(always)]
@@ -100,21 +99,13 @@ pub(crate) fn only_struct(members: &[Value]) -> Option<&[Value]>
     }
 }
 
-/// The greatest nesting depth up to which a value is written by calls into a sink that names no allocator.
-const CALL_LEVELS: usize = 512;
+/// How deep what is in a value may nest that is written by calls into a sink without an allocator.
+pub(crate) const INNER_LEVELS: usize = 511;
 
-/// The allocator of the members or properties of a value that nests deeper than 512 levels, where there may be room for so many. None: calls write
-/// it.
-pub(crate) fn allocator_of_deep(room: Option<usize>, value: &Value) -> Option<Global> {
+/// Whether a value may nest deeper than calls write it into a sink without an allocator: it isn't small, and there may be room for so many.
+pub(crate) fn may_be_deep(room: Option<usize>, value: &Value) -> bool {
     let most = room.unwrap_or(usize::MAX) / HEADER_LEN;
-    if most <= CALL_LEVELS || is_small(value) || nests_within(value, CALL_LEVELS) {
-        return None;
-    }
-    match value {
-        Value::Struct(members) => Some(*members.allocator()),
-        Value::Object(object) => Some(*object.properties.allocator()),
-        _ => None,
-    }
+    most > INNER_LEVELS && !is_small(value)
 }
 
 /// Whether at most so many structs and objects stand in one another in a value. A struct that is the only member of another one isn't counted. No
@@ -134,7 +125,7 @@ fn nests_within(value: &Value, levels: usize) -> bool {
 
 /// Whether at most so many stand in one another in each of these members of one struct.
 #[cycle(levels)]
-fn members_nest_within(members: &[Value], levels: usize) -> bool {
+pub(crate) fn members_nest_within(members: &[Value], levels: usize) -> bool {
     for member in innermost(members) {
         if is_nested(member) && !nests_within(member, levels) {
             return false;
@@ -145,7 +136,7 @@ fn members_nest_within(members: &[Value], levels: usize) -> bool {
 
 /// Whether at most so many stand in one another in each value of these properties.
 #[cycle(levels)]
-fn properties_nest_within(properties: &[Property], levels: usize) -> bool {
+pub(crate) fn properties_nest_within(properties: &[Property], levels: usize) -> bool {
     for property in properties {
         if is_nested(&property.value) && !nests_within(&property.value, levels) {
             return false;

@@ -11,7 +11,10 @@ ghost use Rattle.spa_write.specs.Measured.{ArePropertiesPut, ArePut, PropertiesA
 ghost use Rattle.spa_bodies.specs.Written.{IsLeaf, IsPut, Stops};
 ghost use Rattle.spa_format.specs.Words.{header_size, size_limit, word_bytes};
 
-use crate::count::{allocator_of_deep, is_beyond, is_nested, is_small, only_struct};
+use crate::count::{
+    INNER_LEVELS, is_beyond, is_nested, is_small, may_be_deep, members_nest_within, only_struct,
+    properties_nest_within,
+};
 use crate::known::writable_len;
 use crate::largest::{largest_member, largest_property};
 use crate::leaf::put_leaf;
@@ -35,11 +38,13 @@ const KEYED_LEN: usize = 24;
 /// may have taken a beginning of the encoding.
 ///
 /// Where the sink names an allocator, the encoding of a struct or an object with more than 64 values in it is put together in memory of that
-/// allocator by a loop, and appended at once; a struct that is the only member of another one isn't counted. A smaller value, and into a sink
-/// without an allocator any value that nests in 512 levels at most, is written by functions that call themselves for each level of nesting, but not
-/// for such structs, and takes no memory. A value that nests deeper is put together by the loop in memory of its own allocator; where that memory
-/// lacks, it is written by calls, a level each. Where a sink without an allocator knows how many bytes it has room for, calls nest no deeper than an
-/// eighth of that number: a struct or an object that consists of more values than that is refused as `Full`.
+/// allocator by a loop, and appended at once; a struct that is the only member of another one isn't counted. A smaller value, and any value into
+/// a sink without an allocator, is written by functions that call themselves for each level of nesting, but not for such structs, and takes no
+/// memory. Where a sink without an allocator knows how many bytes it has room for, calls nest no deeper than an eighth of that number: a struct
+/// or an object that consists of more values than that is refused as `Full`.
+///
+/// Calls nest no deeper than 512 levels. What nests deeper is put together by the loop for any sink: where the sink names no allocator, that of the
+/// value's own vectors is asked for memory, and only where it refuses is the value written by calls, one for each level.
 pub fn write_sized<S: PodSink>(sink: &mut S, value: &Value) -> Result<u64, GenError>
     ensures put { OnOk result (IsPut S.appends sink.old (view value.now) sink.new) }
     ensures count { IfOk result (λ n. n ≡ length (encoding_of (view value.now))) }
@@ -56,13 +61,36 @@ pub fn write_sized<S: PodSink>(sink: &mut S, value: &Value) -> Result<u64, GenEr
         }
         return write_value(alloc, sink, value);
     }
-    match allocator_of_deep(sink.room(), value) {
-        Some(alloc) => write_deep(alloc, sink, value),
-        None => write_by_calls(sink, value),
-    }
+    write_without_allocator(sink, value)
 }
 
-/// Appends the encoding of a value that is put together by a loop, in memory of this allocator, and answers its length in bytes. Where that memory
+/// Appends the encoding of a value to a sink without an allocator, and answers its length in bytes.
+fn write_without_allocator<S: PodSink>(sink: &mut S, value: &Value) -> Result<u64, GenError>
+    ensures put { OnOk result (IsPut S.appends sink.old (view value.now) sink.new) }
+    ensures count { IfOk result (λ n. n ≡ length (encoding_of (view value.now))) }
+    ensures begun { OnErr result (Begun S.appends sink.old (encoding_of (view value.now)) sink.new) }
+    ensures refused { IfErr result (RefusesPiece (HasNul (view value.now)) (IsTooLarge (view value.now))
+        (S.refuses sink.old (length (encoding_of (view value.now))) sink.new) sink.old sink.new) }
+{
+    if may_be_deep(sink.room(), value) {
+        match value {
+            Value::Struct(members) => {
+                if !members_nest_within(members.as_slice(), INNER_LEVELS) {
+                    return write_deep(*members.allocator(), sink, value);
+                }
+            }
+            Value::Object(object) => {
+                if !properties_nest_within(object.properties.as_slice(), INNER_LEVELS) {
+                    return write_deep(*object.properties.allocator(), sink, value);
+                }
+            }
+            _ => {}
+        }
+    }
+    write_by_calls(sink, value)
+}
+
+/// Appends the encoding of a value that is put together by a loop, in memory, and answers its length in bytes. Where that memory
 /// lacks, it is written by calls.
 fn write_deep<S: PodSink>(alloc: Global, sink: &mut S, value: &Value) -> Result<u64, GenError>
     ensures put { OnOk result (IsPut S.appends sink.old (view value.now) sink.new) }

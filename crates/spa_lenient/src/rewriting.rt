@@ -1,8 +1,11 @@
 //! Rewrites pods leniently: to the encoding of the value that the bytes convey.
-ghost use Rattle.std.specs.Prelude.{◌≡◌, ◌+◌, ◌<◌, ◌≤◌, IfErr, IfNone, IfOk, IfSome, OnErr, OnOk, length, true};
+ghost use Rattle.std.specs.Prelude.{◌≡◌, ◌+◌, ◌<◌, ◌≤◌, ◌++◌, IfErr, IfNone, IfOk, IfSome, OnErr, OnOk, length, true};
 ghost use Rattle.spa_fixed_sized.specs.declared.fault.Refusal.TheVariants as refusal;
+ghost use Rattle.spa_format.specs.Encoding.{encoding_of};
 ghost use Rattle.spa_format.specs.Front.{HasFront, rest_of};
 ghost use Rattle.spa_format.specs.Words.{size_limit};
+ghost use Rattle.spa_format.specs.Writable.{IsWritable};
+ghost use Rattle.spa_value.specs.View.{view};
 ghost use Rattle.spa_bodies.specs.Refusing.{error_of};
 ghost use Rattle.spa_lenient.specs.Rewriting.{AppendsFront, AppendsStruct, AreRewrittenLeniently, Grows, IsLenientRewriting, RefusesFront, RefusesList};
 ghost use Rattle.spa_rewrite.specs.Rewriting.{AppendsFirst, IsLeft};
@@ -11,10 +14,12 @@ use spa_bodies::{close, error_at};
 use spa_bytes::{open, two_words};
 use spa_fixed_sized::{DeserializeError, Refusal};
 use spa_read::{Refused, read_value_leniently};
-use spa_rewrite::{append_value, rewrite, rewrite_all};
+use spa_rewrite::{rewrite, rewrite_all};
+use spa_sink::GenError;
 use spa_utils::SpaTypes;
-use spa_value::discard;
-use std::alloc::{AllocFailed, Global};
+use spa_value::{Value, discard};
+use spa_write::write_value;
+use std::alloc::{AllocError, AllocFailed, Global};
 
 /// Rewrites the front of the input leniently: answers the bytes that follow the front, and the encoding of the value that it conveys in the
 /// lenient reading.
@@ -214,5 +219,23 @@ fn append_by_value<'a>(input: &'a [u8], out: &mut Vec<u8>) -> Result<&'a [u8], R
     match written {
         Ok(()) => Ok(rest),
         Err(_) => Err(lacking_memory(input)),
+    }
+}
+
+/// Appends the encoding of a value that can be written. Refused only for want of memory: nothing is appended then.
+fn append_value(value: &Value, out: &mut Vec<u8>) -> Result<(), AllocError>
+    requires { IsWritable (view value.now) }
+    ensures appended { OnOk result (out.new.items ≡ out.old.items ++ encoding_of (view value.now)) }
+    ensures unchanged { OnErr result (out.new.items ≡ out.old.items) }
+{
+    let start = out.len();
+    let alloc = *out.allocator();
+    match write_value(alloc, out, value) {
+        Ok(_) => Ok(()),
+        Err(GenError::OutOfMemory) => {
+            out.truncate(start);
+            Err(AllocError)
+        }
+        Err(_) => unreachable!(),
     }
 }

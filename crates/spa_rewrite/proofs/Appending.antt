@@ -66,11 +66,9 @@ front_canonical input rest c = record {
   same = c.same ∙ sym (append-nil (encoding_of c.value));
 }
 
-pub front_written : (input rest front old new : List ℕ) (n : ℕ) → BeginsShorter input rest n → front ≡ take (length input - length rest) input →
+pub front_written : (input rest front old new : List ℕ) (v : Tree) → BeginsWith input v rest → front ≡ take (length input - length rest) input →
     AppendsEncodings front old new → AppendsFront input rest old new
-front_written input rest front old new n c e a =
-    let v = c.value in
-    let b = c.begins in
+front_written input rest front old new v b e a =
     let same : front ≡ front_of input = e ∙ before_rest input rest v b in
     let m = subst (AreMembers (member v no_trees)) (sym same) (alone (front_of input) v b.begins.pod) in
     (v, b, a (member v no_trees) m ∙ ap (λ l. old ++ l) (append-nil (encoding_of v)))

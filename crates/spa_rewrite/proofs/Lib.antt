@@ -27,3 +27,4 @@ pub mod Chains
 pub mod Runs
 pub mod Appending
 pub mod Changed
+pub mod Nesting

@@ -19,7 +19,7 @@ use Rattle.spa_scan.specs.Canonical.{AreCanonical, AreCanonicalProperties, Begin
 use Rattle.spa_scan.proofs.Frames.{body_bytes, canonical_front, none_left, none_left_either, object_of, one_more, one_more_property}
 use Rattle.spa_scan.proofs.Made.{made_body, made_members, made_properties}
 use Rattle.spa_scan.proofs.Opened.{object_inside, struct_inside}
-use Rattle.spa_rewrite.specs.Look.{NestMore, OpensInside, Passes, StandsInside, StopsAt, Surround, nest_behind, nest_inside, nest_last}
+use Rattle.spa_rewrite.specs.Look.{NestMore, OpensInside, Passes, StandsInside, StopsAt, Surround, nest_behind, nest_here, nest_inside, nest_last}
 use Rattle.spa_rewrite.specs.Look.{AreCanonicalInside}
 use Rattle.spa_rewrite.specs.Shorter.{AreShorterInside, BeginsShorter}
 use Rattle.spa_events.specs.Inside.{IsBehindKey, IsInside, key_size}
@@ -406,3 +406,20 @@ stops_behind keyed pods left place behind n p s =
           let e : length pods - length left + (length left - (length place + behind)) ≡ length pods - (length place + behind) = omega arith in
           subst (λ m. StandsAt k (scope_of keyed) m pods) e (p.offset k (length left - (length place + behind)) (s.offset k x));
     }
+
+-- each list that waits takes a header before it
+pub nested_long : (n : ℕ) (keyed : Bool) (left : List ℕ) → NestMore n keyed left → n < length left
+nested_long _ _ _ (nest_here keyed inner left inside rest x r) = let e = opened_shorter keyed inner left inside rest x in omega arith
+nested_long _ _ _ (nest_inside n keyed inner left inside rest x r m) =
+    let e = opened_shorter keyed inner left inside rest x in
+    let l = nested_long n inner inside m in
+    omega arith
+nested_long _ _ _ (nest_last n keyed inner left inside rest x r m) =
+    let e = opened_shorter keyed inner left inside rest x in
+    let l = nested_long n inner inside m in
+    omega arith
+nested_long _ _ _ (nest_behind n keyed left at k h m) =
+    let l = nested_long n keyed (rest_of at) m in
+    let d = length-drop (extent (word_at at 0)) at in
+    let s = behind_shorter keyed left at k in
+    omega arith

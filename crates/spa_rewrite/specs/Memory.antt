@@ -21,11 +21,6 @@ pub record IsRefusal (input : List ℕ) (e : DeserializeError (Bor (List ℕ))) 
   pub refused : RefusesFront input e
   pub asks : OnMemory (FrontAsksMemory input) e
 
--- why the front isn't written by calls: a fault that stands, or it asks for memory
-abbrev pub IsUnwritten : List ℕ → Rejected → Type 0
-IsUnwritten input (rejected.Fault place at why) = IsFaultAt input place.now at why
-IsUnwritten input rejected.TooDeep = FrontAsksMemory input
-
 -- What memory is asked for: pods one after another, or one behind such pods that nests too deep to be looked into.
 abbrev pub AsksMemory : List ℕ → Type 0
 AsksMemory input = ((vs : Trees) × AreMembers vs input) ⊎ ((left : List ℕ) × IsLeft input left × IsTooDeep left)

@@ -115,7 +115,7 @@ pub(crate) fn no_room(pods: &[u8]) -> [Waiting<'_>; 0] {
 
 /// An entry of an array in which no list waits.
 #[inline(always)]
-fn none_waiting(pods: &[u8]) -> Waiting<'_> {
+pub(crate) fn none_waiting(pods: &[u8]) -> Waiting<'_> {
     Waiting {
         keyed: false,
         pods,
@@ -409,7 +409,11 @@ fn look_deep(keyed: bool, pods: &[u8]) -> Found<'_>
 
 /// Looks inside a struct or an object. What is left behind an inner one waits in the array; nothing waits where nothing is left.
 #[inline(never)]
-fn look_inside<'a>(are_keyed: bool, pods: &'a [u8], frames: &mut [Waiting<'a>]) -> Found<'a>
+pub(crate) fn look_inside<'a>(
+    are_keyed: bool,
+    pods: &'a [u8],
+    frames: &mut [Waiting<'a>],
+) -> Found<'a>
     ensures { IsFound (length frames.old) are_keyed pods.now result }
 {
     let (mut waiting, mut surplus, mut behind) = (0, 0, 0);
@@ -567,7 +571,7 @@ fn is_asked_leaf(asked: bool, pod: &[u8]) -> bool
 /// The fault that stands at the front of these bytes, which begin with no pod, and not for what is inside one.
 #[cold]
 #[inline(never)]
-fn fault(place: &[u8]) -> Refusal
+pub(crate) fn fault(place: &[u8]) -> Refusal
     requires refused { IsRefused place.now }
     requires alone { OpensHeaderAlone place.now }
     ensures { Says (λ k. StandsAtFront k place.now) ⊥ result }

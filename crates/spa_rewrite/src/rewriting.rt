@@ -4,26 +4,24 @@
 //! written over it. What nests too deep for that is read as a value, which is written.
 ghost use Rattle.std.specs.Prelude.{◌≡◌, ◌<◌, ◌≤◌, ◌++◌, [], true, IfErr, IfOk, IfSome, IfNone, IsErrAnd, OnErr, OnOk, length};
 ghost use Rattle.spa_fixed_sized.specs.declared.fault.Refusal.TheVariants as refusal;
-ghost use Rattle.spa_format.specs.Encoding.{encoding_of};
 ghost use Rattle.spa_format.specs.Faults.{Stands};
 ghost use Rattle.spa_format.specs.Front.{Begins, HasFront, IsRefused, rest_of};
 ghost use Rattle.spa_format.specs.Pod.{AreMembers};
 ghost use Rattle.spa_format.specs.Tree.{Tree, Trees};
-ghost use Rattle.spa_format.specs.Writable.{IsWritable};
 ghost use Rattle.spa_bodies.specs.Reading.{BeginsWith, IsShortAt, Names, OnFault, OnMemory};
 ghost use Rattle.spa_bodies.specs.Refusing.{error_of};
-ghost use Rattle.spa_rewrite.specs.Look.{IsAcceptedAsked, IsTooDeep};
-ghost use Rattle.spa_rewrite.specs.Memory.{FrontAsksMemory, IsRefusal, IsUnwritten};
+ghost use Rattle.spa_rewrite.specs.Look.{IsTooDeep};
+ghost use Rattle.spa_rewrite.specs.Memory.{FrontAsksMemory, IsRefusal};
 ghost use Rattle.spa_rewrite.specs.Rewriting.{AppendsEncodings, AppendsFirst, AppendsFront, AreRewritten, AreRewrittenInParts, IsLeft, IsLookedOver, IsRewriting, IsSection, RefusesFront, RefusesList};
 ghost use Rattle.spa_rewrite.specs.Shorter.{ArePodsWithin, AreShorter, BeginsShorter};
 ghost use Rattle.spa_scan.specs.Canonical.{AreCanonical, IsStretch};
 ghost use Rattle.spa_scan.specs.Depth.{depth_of, levels_looked_into};
-ghost use Rattle.spa_value.specs.View.{view};
 
+use crate::deep::{behind_deep, deep_encodings};
 use crate::leading::canonical_stretch;
 use crate::look::{
-    AcceptedPod, DEEP_BODY, Found, Rejected, Waiting, few_frames, look_at_front, look_at_pods,
-    look_into, more_unasked, no_room,
+    DEEP_BODY, Found, Rejected, Waiting, few_frames, look_at_front, look_at_pods, look_into,
+    more_unasked, no_room,
 };
 use crate::patch::patch_all;
 use crate::source::Apart;
@@ -33,12 +31,8 @@ use spa_bodies::error_at;
 use spa_bytes::open;
 use spa_events::{Inside, inside_of};
 use spa_fixed_sized::{DeserializeError, Refusal};
-use spa_read::{Refused, read_value};
 use spa_scan::{LEVELS, nests_within};
-use spa_sink::GenError;
-use spa_value::{Value, discard};
-use spa_write::write_value;
-use std::alloc::{AllocError, Global};
+use std::alloc::Global;
 
 /// The encoding of the value that the front of the input says, and what follows that front.
 ///
@@ -143,24 +137,18 @@ pub fn accept_all(alloc: Global, input: &[u8]) -> Result<(), (&[u8], Deserialize
         }
         match behind_deep(alloc, pod) {
             Ok(rest) => left = rest,
-            Err(error) => return Err((pod, error)),
+            Err(refused) => return Err((pod, error_at(refused.place, refused.why))),
         }
     }
 }
 
-/// What follows the pod at the front, which is read to see whether it is accepted.
-fn behind_deep(alloc: Global, pod: &[u8]) -> Result<&[u8], DeserializeError<&[u8]>>
-    ensures accepted { IfOk result (λ rest. (v : Tree) × BeginsWith pod.now v rest.now) }
-    ensures refused { IfErr result (RefusesFront pod.now) }
-{
-    let mut opened = 0;
-    match read_value(alloc, pod, &mut opened) {
-        Ok((rest, value)) => {
-            discard(value);
-            Ok(rest)
-        }
-        Err(refused) => Err(error_at(refused.place, refused.why)),
-    }
+/// A refusal, and the bytes from its place on.
+#[derive(Clone, Copy)]
+pub(crate) struct Refused<'a> {
+    /// These bytes.
+    pub(crate) place: &'a [u8],
+    /// The cause.
+    pub(crate) why: Refusal,
 }
 
 /// Appends the encodings of all pods that the input consists of. A refusal gives what is left from the refused pod on, and that pod's refusal.
@@ -198,7 +186,7 @@ fn append_all<'a>(input: &'a [u8], out: &mut Vec<u8>) -> Result<(), (&'a [u8], R
 }
 
 /// The refusal of the pod at the front of these bytes for want of memory.
-fn lacking_memory(pod: &[u8]) -> Refused<'_>
+pub(crate) fn lacking_memory(pod: &[u8]) -> Refused<'_>
     ensures { result.why ≡ refusal.OutOfMemory }
 {
     Refused {
@@ -274,7 +262,7 @@ fn look_over<'a>(len: usize, pods: &'a [u8], frames: &mut [Waiting<'a>]) -> Sect
             return cut_section(pods, left, surplus);
         }
         let all = surplus + more;
-        if all > 0 && is_deep(left, rest) {
+        if all > 0 && is_deep(left.len() - rest.len(), left) {
             return cut_section(pods, left, surplus);
         }
         surplus = all;
@@ -302,13 +290,10 @@ fn behind_front<'a>(input: &'a [u8], frames: &mut [Waiting<'a>]) -> Option<(&'a 
     }
 }
 
-/// Whether more than `LEVELS` structs and objects stand in one another in the pod at the front, which the rest follows.
+/// Whether more than `LEVELS` containers are nested in one another in the pod at the front, which has so many bytes.
 #[inline(always)]
-fn is_deep(input: &[u8], rest: &[u8]) -> bool
-    requires { length rest.now ≤ length input.now }
-    ensures { result ≡ true → (v : Tree) → Begins input.now v → levels_looked_into < depth_of v }
-{
-    input.len() - rest.len() >= DEEP_BODY && !nests_within(input, LEVELS)
+fn is_deep(len: usize, input: &[u8]) -> bool {
+    len >= DEEP_BODY && !nests_within(input, LEVELS)
 }
 
 /// The pods up to what is left of them, whose encodings are so many bytes shorter.
@@ -323,24 +308,6 @@ fn cut_section<'a>(pods: &'a [u8], left: &'a [u8], surplus: usize) -> Section<'a
         surplus,
         rest,
     }
-}
-
-/// Looks at the pod at the front, and rejects it as too deep also where it gets shorter and is deep.
-#[inline(always)]
-fn look_to_write<'a>(input: &'a [u8]) -> Result<AcceptedPod<'a>, Rejected<'a>>
-    ensures accepted { IfOk result (IsAcceptedAsked true input.now) }
-    ensures rejected { IfErr result (IsUnwritten input.now) }
-    // Each pod of so many levels is accepted.
-    ensures missed { IfErr result (λ _. (v : Tree) → Begins input.now v → levels_looked_into < depth_of v) }
-{
-    let pod = match look_at_front(true, input, &mut no_room(input)) {
-        Ok(pod) => pod,
-        Err(rejected) => return Err(rejected),
-    };
-    if pod.surplus > 0 && is_deep(input, pod.rest) {
-        return Err(Rejected::TooDeep);
-    }
-    Ok(pod)
 }
 
 /// Appends the encodings of accepted pods, which are so many bytes shorter. `None`: memory ran out, and nothing was appended.
@@ -368,7 +335,7 @@ fn append_front<'a>(input: &'a [u8], out: &mut Vec<u8>) -> Result<&'a [u8], Refu
     ensures unchanged { OnErr result (out.new.items ≡ out.old.items) }
     ensures refused { IfErr result (λ refused. IsRefusal input.now (error_of refused.place refused.why)) }
 {
-    match look_to_write(input) {
+    match look_at_front(true, input, &mut no_room(input)) {
         Ok(pod) => {
             let (front, _) = input.split_at(input.len() - pod.rest.len());
             match append_pod(pod.canonical, front, pod.surplus, out) {
@@ -378,7 +345,7 @@ fn append_front<'a>(input: &'a [u8], out: &mut Vec<u8>) -> Result<&'a [u8], Refu
         }
         Err(rejected) => match rejected {
             Rejected::Fault(place, _, why) => Err(Refused { place, why }),
-            Rejected::TooDeep => append_by_value(input, out),
+            Rejected::TooDeep => append_deep(input, out),
         },
     }
 }
@@ -392,6 +359,9 @@ fn append_pod(canonical: bool, pod: &[u8], surplus: usize, out: &mut Vec<u8>) ->
     ensures unchanged { IfNone result (out.new.items ≡ out.old.items) }
 {
     if !canonical {
+        if surplus > 0 && is_deep(pod.len(), pod) {
+            return append_by_loop(pod, out);
+        }
         return append_pods(pod, surplus, out);
     }
     match out.extend_from_slice(pod) {
@@ -400,40 +370,34 @@ fn append_pod(canonical: bool, pod: &[u8], surplus: usize, out: &mut Vec<u8>) ->
     }
 }
 
-/// Reads the pod at the front of the input, appends the value's encoding, and answers what follows that pod.
+/// Appends the encoding of the pod at the front of the input, in which more lists wait than an array has room for, and answers what follows that pod.
 #[cold]
 #[inline(never)]
-fn append_by_value<'a>(input: &'a [u8], out: &mut Vec<u8>) -> Result<&'a [u8], Refused<'a>>
-    requires asks { FrontAsksMemory input.now }
-    requires deep { (v : Tree) → Begins input.now v → levels_looked_into < depth_of v }
+fn append_deep<'a>(input: &'a [u8], out: &mut Vec<u8>) -> Result<&'a [u8], Refused<'a>>
+    requires { IsTooDeep input.now }
     ensures appended { IfOk result (λ rest. AppendsFront input.now rest.now out.old.items out.new.items) }
     ensures unchanged { OnErr result (out.new.items ≡ out.old.items) }
     ensures refused { IfErr result (λ refused. IsRefusal input.now (error_of refused.place refused.why)) }
 {
-    let mut opened = 0;
-    let (rest, value) = read_value(*out.allocator(), input, &mut opened)?;
-    let written = append_value(&value, out);
-    discard(value);
-    match written {
-        Ok(()) => Ok(rest),
-        Err(_) => Err(lacking_memory(input)),
+    let rest = match behind_deep(*out.allocator(), input) {
+        Ok(rest) => rest,
+        Err(refused) => return Err(refused),
+    };
+    let (front, _) = input.split_at(input.len() - rest.len());
+    match append_by_loop(front, out) {
+        Some(()) => Ok(rest),
+        None => Err(lacking_memory(input)),
     }
 }
 
-/// Appends the encoding of a value that can be written. Refused only for want of memory: nothing is appended then.
-pub fn append_value(value: &Value, out: &mut Vec<u8>) -> Result<(), AllocError>
-    requires { IsWritable (view value.now) }
-    ensures appended { OnOk result (out.new.items ≡ out.old.items ++ encoding_of (view value.now)) }
-    ensures unchanged { OnErr result (out.new.items ≡ out.old.items) }
+/// Appends the encodings of pods, any of which may be nested at any depth. `None`: memory ran out, and nothing was appended.
+fn append_by_loop(pods: &[u8], out: &mut Vec<u8>) -> Option<()>
+    ensures appended { IfSome result (λ _. AppendsEncodings pods.now out.old.items out.new.items) }
+    ensures unchanged { IfNone result (out.new.items ≡ out.old.items) }
 {
-    let start = out.len();
-    let alloc = *out.allocator();
-    match write_value(alloc, out, value) {
-        Ok(_) => Ok(()),
-        Err(GenError::OutOfMemory) => {
-            out.truncate(start);
-            Err(AllocError)
-        }
-        Err(_) => unreachable!(),
+    let encodings = deep_encodings(*out.allocator(), pods)?;
+    match out.extend_from_slice(encodings.as_slice()) {
+        Ok(()) => Some(()),
+        Err(_) => None,
     }
 }

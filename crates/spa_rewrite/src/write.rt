@@ -242,7 +242,7 @@ fn write_pod<S: Source>(type_: u32, size: usize, pod: S, out: &mut [u8]) -> usiz
 /// Whether the pods of a container are keyed: false for a struct, true for an object. None for other pods, and for a size that isn't a multiple of 8, since
 /// pods always end at one.
 #[inline(always)]
-fn holds_whole(type_: u32, size: usize) -> Option<bool>
+pub(crate) fn holds_whole(type_: u32, size: usize) -> Option<bool>
     ensures some { IfSome result (λ keyed. HoldsWhole type_ size keyed) }
     ensures none { IfNone result ((keyed : Bool) → ¬ (HoldsWhole type_ size keyed)) }
 {
@@ -284,7 +284,7 @@ fn inner_type(keyed: bool) -> u32
 
 /// Writes the encoding of a pod that holds no others. Of one that no value says it promises only what stays as it was.
 #[inline(always)]
-fn write_leaf<S: Source>(type_: u32, size: usize, pod: S, out: &mut [u8]) -> usize
+pub(crate) fn write_leaf<S: Source>(type_: u32, size: usize, pod: S, out: &mut [u8]) -> usize
     requires fits { S.fits pod (length out.old) }
     requires bytes { IsBytes (S.pods pod out.old) }
     requires pod { IsPodOf (S.pods pod out.old) type_ size }

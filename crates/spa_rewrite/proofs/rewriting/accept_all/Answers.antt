@@ -3,6 +3,7 @@ use Rattle.spa_rewrite.specs.Look.{IsRejected}
 use Rattle.spa_rewrite.specs.Rewriting.{RefusesFront}
 use Rattle.spa_rewrite.proofs.Accepted.{accepted_all, behind_left, fault_front, missed_behind, refused_behind, shorter_left}
 use Rattle.spa_rewrite.proofs.Stretches.{no_first_member}
+use Rattle.spa_rewrite.proofs.Refusals.{front_refused}
 use Rattle.spa_rewrite.proofs.rewriting.accept_all.Goals as goal
 
 pub loop-pod-init : goal.loop-pod-init
@@ -35,7 +36,9 @@ loop-pod-smaller c =
 
 pub returns-in-Err-behind_deep-clause-refused : goal.returns-in-Err-behind_deep-clause-refused
 returns-in-Err-behind_deep-clause-refused c =
-    refused_behind _ _ _ _ c.loop-pod.invariant c.in-Err.ensures.left c.in-Err-behind_deep.ensures.refused
+    refused_behind _ _ _ _ c.loop-pod.invariant c.in-Err.ensures.left
+    (subst (RefusesFront c.in-Err.pod.now) (sym c.error_at-in-Err-behind_deep.ensures)
+    (front_refused _ c.in-Err-behind_deep.refused.place c.in-Err-behind_deep.refused.why c.in-Err-behind_deep.ensures.refused))
 
 pub returns-in-Err-behind_deep-clause-missed : goal.returns-in-Err-behind_deep-clause-missed
 returns-in-Err-behind_deep-clause-missed c = missed_behind _ _ c.loop-pod.invariant c.in-Err.ensures.missed

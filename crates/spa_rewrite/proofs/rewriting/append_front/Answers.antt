@@ -1,7 +1,7 @@
 use Rattle.std.proofs.Common.{subst, sym, ◌∙◌}
 use Rattle.std.specs.Prelude.{true}
 use Rattle.spa_scan.specs.Canonical.{AreCanonical}
-use Rattle.spa_rewrite.specs.Memory.{IsUnwritten}
+use Rattle.spa_rewrite.specs.Look.{IsRejected}
 use Rattle.spa_rewrite.specs.Shorter.{AreShorter}
 use Rattle.spa_rewrite.proofs.Appending.{accepted_canonical, before_rest, front_canonical, front_shorter, front_written}
 use Rattle.spa_rewrite.proofs.Lacking.{is_fault}
@@ -20,9 +20,9 @@ append_pod-requires-clause-canonical c = λ e.
 
 pub returns-in-Some-clause-appended : goal.returns-in-Some-clause-appended
 returns-in-Some-clause-appended c =
-    front_written _ _ _ _ _ _ c.in-Ok.ensures.accepted.shorter c.split_at.ensures.front c.in-Some.ensures.appended
+    front_written _ _ _ _ _ _ c.in-Ok.ensures.accepted.shorter.begins c.split_at.ensures.front c.in-Some.ensures.appended
 
 pub returns-in-Fault-clause-refused : goal.returns-in-Fault-clause-refused
 returns-in-Fault-clause-refused c =
-    let says = subst (IsUnwritten c.args.input.now) c.in-Fault.is c.in-Err.ensures.rejected in
+    let says = subst (IsRejected c.args.input.now) c.in-Fault.is c.in-Err.ensures.rejected in
     is_fault _ _ _ says.stands

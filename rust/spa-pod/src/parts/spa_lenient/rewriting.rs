@@ -6,10 +6,12 @@ use crate::parts::spa_bodies::{close, error_at};
 use crate::parts::spa_bytes::{open, two_words};
 use crate::parts::spa_fixed_sized::{DeserializeError, Refusal};
 use crate::parts::spa_read::{Refused, read_value_leniently};
-use crate::parts::spa_rewrite::{append_value, rewrite, rewrite_all};
+use crate::parts::spa_rewrite::{rewrite, rewrite_all};
+use crate::parts::spa_sink::GenError;
 use crate::parts::spa_utils::SpaTypes;
-use crate::parts::spa_value::discard;
-use crate::shims::memory::AllocFailed;
+use crate::parts::spa_value::{Value, discard};
+use crate::parts::spa_write::write_value;
+use crate::shims::memory::{AllocError, AllocFailed};
 
 /// Rewrites the front of the input leniently: answers the bytes that follow the front, and the encoding of the value that it conveys in the
 /// lenient reading.
@@ -169,5 +171,18 @@ fn append_by_value<'a>(input: &'a [u8], out: &mut Vec<u8>) -> Result<&'a [u8], R
     match written {
         Ok(()) => Ok(rest),
         Err(_) => Err(lacking_memory(input)),
+    }
+}
+
+/// Appends the encoding of a value that can be written. Refused only for want of memory: nothing is appended then.
+fn append_value(value: &Value, out: &mut Vec<u8>) -> Result<(), AllocError> {
+    let start = out.len();
+    match write_value(out, value) {
+        Ok(_) => Ok(()),
+        Err(GenError::OutOfMemory) => {
+            out.truncate(start);
+            Err(AllocError)
+        }
+        Err(_) => unreachable!(),
     }
 }

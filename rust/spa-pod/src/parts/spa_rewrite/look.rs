@@ -102,7 +102,7 @@ pub(crate) fn no_room(pods: &[u8]) -> [Waiting<'_>; 0] {
 
 /// An entry of an array in which no list waits.
 #[cfg_attr(not(debug_assertions), inline(always))]
-fn none_waiting(pods: &[u8]) -> Waiting<'_> {
+pub(crate) fn none_waiting(pods: &[u8]) -> Waiting<'_> {
     Waiting {
         keyed: false,
         pods,
@@ -358,7 +358,11 @@ fn look_deep(keyed: bool, pods: &[u8]) -> Found<'_> {
 
 /// Looks inside a struct or an object. What is left behind an inner one waits in the array; nothing waits where nothing is left.
 #[inline(never)]
-fn look_inside<'a>(are_keyed: bool, pods: &'a [u8], frames: &mut [Waiting<'a>]) -> Found<'a> {
+pub(crate) fn look_inside<'a>(
+    are_keyed: bool,
+    pods: &'a [u8],
+    frames: &mut [Waiting<'a>],
+) -> Found<'a> {
     let (mut waiting, mut surplus, mut behind) = (0, 0, 0);
     let mut keyed = are_keyed;
     let mut left = pods;
@@ -495,7 +499,7 @@ fn is_asked_leaf(asked: bool, pod: &[u8]) -> bool {
 /// The fault that stands at the front of these bytes, which begin with no pod, and not for what is inside one.
 #[cold]
 #[inline(never)]
-fn fault(place: &[u8]) -> Refusal {
+pub(crate) fn fault(place: &[u8]) -> Refusal {
     match open(place) {
         Some(front) => body_fault(front.type_, front.body),
         None => Refusal::Short,

@@ -5,10 +5,11 @@
 //! written over it. What nests too deep for that is read as a value, which is written.
 
 use crate::shims::prelude::*;
+use crate::parts::spa_rewrite::deep::{behind_deep, deep_encodings};
 use crate::parts::spa_rewrite::leading::canonical_stretch;
 use crate::parts::spa_rewrite::look::{
-    AcceptedPod, DEEP_BODY, Found, Rejected, Waiting, few_frames, look_at_front, look_at_pods,
-    look_into, more_unasked, no_room,
+    DEEP_BODY, Found, Rejected, Waiting, few_frames, look_at_front, look_at_pods, look_into,
+    more_unasked, no_room,
 };
 use crate::parts::spa_rewrite::patch::patch_all;
 use crate::parts::spa_rewrite::source::Apart;
@@ -18,12 +19,7 @@ use crate::parts::spa_bodies::error_at;
 use crate::parts::spa_bytes::open;
 use crate::parts::spa_events::{Inside, inside_of};
 use crate::parts::spa_fixed_sized::{DeserializeError, Refusal};
-use crate::parts::spa_read::{Refused, read_value};
 use crate::parts::spa_scan::{LEVELS, nests_within};
-use crate::parts::spa_sink::GenError;
-use crate::parts::spa_value::{Value, discard};
-use crate::parts::spa_write::write_value;
-use crate::shims::memory::AllocError;
 
 /// The encoding of the value that the front of the input says, and what follows that front.
 ///
@@ -87,21 +83,18 @@ pub fn accept_all(input: &[u8]) -> Result<(), (&[u8], DeserializeError<&[u8]>)> 
         }
         match behind_deep(pod) {
             Ok(rest) => left = rest,
-            Err(error) => return Err((pod, error)),
+            Err(refused) => return Err((pod, error_at(refused.place, refused.why))),
         }
     }
 }
 
-/// What follows the pod at the front, which is read to see whether it is accepted.
-fn behind_deep(pod: &[u8]) -> Result<&[u8], DeserializeError<&[u8]>> {
-    let mut opened = 0;
-    match read_value(pod, &mut opened) {
-        Ok((rest, value)) => {
-            discard(value);
-            Ok(rest)
-        }
-        Err(refused) => Err(error_at(refused.place, refused.why)),
-    }
+/// A refusal, and the bytes from its place on.
+#[derive(Clone, Copy)]
+pub(crate) struct Refused<'a> {
+    /// These bytes.
+    pub(crate) place: &'a [u8],
+    /// The cause.
+    pub(crate) why: Refusal,
 }
 
 /// Appends the encodings of all pods that the input consists of. A refusal gives what is left from the refused pod on, and that pod's refusal.
@@ -134,7 +127,7 @@ fn append_all<'a>(input: &'a [u8], out: &mut Vec<u8>) -> Result<(), (&'a [u8], R
 }
 
 /// The refusal of the pod at the front of these bytes for want of memory.
-fn lacking_memory(pod: &[u8]) -> Refused<'_> {
+pub(crate) fn lacking_memory(pod: &[u8]) -> Refused<'_> {
     Refused {
         place: pod,
         why: Refusal::OutOfMemory,
@@ -197,7 +190,7 @@ fn look_over<'a>(len: usize, pods: &'a [u8], frames: &mut [Waiting<'a>]) -> Sect
             return cut_section(pods, left, surplus);
         }
         let all = surplus + more;
-        if all > 0 && is_deep(left, rest) {
+        if all > 0 && is_deep(left.len() - rest.len(), left) {
             return cut_section(pods, left, surplus);
         }
         surplus = all;
@@ -223,10 +216,10 @@ fn behind_front<'a>(input: &'a [u8], frames: &mut [Waiting<'a>]) -> Option<(&'a 
     }
 }
 
-/// Whether more than `LEVELS` structs and objects stand in one another in the pod at the front, which the rest follows.
+/// Whether more than `LEVELS` containers are nested in one another in the pod at the front, which has so many bytes.
 #[cfg_attr(not(debug_assertions), inline(always))]
-fn is_deep(input: &[u8], rest: &[u8]) -> bool {
-    input.len() - rest.len() >= DEEP_BODY && !nests_within(input, LEVELS)
+fn is_deep(len: usize, input: &[u8]) -> bool {
+    len >= DEEP_BODY && !nests_within(input, LEVELS)
 }
 
 /// The pods up to what is left of them, whose encodings are so many bytes shorter.
@@ -238,19 +231,6 @@ fn cut_section<'a>(pods: &'a [u8], left: &'a [u8], surplus: usize) -> Section<'a
         surplus,
         rest,
     }
-}
-
-/// Looks at the pod at the front, and rejects it as too deep also where it gets shorter and is deep.
-#[cfg_attr(not(debug_assertions), inline(always))]
-fn look_to_write<'a>(input: &'a [u8]) -> Result<AcceptedPod<'a>, Rejected<'a>> {
-    let pod = match look_at_front(true, input, &mut no_room(input)) {
-        Ok(pod) => pod,
-        Err(rejected) => return Err(rejected),
-    };
-    if pod.surplus > 0 && is_deep(input, pod.rest) {
-        return Err(Rejected::TooDeep);
-    }
-    Ok(pod)
 }
 
 /// Appends the encodings of accepted pods, which are so many bytes shorter. `None`: memory ran out, and nothing was appended.
@@ -270,7 +250,7 @@ fn append_pods(pods: &[u8], surplus: usize, out: &mut Vec<u8>) -> Option<()> {
 
 /// Appends the encoding of the pod at the front of the input, and answers what follows that pod.
 fn append_front<'a>(input: &'a [u8], out: &mut Vec<u8>) -> Result<&'a [u8], Refused<'a>> {
-    match look_to_write(input) {
+    match look_at_front(true, input, &mut no_room(input)) {
         Ok(pod) => {
             let (front, _) = input.split_at(input.len() - pod.rest.len());
             match append_pod(pod.canonical, front, pod.surplus, out) {
@@ -280,7 +260,7 @@ fn append_front<'a>(input: &'a [u8], out: &mut Vec<u8>) -> Result<&'a [u8], Refu
         }
         Err(rejected) => match rejected {
             Rejected::Fault(place, _, why) => Err(Refused { place, why }),
-            Rejected::TooDeep => append_by_value(input, out),
+            Rejected::TooDeep => append_deep(input, out),
         },
     }
 }
@@ -289,6 +269,9 @@ fn append_front<'a>(input: &'a [u8], out: &mut Vec<u8>) -> Result<&'a [u8], Refu
 #[cfg_attr(not(debug_assertions), inline(always))]
 fn append_pod(canonical: bool, pod: &[u8], surplus: usize, out: &mut Vec<u8>) -> Option<()> {
     if !canonical {
+        if surplus > 0 && is_deep(pod.len(), pod) {
+            return append_by_loop(pod, out);
+        }
         return append_pods(pod, surplus, out);
     }
     match out.try_extend_from_slice(pod) {
@@ -297,29 +280,26 @@ fn append_pod(canonical: bool, pod: &[u8], surplus: usize, out: &mut Vec<u8>) ->
     }
 }
 
-/// Reads the pod at the front of the input, appends the value's encoding, and answers what follows that pod.
+/// Appends the encoding of the pod at the front of the input, in which more lists wait than an array has room for, and answers what follows that pod.
 #[cold]
 #[inline(never)]
-fn append_by_value<'a>(input: &'a [u8], out: &mut Vec<u8>) -> Result<&'a [u8], Refused<'a>> {
-    let mut opened = 0;
-    let (rest, value) = read_value(input, &mut opened)?;
-    let written = append_value(&value, out);
-    discard(value);
-    match written {
-        Ok(()) => Ok(rest),
-        Err(_) => Err(lacking_memory(input)),
+fn append_deep<'a>(input: &'a [u8], out: &mut Vec<u8>) -> Result<&'a [u8], Refused<'a>> {
+    let rest = match behind_deep(input) {
+        Ok(rest) => rest,
+        Err(refused) => return Err(refused),
+    };
+    let (front, _) = input.split_at(input.len() - rest.len());
+    match append_by_loop(front, out) {
+        Some(()) => Ok(rest),
+        None => Err(lacking_memory(input)),
     }
 }
 
-/// Appends the encoding of a value that can be written. Refused only for want of memory: nothing is appended then.
-pub fn append_value(value: &Value, out: &mut Vec<u8>) -> Result<(), AllocError> {
-    let start = out.len();
-    match write_value(out, value) {
-        Ok(_) => Ok(()),
-        Err(GenError::OutOfMemory) => {
-            out.truncate(start);
-            Err(AllocError)
-        }
-        Err(_) => unreachable!(),
+/// Appends the encodings of pods, any of which may be nested at any depth. `None`: memory ran out, and nothing was appended.
+fn append_by_loop(pods: &[u8], out: &mut Vec<u8>) -> Option<()> {
+    let encodings = deep_encodings(pods)?;
+    match out.try_extend_from_slice(encodings.as_slice()) {
+        Ok(()) => Some(()),
+        Err(_) => None,
     }
 }

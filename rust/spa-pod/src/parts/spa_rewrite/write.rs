@@ -191,7 +191,7 @@ fn write_pod<S: Source>(type_: u32, size: usize, pod: S, out: &mut [u8]) -> usiz
 /// Whether the pods of a container are keyed: false for a struct, true for an object. None for other pods, and for a size that isn't a multiple of 8, since
 /// pods always end at one.
 #[cfg_attr(not(debug_assertions), inline(always))]
-fn holds_whole(type_: u32, size: usize) -> Option<bool> {
+pub(crate) fn holds_whole(type_: u32, size: usize) -> Option<bool> {
     if size % HEADER_LEN > 0 {
         return None;
     }
@@ -222,7 +222,7 @@ fn inner_type(keyed: bool) -> u32 {
 
 /// Writes the encoding of a pod that holds no others. Of one that no value says it promises only what stays as it was.
 #[cfg_attr(not(debug_assertions), inline(always))]
-fn write_leaf<S: Source>(type_: u32, size: usize, pod: S, out: &mut [u8]) -> usize {
+pub(crate) fn write_leaf<S: Source>(type_: u32, size: usize, pod: S, out: &mut [u8]) -> usize {
     match SpaTypes(type_) {
         SpaTypes::Struct => 0,
         SpaTypes::Object => 0,

@@ -1,0 +1,27 @@
+use Rattle.std.proofs.Common.{◌≡◌, ap, arith, length, refl, rules}
+use Rattle.std.specs.Prelude.{vec_len}
+use Rattle.spa_rewrite.proofs.Accepted.{inside_stops}
+use Rattle.spa_rewrite.proofs.Looks.{nested_long}
+use Rattle.spa_rewrite.proofs.Refusals.{fault_refused}
+use Rattle.spa_rewrite.proofs.ShorterLemmas.{shorter_inside, shorter_opened}
+use Rattle.spa_rewrite.proofs.deep.behind_deep.Goals as goal
+
+pub returns-in-Fits-clause-accepted : goal.returns-in-Fits-clause-accepted
+returns-in-Fits-clause-accepted c =
+    let s = shorter_opened _ _ _ _ _ c.in-Some.ensures.there (shorter_inside _ _ _ _ _ c.in-Some-inside_of.ensures.there c.in-Fits.ensures) in
+    (s.value, s.begins)
+
+pub returns-in-Stops-clause-refused : goal.returns-in-Stops-clause-refused
+returns-in-Stops-clause-refused c =
+    let f = inside_stops _ _ _ _ _ _ _ _ _ _ c.in-Some.ensures.there c.in-Some-inside_of.ensures.there c.in-Stops.ensures refl c.fault.ensures in
+    fault_refused _ _ _ f.stands
+
+pub loop-frames-smaller : goal.loop-frames-smaller
+loop-frames-smaller c =
+    let frames = c.resize.new.self in
+    let same : vec_len frames ≡ length frames.items = search rules in
+    let room = c.in-Ok.ensures.len in
+    let long = ap length c.as_mut_slice.ensures.value in
+    let more = nested_long _ _ _ c.in-TooDeep.ensures in
+    let some = c.loop-frames.invariant in
+    omega arith

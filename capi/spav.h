@@ -1,5 +1,6 @@
 /* spav: PipeWire's pods checked, rewritten, read, listed, fixated, negotiated, filtered and built by proved code. docs/CAPI.md has an example of
- * each, and a table of every answer. The libraries are for Linux on x86-64-v2 processors.
+ * each, and a table of every answer. The libraries are for Linux on x86-64-v2 processors. What is proved is proved of bytes that stay as they are
+ * until the call has answered: bytes that another process can write, as those of buffers, are copied first, and the copy is passed.
  *
  * Answers. A call answers 0, or 1 for yes, where it is done, and else a number of Linux's <errno.h>, negated.
  *
@@ -7,9 +8,10 @@
  * -EFAULT, by spav_front with 0. `in` is only read. `out` is written from its front on, only where the answer is 0, and behind what is written it
  * stays as it is.
  *
- * What a caller keeps to, which nothing checks. A region's bytes are there, and are PTRDIFF_MAX at most. A region that is written overlaps no other
- * argument. What an answer is put into (`written`, `at`, a value) isn't NULL. A list of calls, of events or of items is aligned. malloc, realloc and
- * free come from one allocator. No call is made from a signal handler, or in the forked child of a process with threads.
+ * What a caller keeps to, which nothing checks. A region's bytes are there, and are PTRDIFF_MAX at most. No other thread or process changes them
+ * during the call. A region that is written overlaps no other argument. What an answer is put into (`written`, `at`, a value) isn't NULL. A list of
+ * calls, of events or of items is aligned. malloc, realloc and free come from one allocator. No call is made from a signal handler, or in the forked
+ * child of a process with threads.
  *
  * What a call keeps to. It reads and writes no other bytes than those. It ends, whatever the bytes are. It keeps no pointer and no state, takes no
  * lock, prints nothing and never ends the process, so threads may call on different memory at once. It asks for memory only where that is said,

@@ -1,6 +1,6 @@
 # The programs, their man pages and their completion for bash, zsh and fish, under DESTDIR and PREFIX. There they start without a script.
-#   make install          proves and builds first what isn't built yet
-#   make install-built    takes what stands in crates/*/out, as `rt ci` leaves it
+#   make install          proves and builds first what isn't built yet; without the kit, or with CARGO=cargo, has cargo build it, of the erased text in rust/
+#   make install-built    takes what stands in crates/*/out, as `rt ci` leaves it, or what cargo built
 # With them comes examples/guard, as the program spav-guard, where `make -C capi` has built it.
 PREFIX = /usr/local
 bindir = $(PREFIX)/bin
@@ -11,12 +11,22 @@ ZSHDIR = $(PREFIX)/share/zsh/site-functions
 fishdir = $(PREFIX)/share/fish/vendor_completions.d
 programs = podtool pod
 guard = spav-guard
-built = $(foreach it,$(programs),crates/$(it)/out/$(it)) $(wildcard capi/out/$(guard))
 pages = dist/out/pages
+# What builds them where `rt` doesn't.
+CARGO ?= $(if $(shell command -v rt 2> /dev/null),,cargo)
 
+ifeq ($(CARGO),)
+built = $(foreach it,$(programs),crates/$(it)/out/$(it)) $(wildcard capi/out/$(guard))
 install:
 	for it in $(programs); do crates/podtool/renew $$it || exit; done
 	$(MAKE) install-built
+else
+built = $(programs:%=rust/target/release/%) $(wildcard capi/out/$(guard))
+install:
+	@command -v $(CARGO) > /dev/null || { echo 'install: there is neither rt, the command of the Rattle kit, nor $(CARGO), which builds without it' >&2; exit 1; }
+	$(CARGO) build --release --manifest-path rust/Cargo.toml --package spa-pod-cli --target-dir rust/target
+	$(MAKE) install-built
+endif
 
 install-built:
 	install -d $(addprefix $(DESTDIR),$(bindir) $(mandir)/man1 $(bashdir) $(ZSHDIR) $(fishdir))

@@ -152,6 +152,9 @@ def compare(few, many, once):
 
 
 def main(words):
+    for it in (CALLS, PODTOOL, POD):
+        if not it.is_file():
+            sys.exit(f"deep.py: {it.relative_to(HERE.parent)} isn't built: that needs rt, the command of the Rattle kit; cargo's own tests nest deep, too")
     levels = int(words[0]) if words else 1_000_000
     found, nests = {}, {"structs": structs, "objects": objects, "in turn": both, "followed": followed}
     for what, nest in nests.items():

@@ -44,6 +44,8 @@ def most_levels(program, work, nest):
 
 
 def main(words):
+    if not words and not (HERE / "out/library").is_file():
+        sys.exit("levels.py: bench/out/library isn't built: that needs rt, the command of the Rattle kit; cargo's own tests nest deep, too")
     program = words[0] if words else HERE / "out/library"
     for work, nests in (("read", (structs, objects)), ("print", (structs, objects)), ("equal", (followed, followed_objects))):
         for nest in nests:

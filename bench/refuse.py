@@ -141,6 +141,9 @@ def files_of(room, name, *parts):
 
 def refuse_in_programs(library, programs, _limit):
     """Refuses each request of the programs, and returns how many there were and how many runs were wrong."""
+    for it in programs:
+        if not (HERE.parent / f"crates/{it}/out/{it}").is_file():
+            sys.exit(f"refuse.py: {it} isn't built: ./{it} builds it with the Rattle kit; what cargo builds is tried by refuse in rust/beside")
     runs = wrong = 0
     with tempfile.TemporaryDirectory() as room:
         for command, name, given in (it for program in programs for it in runs_of(program, pathlib.Path(room))):

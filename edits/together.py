@@ -78,7 +78,7 @@ class Verdict:
 def folder_of_kit():
     """The folder of the Rattle kit; where there is none, a line says so and ends the whole."""
     if not shutil.which("rt"):
-        sys.exit(f"{pathlib.Path(sys.argv[0]).name}: this needs rt, the command of the Rattle kit, which is not on the path")
+        sys.exit(f"{pathlib.Path(sys.argv[0]).name}: this needs rt, the command of the Rattle kit, which is not on the path; without it, rust/check tests what cargo builds")
     return pathlib.Path(subprocess.run(["rt", "doc"], stdout=subprocess.PIPE, text=True, check=True).stdout.strip()).parent
 
 

@@ -8,8 +8,8 @@ extern crate alloc;
 #[cfg(any(feature = "std", test))]
 extern crate std;
 
-#[cfg(not(target_pointer_width = "64"))]
-compile_error!("spa-pod counts bytes in a usize of 64 bits");
+#[cfg(target_pointer_width = "16")]
+compile_error!("spa-pod counts bytes in a usize of 32 bits at least");
 
 mod api;
 #[cfg(not(feature = "parts"))]

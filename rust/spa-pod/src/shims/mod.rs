@@ -8,6 +8,7 @@
 
 pub mod array;
 pub mod bytes;
+pub mod extents;
 pub mod flags;
 #[cfg(feature = "text")]
 pub mod json;

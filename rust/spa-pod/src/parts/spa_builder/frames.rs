@@ -9,7 +9,7 @@ use crate::parts::spa_utils::Errno;
 use core::mem;
 
 /// The least number that a size word can't hold.
-pub(crate) const SIZE_LIMIT: usize = 1 << 32;
+pub(crate) const SIZE_LIMIT: usize = crate::shims::extents::SIZE_LIMIT;
 
 /// No frame.
 const NO_FRAME: BegunPod = BegunPod {

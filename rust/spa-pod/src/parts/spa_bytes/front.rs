@@ -18,6 +18,9 @@ pub struct Front<'de> {
 #[cfg_attr(not(debug_assertions), inline(always))]
 #[must_use]
 pub fn extent_of(size: u32) -> usize {
+    if size as usize > crate::shims::extents::MOST {
+        return crate::shims::extents::BEYOND;
+    }
     HEADER_LEN + (size as usize).div_ceil(HEADER_LEN) * HEADER_LEN
 }
 

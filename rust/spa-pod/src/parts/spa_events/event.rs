@@ -2,7 +2,7 @@
 //! One event for each pod inside an input.
 
 /// The parent of a pod that is in no other one.
-pub const NO_PARENT: usize = 18_446_744_073_709_551_615;
+pub const NO_PARENT: usize = usize::MAX;
 
 /// A pod inside an input: its type, its size, and where it is.
 #[repr(C)]

@@ -40,7 +40,7 @@ fn is_none_choice(type_: u32, body: &[u8]) -> bool {
 /// The type and the body that are read in place of a None choice with this body.
 fn none_choice_as(body: &[u8]) -> (u32, &[u8]) {
     let type_ = u32_at(body, VALUE_TYPE_AT);
-    let end = CHOICE_HEADER_LEN + u32_at(body, HEADER_LEN) as usize;
+    let end = (u32_at(body, HEADER_LEN) as usize).saturating_add(CHOICE_HEADER_LEN);
     if stays_choice(type_) {
         return (SpaTypes::Choice.0, first_of(body, end));
     }

@@ -279,8 +279,8 @@ pub(crate) fn patch_values(shape: u32, len: usize, pod: &mut [u8]) {
 pub(crate) fn taken_len(shape: u32, size: usize, all: usize) -> usize {
     match shape {
         NONE_SHAPE => size,
-        RANGE_SHAPE => 3 * size,
-        STEP_SHAPE => 4 * size,
+        RANGE_SHAPE => size.saturating_mul(3),
+        STEP_SHAPE => size.saturating_mul(4),
         _ => all,
     }
 }

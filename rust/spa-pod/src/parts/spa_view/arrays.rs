@@ -106,7 +106,7 @@ impl<'a> PodChoice<'a> {
             STEP_SHAPE => 4,
             _ => return PodArray { body: values },
         };
-        let taken = HEADER_LEN + most * u32_at(values, 0) as usize;
+        let taken = (u32_at(values, 0) as usize).saturating_mul(most).saturating_add(HEADER_LEN);
         PodArray {
             body: &values[..taken.min(values.len())],
         }

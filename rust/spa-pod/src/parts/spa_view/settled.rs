@@ -30,7 +30,7 @@ impl<'a> Pod<'a> {
         }
         let (_, child) = self.bytes.split_at(CHILD_AT);
         let size = u32_at(child, SIZE_AT);
-        if FOUR_WORDS as usize + size as usize > self.size() as usize {
+        if (FOUR_WORDS as usize).saturating_add(size as usize) > self.size() as usize {
             return None;
         }
         Some(Pod {

@@ -65,5 +65,5 @@ fn writable_leaf_len(value: &Value) -> u64 {
 #[cfg_attr(not(debug_assertions), inline(always))]
 fn writable_text_len(text: &str) -> u64 {
     let size = text.len() + 1;
-    extent_of(size as u32) as u64
+    crate::shims::extents::wide_extent_of(size as u32)
 }

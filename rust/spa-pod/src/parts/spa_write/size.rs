@@ -124,7 +124,7 @@ fn number_len<T: CanonicalFixedSizedPod>(value: &T) -> Result<u64, GenError> {
 /// The length in bytes of a pod whose body has `size` bytes. Refused as `TooLarge` where that is 4294967296 or more.
 fn encoded_pod_len(size: usize) -> Result<u64, GenError> {
     match u32::try_from(size) {
-        Ok(size) => Ok(extent_of(size) as u64),
+        Ok(size) => Ok(crate::shims::extents::wide_extent_of(size)),
         Err(_) => Err(GenError::TooLarge),
     }
 }
@@ -156,7 +156,7 @@ fn pointer_len(type_: u32, address: u64) -> Result<u64, GenError> {
 /// The length in bytes of the encoding of an array of these elements. Refused as `TooLarge`.
 fn elements_len<T: CanonicalFixedSizedPod>(values: &[T]) -> Result<u64, GenError> {
     match array_size(values) {
-        Some(size) => Ok(extent_of(size) as u64),
+        Some(size) => Ok(crate::shims::extents::wide_extent_of(size)),
         None => Err(GenError::TooLarge),
     }
 }
@@ -164,7 +164,7 @@ fn elements_len<T: CanonicalFixedSizedPod>(values: &[T]) -> Result<u64, GenError
 /// The length in bytes of the encoding of a choice over one type of fixed size. Refused as `TooLarge`.
 fn alternatives_len<T: ChoiceElement>(choice: &Choice<T>) -> Result<u64, GenError> {
     match choice_size(choice) {
-        Some(size) => Ok(extent_of(size) as u64),
+        Some(size) => Ok(crate::shims::extents::wide_extent_of(size)),
         None => Err(GenError::TooLarge),
     }
 }

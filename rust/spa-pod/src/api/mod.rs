@@ -7,6 +7,7 @@ mod errors;
 pub mod faults;
 pub mod levels;
 mod numbers;
+pub mod others;
 pub mod reading;
 pub mod values;
 mod views;

@@ -1,20 +1,26 @@
 -- Visitors that state exactly what they decline and how they leave their readers.
-use Rattle.std.proofs.Common.{◌≡◌, ℕ, ◌≤◌, List, drop, length, refl, sym, subst}
+use Rattle.std.proofs.Common.{◌≡◌, ℕ, ◌≤◌, List, drop, length, map, refl, sym, subst}
+use Rattle.std.specs.Prelude.{⊤, Vec}
+use Rattle.std.specs.Global.{Global}
 use Rattle.std.specs.Borrow.{Bor}
 use Rattle.spa_format.specs.Words.{header_size, word_at}
-use Rattle.spa_format.specs.Tree.{Tree, Trees, Properties, member, object, property}
+use Rattle.spa_format.specs.Kind.{Fixed, Kind}
+use Rattle.spa_format.specs.Tree.{Tree, Trees, Properties, array, choice_type, member, object, property, type_of}
 use Rattle.spa_format.specs.Pod.{AreMembers, AreProperties, IsPod}
 use Rattle.spa_format.specs.Front.{HasFront, Begins, front_of, rest_of}
 use Rattle.spa_format.proofs.Fronts.{front_of_whole}
+use Rattle.spa_format.proofs.Unique.{one_value}
 use Rattle.spa_fixed_sized.specs.declared.fault.DeserializeError.{DeserializeError}
 use Rattle.spa_bodies.specs.Reading.{OnFault, OnMemory}
 use Rattle.spa_bodies.proofs.Steps.{parted}
-use Rattle.spa_typed_read.specs.Asking.{LacksObject}
+use Rattle.spa_typed_read.specs.Asking.{IsAsked, LacksObject, array_of}
 use Rattle.spa_typed_read.specs.Exactly.{AreUnread, IsUnread, ReadsStruct, RefusesExactly}
-use Rattle.spa_typed_read.specs.ExactlyLaws.{fault_there, fault_to, memory_to}
+use Rattle.spa_typed_read.specs.ExactlyLaws.{asked_exactly, fault_there, fault_to, memory_to}
 use Rattle.spa_typed_read.specs.Lookup.{NoneRead, ReadsObjectBy}
 use Rattle.spa_typed_read.specs.Members.{ObjectReader, OpensObject, Reader}
-use Rattle.spa_typed_read.specs.Visiting.{DeclinesExactly, DeclinesExactlyIn, LeavesExactly, LeavesExactlyIn, RefusesObject, RefusesStruct, declined_object, declined_struct, failed_object, failed_struct, no_object, no_struct, unread_object, unread_struct}
+use Rattle.spa_typed_read.specs.Visiting.{DeclinesExactly, DeclinesExactlyIn, DeclinesExactlyOf, LeavesExactly, LeavesExactlyIn, RefusesArrayVisit, RefusesObject, RefusesStruct, RefusesVisit, SaysValue, declined, declined_array, declined_object, declined_struct, failed_object, failed_struct, no_array, no_object, no_struct, unread, unread_object, unread_struct}
+use Rattle.spa_typed_read.specs.declared.visitor.Visit.{Visit}
+use Rattle.spa_typed_read.specs.declared.visitor.Visit.TheVariants as visit
 use Rattle.spa_typed_read.proofs.Exactly.{lacks_memory, lacks_short, none_opened, opened_object, struct_unopened, struct_unread}
 
 -- Members and properties as fronts.
@@ -70,6 +76,46 @@ struct_exactly {X = X} reads members m declines leaves b e to d l r = exactly_as
     by (unread_struct lent now o a h n i) =
         struct_unread members b e lent m o (fault_there (AreUnread members lent.left) e ((l lent now h).unread o.good n))
         (subst (OnMemory m) (sym i) tt)
+
+-- what was declined is the value at the front
+value_declined : {X : Type 0} (reads : Tree → X → Type 0) (m : Type 0) (b : List ℕ) (e : DeserializeError (Bor (List ℕ))) (v : Tree) →
+    Begins b v → DeclinesExactlyOf reads m v e → RefusesExactly reads m b e
+value_declined {X = X} reads m b e v g d = record {
+  unread =
+      fault_to ((x : X) → ¬ (reads v x)) (IsUnread reads b) e
+      (λ n w x h r. n x (subst (λ u. reads u x) (one_value (front_of b) w v h.pod g.pod) r)) d.unread;
+  short_first = λ n. absurd (n g.there);
+  memory = memory_to m (m × HasFront b) e (λ t. (t, g.there)) d.memory;
+}
+
+-- A visitor that declines the content of a pod of one type only where its value isn't read so makes a read that is refused exactly. The read
+-- of a choice takes memory.
+pub visit_exactly : {E X : Type 0} (type : ℕ) (reads : Tree → X → Type 0) (m : Type 0)
+    (declines : Visit E → DeserializeError (Bor (List ℕ)) → Type 0) (b : List ℕ) (e : DeserializeError (Bor (List ℕ))) →
+    ((v : Tree) (x : X) → reads v x → type_of v ≡ type) → (type ≡ choice_type → m) →
+    ((given : Visit E) (v : Tree) → SaysValue given v → declines given e → DeclinesExactlyOf reads m v e) → RefusesVisit type declines b e →
+    RefusesExactly reads m b e
+visit_exactly {E = E} {X = X} type reads m declines b e of_its_type memory d r = by r
+  where
+    by : RefusesVisit type declines b e → RefusesExactly reads m b e
+    by (unread h) = record {
+      unread = fault_to _ (IsUnread reads b) e (λ n v x g s. n v g (of_its_type v x s)) h.refused;
+      short_first = h.short_first;
+      memory = memory_to _ (m × HasFront b) e (λ k. (memory k.0, k.1)) h.memory;
+    }
+    by (declined given handed h) = value_declined reads m b e handed.value handed.begins (d given handed.value handed.says h)
+
+-- A visitor that declines the elements of an array only where the array isn't read so makes a read that is refused exactly. It takes memory.
+pub array_exactly : {E X : Type 0} (k : Kind) (fixed : E → Fixed) (reads : Tree → X → Type 0)
+    (declines : Visit E → DeserializeError (Bor (List ℕ)) → Type 0) (b : List ℕ) (e : DeserializeError (Bor (List ℕ))) →
+    ((v : Tree) (x : X) → reads v x → IsAsked (array_of k) v) →
+    ((xs : Vec E Global) → declines (visit.Array xs) e → DeclinesExactlyOf reads ⊤ (array k (map fixed xs.items)) e) →
+    RefusesArrayVisit k fixed declines b e → RefusesExactly reads ⊤ b e
+array_exactly {E = E} {X = X} k fixed reads declines b e asked d r = by r
+  where
+    by : RefusesArrayVisit k fixed declines b e → RefusesExactly reads ⊤ b e
+    by (no_array h) = asked_exactly (array_of k) ⊤ reads asked b e h
+    by (declined_array xs g h) = value_declined reads ⊤ b e (array k (map fixed xs.items)) g (d xs h)
 
 object_unopened_by : {X : Type 0} (reads : ℕ → ℕ → Properties → X → Type 0) (m : Type 0) (b : List ℕ)
     (e : DeserializeError (Bor (List ℕ))) → LacksObject b e → RefusesExactly (λ v (x : X). ReadsObjectBy reads v x) m b e

@@ -85,6 +85,11 @@ pub data RefusesObject (declines : ObjectReader → ObjectReader → Deserialize
   failed_object : (lent now : ObjectReader) → OpensObject input lent → leaves lent now → now.reader.failed ≡ true → e ≡ error.FailedReader → RefusesObject declines leaves input e
   unread_object : (lent now : ObjectReader) → OpensObject input lent → AheadIn lent now → leaves lent now → now.reader.left ≢ [] → e ≡ error.UnreadMembers → RefusesObject declines leaves input e
 
+-- A visitor that was handed the content of this value declines it, unless for want of memory, only where no result is read of it.
+pub record DeclinesExactlyOf {X : Type 0} (reads : Tree → X → Type 0) (takes_memory : Type 0) (v : Tree) (e : DeserializeError (Bor (List ℕ))) : Type 0 where
+  pub unread : OnFault ((x : X) → ¬ (reads v x)) e
+  pub memory : OnMemory takes_memory e
+
 -- A visitor that borrowed a struct's reader at its first member declines it, unless for want of memory, only where no result is read of the
 -- members.
 pub record DeclinesExactly {X : Type 0} (reads : Trees → X → Type 0) (takes_memory : Type 0) (lent now : Reader) (e : DeserializeError (Bor (List ℕ))) : Type 0 where

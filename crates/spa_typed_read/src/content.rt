@@ -1,7 +1,8 @@
 //! Types that are made of a content that is read: of a struct's members, or of any other readable type.
-ghost use Rattle.std.specs.Prelude.{◌≡◌, ◌⊎◌, ℕ, List, false, IfErr, IfOk};
+ghost use Rattle.std.specs.Prelude.{◌≡◌, ◌⊎◌, ℕ, List, false, true, IfErr, IfOk, IsErrAnd};
 ghost use Rattle.std.specs.Borrow.{Bor};
 ghost use Rattle.spa_fixed_sized.specs.declared.fault.DeserializeError.{DeserializeError};
+ghost use Rattle.spa_fixed_sized.specs.declared.fault.DeserializeError.TheVariants as error;
 ghost use Rattle.spa_format.specs.Front.{rest_of};
 ghost use Rattle.spa_format.specs.Tree.{Tree, Trees, no_trees};
 ghost use Rattle.spa_format.specs.Words.{body_of};
@@ -93,6 +94,8 @@ pub trait DeserializeMembers<'de>: Sized + Drop {
         ensures same { Further reader.old reader.new }
         ensures end { IfOk result (λ _. AtEnd reader.new) }
         ensures read { IfOk result (λ x. AllMembers reader.old (λ members. reads_members members x)) }
+        ensures stays { reader.old.failed ≡ true → (reader.new.failed ≡ true)
+            × IsErrAnd result (λ e. e ≡ error.FailedReader) }
         // A refusal is that of the member that isn't read. Unless it is for want of memory, these bytes are no such members.
         ensures named { reader.old.failed ≡ false → IfErr result (refuses_members reader.old.left) }
         ensures refused { reader.old.failed ≡ false

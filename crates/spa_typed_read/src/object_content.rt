@@ -1,7 +1,8 @@
 //! Objects whose properties are found by their keys, in any order.
-ghost use Rattle.std.specs.Prelude.{◌≡◌, ◌⊎◌, ℕ, List, MatchOption, false, true, ⊤, IfErr, IfOk};
+ghost use Rattle.std.specs.Prelude.{◌≡◌, ◌⊎◌, ℕ, List, MatchOption, false, true, ⊤, IfErr, IfOk, IsErrAnd};
 ghost use Rattle.std.specs.Borrow.{Bor};
 ghost use Rattle.spa_fixed_sized.specs.declared.fault.DeserializeError.{DeserializeError};
+ghost use Rattle.spa_fixed_sized.specs.declared.fault.DeserializeError.TheVariants as error;
 ghost use Rattle.spa_format.specs.Pod.{AreProperties};
 ghost use Rattle.spa_format.specs.Tree.{Properties, Tree};
 ghost use Rattle.spa_typed_read.specs.Exactly.{RefusesExactly};
@@ -50,6 +51,7 @@ pub trait DeserializeProperties<'de>: Sized + Drop {
     ) -> Result<Self, DeserializeError<&'de [u8]>>
         ensures found { reader.now.reader.failed ≡ false → (b : List ℕ) → LeadsToAll asks from.now b
             → IfOk result (λ x. (ps : Properties) → AreProperties ps b → reads_properties ps x) }
+        ensures stays { reader.now.reader.failed ≡ true → IsErrAnd result (λ e. e ≡ error.FailedReader) }
         // A refusal is that of the property that isn't read. Unless it is for want of memory, these bytes are no such properties.
         ensures named { reader.now.reader.failed ≡ false → (b : List ℕ) → LeadsToAll asks from.now b
             → IfErr result (refuses_properties b) }
@@ -75,9 +77,12 @@ impl<'de> DeserializeProperties<'de> for () {
 
     #[inline(always)]
     fn find_from(
-        _reader: &ObjectPodDeserializer<'de>,
+        reader: &ObjectPodDeserializer<'de>,
         _from: &'de [u8],
     ) -> Result<(), DeserializeError<&'de [u8]>> {
+        if reader.has_failed() {
+            return Err(DeserializeError::FailedReader);
+        }
         Ok(())
     }
 }

@@ -93,6 +93,14 @@ impl<'de> ObjectPodDeserializer<'de> {
         })
     }
 
+    /// Whether a property was refused before.
+    #[inline(always)]
+    pub(crate) fn has_failed(&self) -> bool
+        ensures { result ≡ self.now.reader.failed }
+    {
+        self.failed
+    }
+
     /// The object's type.
     pub fn type_(&self) -> u32
         ensures { result ≡ self.now.type }
@@ -224,6 +232,7 @@ impl<'de> ObjectPodDeserializer<'de> {
     ) -> Result<P, DeserializeError<&'de [u8]>>
         ensures found { self.now.reader.failed ≡ false
             → IfOk result (λ x. (ps : Properties) → AreProperties ps self.now.reader.left → P.reads_properties ps x) }
+        ensures stays { self.now.reader.failed ≡ true → IsErrAnd result (λ e. e ≡ error.FailedReader) }
         // A refusal is that of the property that isn't read. Unless it is for want of memory, these bytes are no such properties.
         ensures named { self.now.reader.failed ≡ false → IfErr result (P.refuses_properties self.now.reader.left) }
         ensures refused { self.now.reader.failed ≡ false

@@ -30,12 +30,6 @@ WORDS = {
         ('Refused as `refuses` states, or with an error with which the\n    /// output may refuse as many bytes as the encoding has.',
          'Refused as the type says, or with an\n    /// error of the output.'),
     ],
-    'spa-pod/src/parts/spa_typed_write/exact.rs': [
-        ("    /// Appends the value's encoding. The contract doesn't state what a refused write leaves in the output.",
-         "    /// Appends the value's encoding. After a refusal the output may hold other bytes."),
-        ("    /// Appends the encoding of that value. The contract doesn't state what a refused write leaves in the output.",
-         '    /// Appends the encoding of that value. After a refusal the output may hold other bytes.'),
-    ],
     'spa-pod/src/parts/spa_typed_read/deserializer.rs': [
         ('`refuses` states the refusals.', 'Each type says how it refuses one.'),
         ("/// Any value, whose tree is the pod's one value. The refusals", '/// Any value. The refusals'),

@@ -5,6 +5,7 @@ use crate::parts::spa_text_commands::inside::Label;
 use crate::parts::spa_text_commands::parts::{Parts, Scalar, Shown};
 use spa_pod::shims::numerals::Buffer;
 use spa_pod::parts::spa_names::{Table, ids_of, name_of, path_of};
+use spa_pod::parts::spa_text_read::letters::{push_letter, push_letters};
 use spa_pod::parts::spa_utils::SpaTypes;
 use spa_pod::shims::memory::AllocError;
 use core::fmt::Display;
@@ -209,17 +210,10 @@ fn put_text(text: &mut String, body: &[u8]) -> Result<(), AllocError> {
     };
     text.try_push_str("String \"")?;
     match str::from_utf8(shown) {
-        Ok(shown) => put_letters(text, shown)?,
+        Ok(shown) => push_letters(text, shown)?,
         Err(_) => put_bytes(text, shown)?,
     }
     text.try_push_str("\"")
-}
-
-fn put_letters(text: &mut String, letters: &str) -> Result<(), AllocError> {
-    for letter in letters.chars() {
-        put_letter(text, letter)?;
-    }
-    Ok(())
 }
 
 fn put_bytes(text: &mut String, bytes: &[u8]) -> Result<(), AllocError> {
@@ -229,20 +223,10 @@ fn put_bytes(text: &mut String, bytes: &[u8]) -> Result<(), AllocError> {
     Ok(())
 }
 
-/// Writes a letter of a text.
-fn put_letter(text: &mut String, letter: char) -> Result<(), AllocError> {
-    match letter {
-        '"' => text.try_push_str("\\\""),
-        '\\' => text.try_push_str("\\\\"),
-        _ if letter.is_control() => write!(text, "\\u{:04x}", letter as u32),
-        _ => text.try_push(letter),
-    }
-}
-
 /// Writes a byte of what is no UTF-8.
 fn put_byte(text: &mut String, byte: u8) -> Result<(), AllocError> {
     if byte.is_ascii() {
-        return put_letter(text, byte as char);
+        return push_letter(text, byte as char);
     }
     write!(text, "\\x{byte:02x}")
 }

@@ -4,8 +4,8 @@
 use crate::shims::prelude::*;
 use crate::parts::spa_builder::begun::{Elements, NO_ELEMENTS, Stage, What};
 use crate::parts::spa_builder::building::{
-    add_bodies, add_body, add_elements, add_encoding, add_fixed, add_key, add_values, are_bodies,
-    begin_tree, close, leave,
+    add_bodies, add_body, add_elements, add_encoding, add_fixed, add_key, add_values,
+    add_whole_choice, are_bodies, begin_tree, close, leave,
 };
 use crate::parts::spa_builder::bytes::pointer_pod;
 use crate::parts::spa_builder::frames::Frames;
@@ -13,9 +13,9 @@ use crate::parts::spa_builder::heads::{array_head, choice_head, object_head, str
 use crate::parts::spa_builder::pods::add_seen;
 use crate::parts::spa_builder::values::add_any;
 use crate::parts::spa_bytes::POINTER_LEN;
-use crate::parts::spa_fixed_sized::{CanonicalFixedSizedPod, FLAGS_SHAPE};
+use crate::parts::spa_fixed_sized::{CanonicalFixedSizedPod, ChoiceElement, FLAGS_SHAPE};
 use crate::parts::spa_spare_capacity::Written;
-use crate::parts::spa_utils::{Errno, Fd, Float32, Float64, Fraction, Frame, Id, Rectangle, SpaTypes};
+use crate::parts::spa_utils::{Choice, Errno, Fd, Float32, Float64, Fraction, Frame, Id, Rectangle, SpaTypes};
 use crate::parts::spa_value::{Value, ValueArray};
 use crate::parts::spa_view::Pod;
 
@@ -176,6 +176,11 @@ impl Builder {
             return Err(Errno::INVAL);
         }
         add_bodies::<T>(&mut self.bytes, &mut self.frames, bodies)
+    }
+
+    /// Adds a whole choice.
+    pub fn add_choice<T: ChoiceElement>(&mut self, choice: &Choice<T>) -> Result<(), Errno> {
+        add_whole_choice(&mut self.bytes, &mut self.frames, choice)
     }
 
     /// Adds any value: one of fixed size as the call of its kind does, any other as its encoding. The value is walked once:

@@ -5,11 +5,11 @@ use crate::shims::prelude::*;
 use crate::parts::spa_builder::begun::{BegunPod, Stage, What};
 use crate::parts::spa_builder::bytes::{put_bodies, put_fixed_pod, put_padding, put_pod};
 use crate::parts::spa_builder::elements::{is_finished, is_first, takes_element, takes_elements, with_element};
-use crate::parts::spa_builder::frames::{Frames, admit, fill, takes_key, takes_trees};
+use crate::parts::spa_builder::frames::{Frames, SIZE_LIMIT, admit, fill, takes_key, takes_trees};
 use crate::parts::spa_bytes::{HEADER_LEN, two_words};
-use crate::parts::spa_fixed_sized::{CanonicalFixedSizedPod, put_array};
+use crate::parts::spa_fixed_sized::{CanonicalFixedSizedPod, ChoiceElement, choice_size, put_array, put_choice};
 use crate::parts::spa_spare_capacity::Written;
-use crate::parts::spa_utils::{Errno, Frame};
+use crate::parts::spa_utils::{Choice, Errno, Frame};
 use crate::parts::spa_value::ValueArray;
 
 /// Adds a pod whose body is given in two parts, where a value of any type is allowed.
@@ -58,8 +58,41 @@ pub(crate) fn add_values<T: CanonicalFixedSizedPod>(
 ) -> Result<(), Errno> {
     let innermost = frames.innermost();
     let had = bytes.len();
-    admit(had, frames, array_size::<T>(values.len()))?;
+    let size = array_size::<T>(values.len());
+    admit(had, frames, size)?;
+    bytes.make_room(size.saturating_add(2 * HEADER_LEN));
     match put_array(bytes, values) {
+        Ok(()) => {
+            fill(frames, innermost);
+            Ok(())
+        }
+        Err(_) => {
+            bytes.truncate(had);
+            Err(Errno::NOMEM)
+        }
+    }
+}
+
+/// The size in bytes of the body of a choice; where it is 4294967296 or more, any size that is.
+fn size_of_choice<T: ChoiceElement>(choice: &Choice<T>) -> usize {
+    match choice_size(choice) {
+        Some(size) => size as usize,
+        None => SIZE_LIMIT,
+    }
+}
+
+/// Adds a choice, where a value of any type is allowed. Where memory runs out, the part that was written is removed.
+pub(crate) fn add_whole_choice<T: ChoiceElement>(
+    bytes: &mut Written,
+    frames: &mut Frames,
+    choice: &Choice<T>,
+) -> Result<(), Errno> {
+    let innermost = frames.innermost();
+    let had = bytes.len();
+    let size = size_of_choice(choice);
+    admit(had, frames, size)?;
+    bytes.make_room(size.saturating_add(2 * HEADER_LEN));
+    match put_choice(bytes, choice) {
         Ok(()) => {
             fill(frames, innermost);
             Ok(())
@@ -89,6 +122,7 @@ pub(crate) fn add_bodies<T: CanonicalFixedSizedPod>(
     let innermost = frames.innermost();
     let had = bytes.len();
     admit(had, frames, HEADER_LEN + bodies.len())?;
+    bytes.make_room(bodies.len().saturating_add(3 * HEADER_LEN));
     match put_bodies::<T>(bytes, bodies) {
         Ok(()) => {
             fill(frames, innermost);

@@ -19,7 +19,7 @@ fn padding_len(size: usize) -> usize {
 /// Appends the padding behind a body of this size: zeros up to a multiple of 8 bytes.
 #[cfg_attr(not(debug_assertions), inline(always))]
 pub(crate) fn put_padding(bytes: &mut Written, size: usize) -> Result<(), Errno> {
-    bytes.append_first([0; HEADER_LEN], padding_len(size))
+    bytes.append_zeros(padding_len(size))
 }
 
 /// Appends the encoding of a value of fixed size.

@@ -68,6 +68,9 @@ macro_rules! builder_add {
             Err(refusal) => Err(refusal),
         }
     };
+    ($builder:expr, Choice($choice:expr)) => {
+        $builder.add_choice($choice)
+    };
     ($builder:expr, Choice($shape:expr, $flags:expr $(,)?) { $($values:tt)* }) => {
         match $builder.push_choice($shape, $flags) {
             Ok(frame) => $crate::builder_members!($builder, frame, $($values)*),

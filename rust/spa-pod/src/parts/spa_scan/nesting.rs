@@ -2,14 +2,15 @@
 //! How deep structs and objects stand in one another, counted without memory.
 
 use crate::parts::spa_bytes::open;
-use crate::parts::spa_events::{inside_of, is_container, open_first};
+use crate::parts::spa_events::{Inside, inside_of, is_container, open_first};
 
 /// Whether at most so many structs and objects stand in one another in the pod at the front: an Int nests in 0 levels, a
 /// struct of Ints in 1.
 ///
-/// It takes no memory, and calls itself at most `levels` deep. A service asks it before it compares by `==`, prints by `{:?}` or drops
-/// a value that others made, since these call themselves for each level. On bytes that aren't accepted it counts the structs
-/// and objects that walks over whole pods meet in one another: none where no front is there.
+/// It takes no memory, and its stack doesn't grow with the nesting depth: only containers that aren't the longest beside them take a call, so
+/// calls nest no deeper than the binary logarithm of the number of bytes. A service asks it before it compares by `==`, prints by `{:?}` or drops
+/// a value that others made, since these call themselves for each level. On bytes that aren't accepted it counts the structs and objects that
+/// walks over whole pods meet in one another: none where no front is there.
 #[must_use]
 pub fn nests_within(input: &[u8], levels: u32) -> bool {
     match open(input) {
@@ -37,13 +38,66 @@ fn body_nests_within(type_: u32, body: &[u8], levels: u32) -> bool {
 }
 
 /// Whether at most so many stand in one another in each of the pods inside a container, with a key and flags before each where `keyed` is set.
+///
+/// The longest container among them comes last, and takes no call. Any other one has less than half of the bytes.
 fn pods_nest_within(keyed: bool, pods: &[u8], levels: u32) -> bool {
-    let mut left = pods;
-    while let Some(front) = open_first(keyed, left) {
-        if !body_nests_within(front.type_, front.body, levels) {
+    let mut around = Inside { keyed, pods };
+    let mut left = levels;
+    while left != 0 {
+        let Some(longest) = all_but_longest(around.keyed, around.pods, left) else {
             return false;
+        };
+        let Some(inside) = longest else {
+            return true;
+        };
+        around = inside;
+        left -= 1;
+    }
+    is_flat(around.keyed, around.pods)
+}
+
+/// Looks into all structs and objects among these pods but the longest, whose pods are answered. None: the pods inside another one nest in `levels`
+/// levels or more.
+fn all_but_longest(keyed: bool, pods: &[u8], levels: u32) -> Option<Option<Inside<'_>>> {
+    let mut left = pods;
+    let mut longest = None;
+    while let Some(front) = open_first(keyed, left) {
+        if let Some(inside) = inside_of(front.type_, front.body) {
+            let Some(longer) = longer_of(longest, inside, levels) else {
+                return None;
+            };
+            longest = Some(longer);
         }
         left = front.rest;
+    }
+    Some(longest)
+}
+
+/// The longer one of these pods of two containers, once the others are looked into. None: the others nest in `levels` levels or more.
+fn longer_of<'a>(longest: Option<Inside<'a>>, inside: Inside<'a>, levels: u32) -> Option<Inside<'a>> {
+    let Some(other) = longest else {
+        return Some(inside);
+    };
+    if inside.pods.len() < other.pods.len() {
+        if !pods_nest_within(inside.keyed, inside.pods, levels - 1) {
+            return None;
+        }
+        return Some(other);
+    }
+    if !pods_nest_within(other.keyed, other.pods, levels - 1) {
+        return None;
+    }
+    Some(inside)
+}
+
+/// Whether none of these pods is a struct or an object.
+fn is_flat(keyed: bool, pods: &[u8]) -> bool {
+    let mut rest = pods;
+    while let Some(front) = open_first(keyed, rest) {
+        if is_container(front.type_) {
+            return false;
+        }
+        rest = front.rest;
     }
     true
 }

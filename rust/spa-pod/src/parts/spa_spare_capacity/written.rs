@@ -6,6 +6,7 @@ use crate::shims::prelude::*;
 use crate::parts::spa_bytes::{HEADER_LEN, two_words};
 use crate::parts::spa_sink::{GenError, PodSink};
 use crate::parts::spa_utils::Errno;
+use crate::shims::memory::AllocError;
 use core::mem;
 
 /// The bytes that were written. A refused call changes nothing.
@@ -15,8 +16,19 @@ pub struct Written {
     count: usize,
 }
 
-/// The least number of bytes by which the vector is made longer, where it has the capacity.
+/// The least capacity in bytes of a vector that had to be made larger, and the least number of zeros that are added to it at once.
+const FIRST_ROOM: usize = 256;
+
+/// The most zeros that are added at once, unless an append needs more. Up to here the vector is made twice as long.
 const ROOM_STEP: usize = 4096;
+
+/// Asks for memory for `more` bytes behind those of the vector.
+fn reserve(bytes: &mut Vec<u8>, more: usize) -> Result<(), AllocError> {
+    if more <= bytes.capacity() - bytes.len() {
+        return Ok(());
+    }
+    bytes.make_room(more.max(FIRST_ROOM))
+}
 
 /// The vector, at least `more` bytes longer where there is memory for it. It is moved and not borrowed, so that a builder
 /// whose calls are inlined can be kept in registers.
@@ -24,10 +36,11 @@ const ROOM_STEP: usize = 4096;
 #[inline(never)]
 fn grown(mut bytes: Vec<u8>, more: usize) -> Vec<u8> {
     let had = bytes.len();
-    if bytes.make_room(more).is_err() {
+    if reserve(&mut bytes, more).is_err() {
         return bytes;
     }
-    let wanted = had.saturating_add(more.max(ROOM_STEP));
+    let step = had.min(ROOM_STEP).max(FIRST_ROOM);
+    let wanted = had.saturating_add(more.max(step));
     let fits = wanted.min(bytes.capacity());
     let _ = bytes.try_resize(fits, 0);
     bytes
@@ -36,11 +49,13 @@ fn grown(mut bytes: Vec<u8>, more: usize) -> Vec<u8> {
 /// Makes room for `more` bytes behind the first `count`. Refused only for want of memory.
 #[cfg_attr(not(debug_assertions), inline(always))]
 fn make_room(bytes: &mut Vec<u8>, count: usize, more: usize) -> Result<(), Errno> {
-    if count + more <= bytes.len() {
+    let end = count + more;
+    if end <= bytes.len() {
         return Ok(());
     }
-    *bytes = grown(mem::replace(bytes, Vec::new()), more);
-    if count + more <= bytes.len() {
+    let lacks = end - bytes.len();
+    *bytes = grown(mem::replace(bytes, Vec::new()), lacks);
+    if end <= bytes.len() {
         return Ok(());
     }
     Err(Errno::NOMEM)
@@ -51,6 +66,16 @@ fn make_room(bytes: &mut Vec<u8>, count: usize, more: usize) -> Result<(), Errno
 fn write_over(bytes: &mut Vec<u8>, at: usize, piece: &[u8]) {
     let end = at + piece.len();
     bytes[at..end].copy_from_slice(piece);
+}
+
+/// Overwrites the bytes from the offset `at` on with at most eight zeros. Where eight fit, eight are written, which takes one store.
+#[cfg_attr(not(debug_assertions), inline(always))]
+fn write_zeros(bytes: &mut Vec<u8>, at: usize, zeros: usize) {
+    if HEADER_LEN <= bytes.len() - at {
+        write_over(bytes, at, &[0; HEADER_LEN]);
+    } else {
+        write_over(bytes, at, &[0; HEADER_LEN][..zeros]);
+    }
 }
 
 impl Written {
@@ -139,16 +164,32 @@ impl Written {
     ) -> Result<(), Errno> {
         let at = self.count;
         let size = front.len() + back.len();
-        make_room(&mut self.bytes, at, HEADER_LEN + size + HEADER_LEN)?;
+        make_room(&mut self.bytes, at, HEADER_LEN + size + zeros)?;
         let body = at + HEADER_LEN;
         let rest = body + front.len();
         let end = rest + back.len();
         write_over(&mut self.bytes, at, &header);
         write_over(&mut self.bytes, body, front);
         write_over(&mut self.bytes, rest, back);
-        write_over(&mut self.bytes, end, &[0; HEADER_LEN]);
+        write_zeros(&mut self.bytes, end, zeros);
         self.count = end + zeros;
         Ok(())
+    }
+
+    /// Appends at most eight zeros. Refused only for want of memory.
+    #[cfg_attr(not(debug_assertions), inline(always))]
+    pub fn append_zeros(&mut self, zeros: usize) -> Result<(), Errno> {
+        let at = self.count;
+        make_room(&mut self.bytes, at, zeros)?;
+        write_zeros(&mut self.bytes, at, zeros);
+        self.count = at + zeros;
+        Ok(())
+    }
+
+    /// Asks for memory for `more` bytes behind those written. Where there is none, the appends that need it are refused.
+    pub fn make_room(&mut self, more: usize) {
+        let spare = self.bytes.len() - self.count;
+        let _ = reserve(&mut self.bytes, more.saturating_sub(spare));
     }
 
     /// Overwrites the four bytes at the offset `at` with a word.

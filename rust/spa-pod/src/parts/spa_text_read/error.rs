@@ -18,8 +18,9 @@ pub struct TextError {
     /// How many bytes of that line stand before it, and one.
     pub column: usize,
     /// Where the last token that was read stands, by keys and places in arrays, as `.props.rate` or `[2].props.volume`: a key that is refused
-    /// is the last of them. Two points stand for a key of more than 64 bytes, and for what follows 256 bytes. Empty for the outermost, and
-    /// where memory ran out, also for the path itself.
+    /// is the last of them. Two points stand for a key of more than 64 bytes, and for what follows 256 bytes. In a key a quote and a backslash
+    /// stand behind a backslash, and a control character is written by its number, as `\u001b`. Empty for the outermost, and where memory ran
+    /// out, also for the path itself.
     pub path: String,
     /// Where the cause is KeyType, the value's type and the one that belongs there.
     pub misfit: Option<Misfit>,

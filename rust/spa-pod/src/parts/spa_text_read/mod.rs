@@ -6,6 +6,7 @@ mod element;
 mod error;
 mod fitting;
 mod inside;
+pub mod letters;
 pub mod names;
 mod nest;
 pub mod numerals;

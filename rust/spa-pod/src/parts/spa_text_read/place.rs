@@ -2,6 +2,7 @@
 //! Where in a text a token stands.
 
 use crate::shims::prelude::*;
+use crate::parts::spa_text_read::letters::push_letters;
 use crate::shims::json::{Reader, Token};
 use crate::shims::memory::AllocError;
 
@@ -20,8 +21,8 @@ pub(crate) enum Open<'a> {
     Array(usize),
 }
 
-/// The path of the last token that begins before this byte of a text, by the keys and the places in arrays that lead there, as `jq` writes
-/// them: `.props.rate`, `[2].props.volume`.
+/// The path of the last token that begins before this byte of a text, by the keys and the places in arrays that lead there: `.props.rate`,
+/// `[2].props.volume`.
 pub(crate) fn path_to(
     reader: &mut Reader<'_>,
     end: usize,
@@ -99,7 +100,11 @@ fn push_step(path: &mut String, step: Open<'_>) -> Result<(), AllocError> {
     match step {
         Open::Object(Some(key)) => {
             path.try_push_str(".")?;
-            path.try_push_str(if key.len() > KEY_LIMIT { ".." } else { key })
+            if key.len() > KEY_LIMIT {
+                path.try_push_str("..")
+            } else {
+                push_letters(path, key)
+            }
         }
         Open::Array(count) if count > 0 => {
             let mut buffer = crate::shims::numerals::Buffer::new();

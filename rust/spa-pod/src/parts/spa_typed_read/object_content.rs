@@ -36,9 +36,12 @@ impl<'de> DeserializeProperties<'de> for () {
 
     #[cfg_attr(not(debug_assertions), inline(always))]
     fn find_from(
-        _reader: &ObjectPodDeserializer<'de>,
+        reader: &ObjectPodDeserializer<'de>,
         _from: &'de [u8],
     ) -> Result<(), DeserializeError<&'de [u8]>> {
+        if reader.has_failed() {
+            return Err(DeserializeError::FailedReader);
+        }
         Ok(())
     }
 }

@@ -62,6 +62,12 @@ impl<'de> ObjectPodDeserializer<'de> {
         })
     }
 
+    /// Whether a property was refused before.
+    #[cfg_attr(not(debug_assertions), inline(always))]
+    pub(crate) fn has_failed(&self) -> bool {
+        self.failed
+    }
+
     /// The object's type.
     #[must_use]
     pub fn type_(&self) -> u32 {

@@ -17,7 +17,7 @@ use crate::parts::spa_write::write_sized;
 /// The members and the properties that `write_struct` and `write_object` write have to be of such types. A `SerializeAs` is one, and so is each
 /// built-in type.
 pub trait ExactSerialize: PodSerialize {
-    /// Appends the value's encoding. After a refusal the output may hold other bytes.
+    /// Appends the value's encoding. After a refusal the output holds the bytes that it held before, and zero or more behind them.
     fn write_exactly<O: PodOutput>(&self, out: &mut O) -> Result<(), GenError>;
 }
 
@@ -25,7 +25,7 @@ pub trait ExactSerialize: PodSerialize {
 /// `write_object` of its properties. Refused only as `NulInText` where a text in the value holds NUL, as `TooLarge` where a size word would be
 /// 4294967296 or more, and with the output's error where that refuses the encoding.
 pub trait SerializeAs {
-    /// Appends the encoding of that value. After a refusal the output may hold other bytes.
+    /// Appends the encoding of that value. After a refusal the output holds the bytes that it held before, and zero or more behind them.
     fn write_as<O: PodOutput>(&self, out: &mut O) -> Result<(), GenError>;
 }
 

@@ -4,9 +4,11 @@
 use crate::parts::spa_typed_write::exact::ExactSerialize;
 use crate::parts::spa_typed_write::serializer::{PodSerializer, SerializeSuccess};
 use crate::parts::spa_typed_write::whole::written_since;
+use crate::shims::flags::Flags;
 use crate::parts::spa_bodies::{begin, close};
 use crate::parts::spa_sink::{GenError, PodOutput, put_two};
 use crate::parts::spa_utils::SpaTypes;
+use crate::parts::spa_value::PropertyFlags;
 
 /// The members of a struct, the first and those behind it, up to `()`: `(&a, (&b, (&c, ())))` are three.
 pub trait SerializeMembers {
@@ -33,8 +35,8 @@ impl<A: ExactSerialize, R: SerializeMembers> SerializeMembers for (&A, R) {
 #[derive(Debug)]
 pub struct Maybe<'a, P>(pub &'a Option<P>);
 
-/// The properties of an object, without flags: the first key and value and those behind it, up to `()`. So
-/// `((1, &a), ((2, Maybe(&b)), ()))` is a property of a and, where b is Some, a property of b.
+/// The properties of an object: the first key and value and those behind it, up to `()`. So `((1, &a), ((2, Maybe(&b)), ()))` is a property of a
+/// and, where b is Some, a property of b. A property has no flags, unless they stand between its key and its value: `((1, flags, &a), ())`.
 pub trait SerializeProperties {
     /// Appends them one after another.
     fn write_properties<O: PodOutput>(&self, out: &mut O) -> Result<(), GenError>;
@@ -46,14 +48,15 @@ impl SerializeProperties for () {
     }
 }
 
-/// Appends a property without flags, and those behind it.
+/// Appends a property, and those behind it.
 fn write_property<A: ExactSerialize, R: SerializeProperties, O: PodOutput>(
     out: &mut O,
     key: u32,
+    flags: u32,
     value: &A,
     others: &R,
 ) -> Result<(), GenError> {
-    if let Err(e) = put_two(out, key, 0) {
+    if let Err(e) = put_two(out, key, flags) {
         return Err(e);
     }
     if let Err(e) = value.write_exactly(out) {
@@ -64,14 +67,21 @@ fn write_property<A: ExactSerialize, R: SerializeProperties, O: PodOutput>(
 
 impl<A: ExactSerialize, R: SerializeProperties> SerializeProperties for ((u32, &A), R) {
     fn write_properties<O: PodOutput>(&self, out: &mut O) -> Result<(), GenError> {
-        write_property(out, self.0.0, self.0.1, &self.1)
+        write_property(out, self.0.0, 0, self.0.1, &self.1)
+    }
+}
+
+impl<A: ExactSerialize, R: SerializeProperties> SerializeProperties
+    for ((u32, PropertyFlags, &A), R) {
+    fn write_properties<O: PodOutput>(&self, out: &mut O) -> Result<(), GenError> {
+        write_property(out, self.0.0, self.0.1.bits(), self.0.2, &self.1)
     }
 }
 
 impl<A: ExactSerialize, R: SerializeProperties> SerializeProperties for ((u32, Maybe<'_, A>), R) {
     fn write_properties<O: PodOutput>(&self, out: &mut O) -> Result<(), GenError> {
         match self.0.1.0 {
-            Some(value) => write_property(out, self.0.0, value, &self.1),
+            Some(value) => write_property(out, self.0.0, 0, value, &self.1),
             None => self.1.write_properties(out),
         }
     }

@@ -87,6 +87,49 @@ pub(crate) fn only_struct(members: &[Value]) -> Option<&[Value]> {
     }
 }
 
+/// How deep what is in a value may nest that is written by calls into a sink without an allocator.
+pub(crate) const INNER_LEVELS: usize = 511;
+
+/// Whether a value may nest deeper than calls write it into a sink without an allocator: it isn't small, and there may be room for so many.
+pub(crate) fn may_be_deep(room: Option<usize>, value: &Value) -> bool {
+    let most = room.unwrap_or(usize::MAX) / HEADER_LEN;
+    most > INNER_LEVELS && !is_small(value)
+}
+
+/// Whether at most so many structs and objects stand in one another in a value. A struct that is the only member of another one isn't counted. No
+/// call is nested deeper than `levels`.
+#[cfg_attr(not(debug_assertions), inline(always))]
+fn nests_within(value: &Value, levels: usize) -> bool {
+    match value {
+        Value::Struct(members) => levels != 0
+            && members_nest_within(members.as_slice(), levels - 1),
+        Value::Object(object) => {
+            levels != 0 && properties_nest_within(object.properties.as_slice(), levels - 1)
+        }
+        _ => true,
+    }
+}
+
+/// Whether at most so many stand in one another in each of these members of one struct.
+pub(crate) fn members_nest_within(members: &[Value], levels: usize) -> bool {
+    for member in innermost(members) {
+        if is_nested(member) && !nests_within(member, levels) {
+            return false;
+        }
+    }
+    true
+}
+
+/// Whether at most so many stand in one another in each value of these properties.
+pub(crate) fn properties_nest_within(properties: &[Property], levels: usize) -> bool {
+    for property in properties {
+        if is_nested(&property.value) && !nests_within(&property.value, levels) {
+            return false;
+        }
+    }
+    true
+}
+
 /// Whether a value's encoding has more bytes than there is room for, as the number of its values tells: each has eight at least.
 /// No call in it is nested deeper than an eighth of the room.
 pub(crate) fn is_beyond(room: Option<usize>, value: &Value) -> bool {

@@ -2,7 +2,10 @@
 //! Writes values with their members front to back: each size is computed before it is written.
 
 use crate::shims::prelude::*;
-use crate::parts::spa_write::count::{is_beyond, is_nested, is_small, only_struct};
+use crate::parts::spa_write::count::{
+    INNER_LEVELS, is_beyond, is_nested, is_small, may_be_deep, members_nest_within, only_struct,
+    properties_nest_within,
+};
 use crate::parts::spa_write::known::writable_len;
 use crate::parts::spa_write::largest::{largest_member, largest_property};
 use crate::parts::spa_write::leaf::put_leaf;
@@ -28,7 +31,10 @@ const KEYED_LEN: usize = 24;
 /// by a loop, and appended at once; a struct that is the only member of another one isn't counted. A smaller value, and any value into
 /// a sink that takes no memory, is written by functions that call themselves for each level of nesting, but not for such structs, and takes no
 /// memory. Where such a sink knows how many bytes it has room for, calls nest no deeper than an eighth of that number: a struct
-/// or an object that consists of more values than that is refused as `Full` before anything else is looked at.
+/// or an object that consists of more values than that is refused as `Full`.
+///
+/// Calls nest no deeper than 512 levels. What nests deeper is put together by the loop for any sink: where the sink names no allocator, that of the
+/// value's own vectors is asked for memory, and only where it refuses is the value written by calls, one for each level.
 pub fn write_sized<S: PodSink>(sink: &mut S, value: &Value) -> Result<u64, GenError> {
     if !is_nested(value) {
         return write_measured(sink, value);
@@ -39,6 +45,45 @@ pub fn write_sized<S: PodSink>(sink: &mut S, value: &Value) -> Result<u64, GenEr
         }
         return write_value(sink, value);
     }
+    write_without_allocator(sink, value)
+}
+
+/// Appends the encoding of a value to a sink without an allocator, and answers its length in bytes.
+fn write_without_allocator<S: PodSink>(sink: &mut S, value: &Value) -> Result<u64, GenError> {
+    if may_be_deep(sink.room(), value) {
+        match value {
+            Value::Struct(members) => {
+                if !members_nest_within(members.as_slice(), INNER_LEVELS) {
+                    return write_deep(sink, value);
+                }
+            }
+            Value::Object(object) => {
+                if !properties_nest_within(object.properties.as_slice(), INNER_LEVELS) {
+                    return write_deep(sink, value);
+                }
+            }
+            _ => {}
+        }
+    }
+    write_by_calls(sink, value)
+}
+
+/// Appends the encoding of a value that is put together by a loop, in memory, and answers its length in bytes. Where that memory
+/// lacks, it is written by calls.
+fn write_deep<S: PodSink>(sink: &mut S, value: &Value) -> Result<u64, GenError> {
+    match write_by_loop(value) {
+        Ok(made) => {
+            sink.append(made.as_slice())?;
+            Ok(made.len() as u64)
+        }
+        Err(GenError::NulInText) => Err(GenError::NulInText),
+        Err(GenError::TooLarge) => Err(GenError::TooLarge),
+        Err(_) => write_by_calls(sink, value),
+    }
+}
+
+/// Appends the encoding of a value by calls into a sink that may know how many bytes it has room for, and answers its length in bytes.
+fn write_by_calls<S: PodSink>(sink: &mut S, value: &Value) -> Result<u64, GenError> {
     if is_beyond(sink.room(), value) {
         return Err(GenError::Full);
     }

@@ -8,20 +8,27 @@ use spa_pod::parts::spa_bytes::{HEADER_LEN, SECOND_WORD, u32_at};
 use spa_pod::parts::spa_events::{inside_of, key_len, open_first};
 use spa_pod::parts::spa_scan::{LEVELS, all_nest_within};
 
-/// The greatest number of levels of items: the innermost containers may have pods in them.
-const ITEM_LEVELS: usize = 1 + LEVELS as usize;
+/// How many levels of containers can wait in the short array.
+const FEW: usize = 16;
 
-/// The level of pods one after another.
+/// How many can wait in the long one, which is taken where pods nest deeper.
+const MANY: usize = LEVELS as usize;
+
+/// Pods one after another whose items are to come.
 #[derive(Clone, Copy)]
-struct Level {
-    /// How many more levels are listed.
-    levels: usize,
-    /// How many containers they are nested in.
-    depth: usize,
+pub(crate) struct Level<'a> {
     /// Whether a key and flags are before each.
     keyed: bool,
     /// The byte of the input at which the first of them begins.
     at: usize,
+    pods: &'a [u8],
+}
+
+/// What was listed of a pod: the index behind its items, and the pods in it that are still to be listed.
+#[derive(Clone, Copy)]
+pub(crate) struct Listed<'a> {
+    place: usize,
+    inner: Option<Level<'a>>,
 }
 
 /// The first of pods one after another.
@@ -38,18 +45,38 @@ pub(crate) struct First<'a> {
 /// answers how many items there are: an item comes before those of the pods in it, and these before those of the pods that follow it. None: the
 /// nesting depth of one of the pods is above 1000, and `out` is unchanged.
 ///
-/// It takes no memory, and calls itself for each level, at most 1001 deep.
+/// It takes no memory: the containers that it is in wait in an array of 16 levels, or of 1000.
 pub fn list_items(input: &[u8], out: &mut [Item]) -> Option<usize> {
+    if all_nest_within(input, FEW as u32) {
+        return Some(list_within(input, out, &mut [no_level(input); FEW]));
+    }
     if !all_nest_within(input, LEVELS) {
         return None;
     }
-    let level = Level {
-        levels: input.len().min(ITEM_LEVELS),
-        depth: 0,
+    Some(list_deep(input, out))
+}
+
+/// Lists pods that nest too deep for the short array, with the long one.
+#[cold]
+#[inline(never)]
+fn list_deep(input: &[u8], out: &mut [Item]) -> usize {
+    list_within(input, out, &mut [no_level(input); MANY])
+}
+
+/// The level of the pods of an input; in an array it is an entry at which none waits.
+#[cfg_attr(not(debug_assertions), inline(always))]
+fn no_level(pods: &[u8]) -> Level<'_> {
+    Level {
         keyed: false,
         at: 0,
-    };
-    Some(list_pods(out, 0, level, input))
+        pods,
+    }
+}
+
+/// Lists pods that nest no deeper than levels can wait in the array.
+#[cfg_attr(not(debug_assertions), inline(always))]
+fn list_within<'a>(input: &'a [u8], out: &mut [Item], outer: &mut [Level<'a>]) -> usize {
+    list_pods(input, out, outer, input.len().min(outer.len() + 1))
 }
 
 /// The item of the pod at the front alone, which begins at the byte `at` of a larger input. None: the front isn't there.
@@ -60,37 +87,70 @@ pub fn front_item(input: &[u8], at: usize) -> Option<Item> {
     Some(head(0, at + HEADER_LEN, first))
 }
 
-/// Lists pods one after another from an index of the output on, and answers the index behind their items.
-fn list_pods(out: &mut [Item], start: usize, level: Level, pods: &[u8]) -> usize {
-    let mut place = start;
-    let mut at = level.at;
-    let mut left = pods;
-    while let Some(first) = first_pod(level.keyed, left) {
-        place = list_pod(out, place, Level { at, ..level }, first);
-        at += left.len() - first.rest.len();
-        left = first.rest;
+/// Lists pods one after another, and all pods, elements and values in them down to so many levels, from the front of the output on, and answers how
+/// many items there are. What follows a container waits while the pods in it are listed.
+fn list_pods<'a>(pods: &'a [u8], out: &mut [Item], outer: &mut [Level<'a>], levels: usize) -> usize {
+    let mut place = 0;
+    let mut depth = 0;
+    let mut level = no_level(pods);
+    loop {
+        match first_pod(level.keyed, level.pods) {
+            Some(first) => {
+                let listed = list_pod(out, place, levels - depth, depth, level, first);
+                place = listed.place;
+                let behind = Level {
+                    at: level.at + (level.pods.len() - first.rest.len()),
+                    pods: first.rest,
+                    ..level
+                };
+                match listed.inner {
+                    Some(inner) => {
+                        outer[depth] = behind;
+                        depth += 1;
+                        level = inner;
+                    }
+                    None => level = behind,
+                }
+            }
+            None => {
+                if depth == 0 {
+                    return place;
+                }
+                depth -= 1;
+                level = outer[depth];
+            }
+        }
     }
-    place
 }
 
-/// Lists one pod and all pods, elements and values in it, and answers the index behind their items.
-fn list_pod(out: &mut [Item], place: usize, level: Level, first: First<'_>) -> usize {
-    if level.levels == 0 {
-        return place;
-    }
+/// Lists one pod, and the elements and values in it. The pods in it are answered where there are levels for them.
+#[cfg_attr(not(debug_assertions), inline(always))]
+fn list_pod<'a>(
+    out: &mut [Item],
+    place: usize,
+    levels: usize,
+    depth: usize,
+    level: Level<'a>,
+    first: First<'a>,
+) -> Listed<'a> {
     let body_at = level.at + key_len(level.keyed) + HEADER_LEN;
-    put(out, place, head(level.depth, body_at, first));
-    let depth = level.depth + 1;
+    put(out, place, head(depth, body_at, first));
     let Some(inside) = inside_of(first.type_, first.body) else {
-        return put_elements(out, place + 1, depth, first.type_, first.body);
+        let behind = put_elements(out, place + 1, depth + 1, first.type_, first.body);
+        return Listed {
+            place: behind,
+            inner: None,
+        };
     };
     let inner = Level {
-        levels: level.levels - 1,
-        depth,
         keyed: inside.keyed,
         at: body_at + key_len(inside.keyed),
+        pods: inside.pods,
     };
-    list_pods(out, place + 1, inner, inside.pods)
+    Listed {
+        place: place + 1,
+        inner: if levels > 1 { Some(inner) } else { None },
+    }
 }
 
 /// The item of a pod whose body begins at the byte `body_at`.

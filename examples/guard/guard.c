@@ -251,8 +251,8 @@ static void describe(const uint32_t *words, const uint8_t *pods, size_t n, int32
 	counts->refused++;
 	const bool has_fault = answer == -EINVAL && spav_fault(pods, n, &kind, &top, &at) == 1;
 	const char *why = has_fault ? spav_fault_text(kind) : answer == -ENOMEM ? "no memory" : "no values";
-	snprintf(text, room, "%s: object %u, opcode %u, %zu bytes: pod %zu, byte %zu: %s", set.drops ? "dropped" : "refused",
-		words[0], words[1] >> LENGTH_BITS, n, top, at, why);
+	snprintf(text, room, "%s: object %u, opcode %u, %zu bytes: byte %zu, in the pod at %zu: %s",
+		set.drops ? "dropped" : "refused", words[0], words[1] >> LENGTH_BITS, n, at, top, why);
 	if (set.is_verbose && printed++ < FAULTS_PRINTED)
 		fprintf(stderr, "spav-guard: process %d: %s\n", (int)getpid(), text);
 }
@@ -479,8 +479,7 @@ static void turn_away(int client, int32_t result, const char *text) {
 	events.out_at = events.out_len = 0;
 	shutdown(client, SHUT_WR);
 	/* What it has sent and nobody has read would have the kernel reset the connection. */
-	if (recv(client, unread, sizeof unread, MSG_DONTWAIT) < 0)
-		return;
+	recv(client, unread, sizeof unread, MSG_DONTWAIT);
 }
 
 /* Accepts a client, and starts its process. Whether others can be accepted now. */
@@ -576,6 +575,20 @@ static bool take_options(int argc, char **argv) {
 	return fits && argc - optind == 2;
 }
 
+/* Prints what was counted. Whether that was possible. */
+static bool print_counts(void) {
+	const struct {
+		const char *name;
+		uint64_t count;
+	} rows[] = { { "connections", counts->connections }, { "turned away", counts->turned_away },
+		{ "closed", counts->closed }, { "messages", counts->messages }, { "refused", counts->refused },
+		{ "changed", counts->changed }, { "descriptors", counts->descriptors }, { "bytes", counts->bytes_in },
+		{ "rewritten", counts->bytes_out }, { "ns a message", counts->messages ? counts->ns / counts->messages : 0 } };
+	for (size_t i = 0; i < sizeof rows / sizeof *rows; i++)
+		printf("%s %" PRIu64 "\n", rows[i].name, rows[i].count);
+	return fflush(stdout) == 0;
+}
+
 int main(int argc, char **argv) {
 	struct stat ours, there;
 	if (!take_options(argc, argv)) {
@@ -599,16 +612,8 @@ int main(int argc, char **argv) {
 		return 2;
 	}
 	accept_all(listener);
+	/* What has come into the place of its socket isn't its own. */
 	if (lstat(path, &there) == 0 && there.st_dev == ours.st_dev && there.st_ino == ours.st_ino)
 		unlink(path);
-	const struct {
-		const char *name;
-		uint64_t count;
-	} rows[] = { { "connections", counts->connections }, { "turned away", counts->turned_away },
-		{ "closed", counts->closed }, { "messages", counts->messages }, { "refused", counts->refused },
-		{ "changed", counts->changed }, { "descriptors", counts->descriptors }, { "bytes", counts->bytes_in },
-		{ "rewritten", counts->bytes_out }, { "ns a message", counts->messages ? counts->ns / counts->messages : 0 } };
-	for (size_t i = 0; i < sizeof rows / sizeof *rows; i++)
-		printf("%s %" PRIu64 "\n", rows[i].name, rows[i].count);
-	return fflush(stdout) ? 2 : 0;
+	return print_counts() ? 0 : 2;
 }

@@ -8,6 +8,7 @@ sys.path.insert(0, os.path.dirname(os.path.abspath(__file__)))
 import compare
 import erase
 import rattle
+import surface
 
 SOURCE = '''//! Counts.
 #![tactic(auto)]
@@ -211,6 +212,40 @@ class Rules(unittest.TestCase):
                          ('discard(items)', 'keep(items)'), ('alloc: _, items }', 'alloc: _, items: _ }'), ('contains(&0)', 'contains(&1)')]:
             self.assertIn(old, SOURCE)
             self.assertNotEqual(faults(RUST, SOURCE.replace(old, new, 1)), [], (old, new))
+
+    def test_public_types_and_functions_get_their_attributes(self):
+        source = """pub struct Id(pub u32);
+
+impl Id {
+    pub fn count(&self) -> u32 {
+        1
+    }
+
+    pub fn read(&self) -> Result<u32, Id> {
+        Ok(1)
+    }
+
+    pub fn grow(&mut self) -> u32 {
+        1
+    }
+}
+"""
+        found = surface.surfaced('spa-pod/src/parts/x.rs', source)
+        self.assertEqual(found, '#[derive(Hash)]\n#[derive(Default)]\n' + source.replace('    pub fn count', '    #[must_use]\n    pub fn count'))
+        self.assertEqual(surface.surfaced('spav/src/parts/x.rs', source), source)
+        self.assertEqual(faults(found, source), [])
+        for old, new in [('derive(Hash)', 'derive(Ord)'), ('#[must_use]', '#[cold]'), ('pub u32', 'pub u64')]:
+            self.assertNotEqual(faults(found.replace(old, new, 1), source), [], (old, new))
+
+    def test_plain_reads_are_those_of_the_api(self):
+        source = 'fn a(b: B) -> C {\n    b.deserialize_any()\n}\n'
+        found = surface.surfaced('tests/src/parts/x.rs', source)
+        self.assertEqual(found, source.replace('deserialize_any', 'deserialize_any_unbounded'))
+        self.assertEqual(faults(found, source), [])
+        self.assertNotEqual(faults(source.replace('deserialize_any', 'deserialize_other'), source), [])
+
+    def test_a_place_that_stands_nowhere_is_an_error(self):
+        self.assertRaises(ValueError, surface.surfaced, 'spa-pod/src/parts/spa_view/settled.rs', 'text')
 
     def test_words_that_stand_nowhere_are_an_error(self):
         erase.WORDS['x.rs'] = [('absent', 'new')]

@@ -63,7 +63,7 @@ fn compare(input: &[u8]) -> bool {
 
 /// Compares the ways to the rewriting of the pod at the front: by the rewriter, by a value, and by a copy of that.
 fn front(input: &[u8]) {
-    let read = PodDeserializer::deserialize_any_from(input);
+    let read = PodDeserializer::deserialize_any_from_unbounded(input);
     let again = rewrite(input);
     match (read, again) {
         (Ok((rest, value)), Ok((behind, wanted))) => {

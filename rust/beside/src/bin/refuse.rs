@@ -6,7 +6,7 @@ use spa_pod::pod::builder::{Builder, builder_add};
 use spa_pod::pod::deserialize::{DeserializeError, PodDeserializer};
 use spa_pod::pod::parser::Parser;
 use spa_pod::pod::serialize::{GenError, PodSerializer};
-use spa_pod::pod::{Held, is_canonical, rewrite, rewrite_all, rewrite_in_place, same};
+use spa_pod::pod::{Held, is_canonical, rewrite, rewrite_all, rewrite_in_place, try_same};
 use spa_pod::TryClone;
 use spa_pod::utils::{Errno, Id};
 use std::alloc::{GlobalAlloc, Layout, System};
@@ -86,10 +86,10 @@ impl From<spa_pod::AllocError> for Refusal {
 }
 
 fn read_and_written(input: &[u8]) -> Answer {
-    let (_, value) = PodDeserializer::deserialize_any_from(input)?;
+    let (_, value) = PodDeserializer::deserialize_any_from_unbounded(input)?;
     let held = Held::from(value);
     let copy = Held::from(held.try_clone()?);
-    if !same(&held, &copy)? {
+    if !try_same(&held, &copy)? {
         return Err(Refusal::Other);
     }
     Ok(PodSerializer::serialize(Vec::new(), &*copy)?.0)

@@ -1,7 +1,7 @@
 //! The rewriting of a pod is the encoding of its value.
 //!
 //! Pods are looked at first. Canonical ones are copied, those that are as long as their encodings patched in the copy, and those that get shorter
-//! written over it. What nests too deep for that is read as a value, which is written.
+//! written over it. What nests too deep for that is looked at and written by loops that keep the open containers in memory.
 ghost use Rattle.std.specs.Prelude.{◌≡◌, ◌<◌, ◌≤◌, ◌++◌, [], true, IfErr, IfOk, IfSome, IfNone, IsErrAnd, OnErr, OnOk, length};
 ghost use Rattle.spa_fixed_sized.specs.declared.fault.Refusal.TheVariants as refusal;
 ghost use Rattle.spa_format.specs.Faults.{Stands};
@@ -117,8 +117,8 @@ pub fn rewrite_in_parts(
 
 /// Tells whether `rewrite_all` would accept the input, and else refuses it as that call does.
 ///
-/// It takes memory only for a pod in which more than 1000 structs and objects stand in one another, not counting those in tail position: such a pod
-/// is read as a value, which is dropped.
+/// It takes memory only for a pod in which more than 1000 structs and objects stand in one another, not counting those in tail position: for its
+/// open containers.
 pub fn accept_all(alloc: Global, input: &[u8]) -> Result<(), (&[u8], DeserializeError<&[u8]>)>
     ensures accepted { OnOk result ((vs : Trees) × AreMembers vs input.now) }
     ensures refused { IfErr result (λ refusal. RefusesList input.now refusal.0.now refusal.1) }

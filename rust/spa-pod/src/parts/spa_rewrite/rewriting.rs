@@ -2,7 +2,7 @@
 //! The rewriting of a pod is the encoding of its value.
 //!
 //! Pods are looked at first. Canonical ones are copied, those that are as long as their encodings patched in the copy, and those that get shorter
-//! written over it. What nests too deep for that is read as a value, which is written.
+//! written over it. What nests too deep for that is looked at and written by loops that keep the open containers in memory.
 
 use crate::shims::prelude::*;
 use crate::parts::spa_rewrite::deep::{behind_deep, deep_encodings};
@@ -70,8 +70,8 @@ pub fn rewrite_in_parts(
 
 /// Tells whether `rewrite_all` would accept the input, and else refuses it as that call does.
 ///
-/// It takes memory only for a pod in which more than 1000 structs and objects stand in one another, not counting those in tail position: such a pod
-/// is read as a value, which is dropped.
+/// It takes memory only for a pod in which more than 1000 structs and objects stand in one another, not counting those in tail position: for its
+/// open containers.
 pub fn accept_all(input: &[u8]) -> Result<(), (&[u8], DeserializeError<&[u8]>)> {
     let mut left = input;
     loop {

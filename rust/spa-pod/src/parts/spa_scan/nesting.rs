@@ -73,11 +73,19 @@ fn all_but_longest(keyed: bool, pods: &[u8], levels: u32) -> Option<Option<Insid
     Some(longest)
 }
 
-/// The longer one of these pods of two containers, once the others are looked into. None: the others nest in `levels` levels or more.
+/// The longer one of the longest container's pods so far and of these, once the others are looked into. None: the others nest in `levels` levels or
+/// more.
+#[cfg_attr(not(debug_assertions), inline(always))]
 fn longer_of<'a>(longest: Option<Inside<'a>>, inside: Inside<'a>, levels: u32) -> Option<Inside<'a>> {
-    let Some(other) = longest else {
-        return Some(inside);
-    };
+    match longest {
+        Some(other) => longer_of_two(other, inside, levels),
+        None => Some(inside),
+    }
+}
+
+/// The longer one of these pods of two containers, once the others are looked into. None: the others nest in `levels` levels or more.
+#[inline(never)]
+fn longer_of_two<'a>(other: Inside<'a>, inside: Inside<'a>, levels: u32) -> Option<Inside<'a>> {
     if inside.pods.len() < other.pods.len() {
         if !pods_nest_within(inside.keyed, inside.pods, levels - 1) {
             return None;

@@ -1,11 +1,11 @@
 //! The elements of an Enum that another offer admits.
-ghost use Rattle.std.specs.Prelude.{◌↔◌, ◌∷◌, IfOk, IsTrue, OnOk, map};
+ghost use Rattle.std.specs.Prelude.{◌↔◌, ◌∷◌, Contains, IfOk, IfSome, IsTrue, OnOk, map};
 ghost use Rattle.spa_filter_offers.specs.Numbering.{HasAll};
 ghost use Rattle.spa_filter_offers.specs.Offers.{IsIndexed, IsKept, IsOneMoreKept, OfferAdmits};
 
 use crate::element::Element;
 use crate::numbers::{Numbers, add};
-use crate::offer::{Offer, admits, is_among};
+use crate::offer::{Offer, admits, is_among, is_same};
 use std::alloc::{AllocError, Global};
 use std::collections::BTreeSet;
 
@@ -27,7 +27,13 @@ pub(crate) fn kept<T: Element>(
     if others.len() <= FEW && is_short(other) {
         return kept_of_few(alloc, first, others, other);
     }
-    kept_of_many(alloc, first, others, other)
+    if let Offer::Among(_, _) = other {
+        return kept_of_many(alloc, first, others, other);
+    }
+    match kept_in_order(alloc, first, others, other)? {
+        Some(values) => Ok(values),
+        None => kept_of_many(alloc, first, others, other),
+    }
 }
 
 /// Whether an offer isn't an Enum of more than `FEW` alternatives.
@@ -74,6 +80,79 @@ fn keep_one<T: Element>(
     }
     values.push(*value)?;
     Ok(())
+}
+
+/// How elements have followed one another so far by their search keys.
+#[derive(Clone, Copy)]
+struct Sequence {
+    last: Option<Numbers>,
+    is_rising: bool,
+    is_falling: bool,
+}
+
+/// Whether the search keys still only rise or only fall with this one, so that none has come twice.
+fn goes_on(sequence: &mut Sequence, next: Numbers) -> bool {
+    if let Some(last) = sequence.last {
+        sequence.is_rising = sequence.is_rising && last < next;
+        sequence.is_falling = sequence.is_falling && next < last;
+    }
+    sequence.last = Some(next);
+    sequence.is_rising || sequence.is_falling
+}
+
+/// Appends an element that the offer admits to the list, unless it is the first one, which the list has where it is admitted. False: the search
+/// keys no longer only rise or only fall.
+fn keep_next<T: Element>(
+    values: &mut Vec<T>,
+    sequence: &mut Sequence,
+    first: &T,
+    value: &T,
+    offer: &Offer<'_, T>,
+) -> Result<bool, AllocError>
+    requires first { OfferAdmits T.fixed offer.now (T.fixed first.now)
+        → Contains (map T.fixed values.old.items) (T.fixed first.now) }
+    ensures { IfOk result (λ goes_on. IsTrue goes_on
+        → IsOneMoreKept (OfferAdmits T.fixed offer.now) (T.fixed value.now)
+        (map T.fixed values.old.items) (map T.fixed values.new.items)) }
+{
+    if is_same(value, first) {
+        return Ok(true);
+    }
+    if !admits(offer, value) {
+        return Ok(true);
+    }
+    if !goes_on(sequence, value.numbers()) {
+        return Ok(false);
+    }
+    values.push(*value)?;
+    Ok(true)
+}
+
+/// Of an element and others, those that an offer admits, in one pass without searches. None: the search keys of the others neither only rise nor
+/// only fall, so that one may have come twice.
+fn kept_in_order<T: Element>(
+    alloc: Global,
+    first: &T,
+    others: &[T],
+    other: &Offer<'_, T>,
+) -> Result<Option<Vec<T>>, AllocError>
+    ensures { IfOk result (λ found. IfSome found
+        (λ kept. IsKept (OfferAdmits T.fixed other.now) (T.fixed first.now ∷ map T.fixed others.now)
+        (map T.fixed kept.items))) }
+{
+    let mut values = Vec::with_capacity(alloc, others.len())?;
+    let mut sequence = Sequence {
+        last: None,
+        is_rising: true,
+        is_falling: true,
+    };
+    keep_one(&mut values, first, other)?;
+    for value in others {
+        if !keep_next(&mut values, &mut sequence, first, value, other)? {
+            return Ok(None);
+        }
+    }
+    Ok(Some(values))
 }
 
 /// Of an element and others, those that an offer admits, by sets of search keys.

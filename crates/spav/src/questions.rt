@@ -35,7 +35,7 @@ pub extern "C" fn spav_is_canonical(alloc: Global, input: &[u8]) -> i32
 /// -ELOOP: `levels` is above 1000, and so is the depth, which isn't measured further.
 ///
 /// On bytes that aren't a pod it is the nesting depth of the containers that walks over whole pods find: 0 where no front is there. It takes no
-/// memory, and calls itself at most 1000 deep.
+/// memory.
 #[unsafe(no_mangle)]
 pub extern "C" fn spav_nests_within(input: &[u8], levels: u32) -> i32
     // Of an accepted front, unless -ELOOP is answered, 1 exactly where the depth of its value is at most `levels`.

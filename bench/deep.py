@@ -1,6 +1,6 @@
 #!/usr/bin/env python3
 """deep.py [LEVELS]: makes each public call, and runs each word of the programs, on pods that are nested LEVELS deep, 1,000,000 if
-nothing is said, and a tenth of that, on a stack of 8 MiB.
+nothing is said, and a tenth of that, on a stack of 2 MiB.
 
 The pods are structs, objects, both in turn, and structs with a None behind each struct in them, with a truth value in the innermost.
 The calls are those of bench/depth.rt.txt, which `bench/build depth none` proves and builds (with `none` it fails, which says nothing);
@@ -14,12 +14,13 @@ import resource
 import struct
 import subprocess
 import sys
+import tempfile
 import time
 
 HERE = pathlib.Path(__file__).resolve().parent
 CALLS, PODTOOL, POD = HERE / "out/depth", HERE.parent / "crates/podtool/out/podtool", HERE.parent / "crates/pod/out/pod"
 HEADER, KEYED = 8, 24
-STACK = 8 << 20
+STACK = 2 << 20
 TRUE, SEVEN, FALSE, UNKNOWN = (struct.pack("<4I", 4, type_, word, 0) for type_, word in ((2, 1), (2, 7), (2, 0), (21, 7)))
 NONE = struct.pack("<2I", 0, 1)
 MOST, ROUNDS, TRIES = 20, 3, 5
@@ -51,10 +52,19 @@ def followed(levels, inner):
     return b"".join(struct.pack("<2I", size, 14) for size in sizes) + inner + NONE * levels
 
 
+def text_of(nest, levels):
+    """The text of these pods with a truth value in the innermost, as `pod json` writes it."""
+    key = '{"type":"Long","id":3,"props":{"1":'
+    begin, end = {structs: ("[", "]"), objects: (key, "}}"), both: ("[" + key, "}}]"), followed: ("[", ",null]")}[nest]
+    count = levels // 2 if nest is both else levels
+    return (begin * count + "true" + end * count + "\n").encode()
+
+
 def calls(nest, levels):
     """The calls by name, each with its input and the number that it comes to."""
     whole, other = nest(levels, TRUE), nest(levels, FALSE)
     size = len(whole)
+    pods = 1 + levels * (2 if nest is followed else 1)
     keyed, member = objects(1, whole), structs(1, whole)
     rows = {
         "read": (whole, size),
@@ -68,16 +78,31 @@ def calls(nest, levels):
         "write": (whole, size),
         "member": (whole, len(member)),
         "device": (whole, size),
+        "sized": (whole, size),
+        "add_value": (whole, size),
         "fixed": (whole, 0),
         "rewrite": (whole, size),
         "rewrite, innermost isn't its own": (nest(levels, SEVEN), size),
         "rewrite_all": (whole, size),
         "rewrite_in_place": (nest(levels, SEVEN), size),
+        "rewrite_in_parts": (whole, size),
+        "rewrite_into": (whole, None),
+        "rewrite_leniently": (whole, size),
+        "rewrite_all_leniently": (nest(levels, SEVEN), size),
+        "rewrite_in_place_leniently": (nest(levels, SEVEN), size),
+        "rewrite_into_leniently": (whole, size),
+        "leniently": (whole, size),
+        "counted": (whole, pods),
         "accept_all": (whole, size),
         "is_canonical": (whole, 1),
         "nests_within": (whole, 0),
+        "any_depth": (whole, 1),
+        "list_events": (whole, pods),
+        "list_items": (whole, 0),
         "negotiate": (keyed + keyed, 1),
         "negotiate_pods": (keyed + keyed, len(keyed)),
+        "filter": (keyed + keyed, 1),
+        "filter_pods": (keyed + keyed, len(keyed)),
         "fixate": (keyed, len(keyed)),
         "views": (whole, levels),
     }
@@ -89,11 +114,37 @@ def calls(nest, levels):
     return rows
 
 
-def program_rows(nest, levels):
-    """The runs of the programs by what they are, each with its words, its input, its status and what it writes and says."""
+def pod_rows(nest, levels, room):
+    """The runs of `pod` by what they are, as `program_rows` gives them. The files that are compared are written into the folder `room`."""
+    whole, other, unknown = (nest(levels, inner) for inner in (TRUE, SEVEN, UNKNOWN))
+    first, second = objects(1, whole), objects(1, nest(levels, FALSE))
+    left, right = (room / f"{name}-{nest.__name__}-{levels}.pod" for name in ("left", "right"))
+    left.write_bytes(first)
+    right.write_bytes(second)
+    return {
+        "pod rewrite": ([POD, "rewrite"], other, (0, whole, b"")),
+        "pod rewrite --lenient": ([POD, "rewrite", "--lenient"], other, (0, whole, b"")),
+        "pod rewrite --stream": ([POD, "rewrite", "--stream"], other, (0, whole, b"")),
+        "pod fixate": ([POD, "fixate"], other, (0, other, b"")),
+        "pod check": ([POD, "check"], whole, (0, b"", b"")),
+        "pod check, innermost is unknown": ([POD, "check"], unknown, (1, b"", None)),
+        "pod check --keep-going, innermost is unknown": ([POD, "check", "--keep-going"], unknown, (1, b"", None)),
+        "pod show": ([POD, "show"], whole, (0, None, b"")),
+        "pod json": ([POD, "json"], whole, (0, text_of(nest, levels), b"")),
+        "pod read": ([POD, "read"], text_of(nest, levels), (0, whole, b"")),
+        "pod read --strict": ([POD, "read", "--strict"], text_of(nest, levels), (0, whole, b"")),
+        "pod diff": ([POD, "diff", left, left], b"", (0, b"", b"")),
+        "pod diff, innermost differs": ([POD, "diff", left, right], b"", (1, None, b"")),
+        "pod filter": ([POD, "filter"], first + first, (0, first, b"")),
+        "pod meet": ([POD, "meet"], first + first, (0, first, b"")),
+        "pod meet, innermost differs": ([POD, "meet"], first + second, (1, b"", b"pod: standard input: no value for key 1 is in both\n")),
+    }
+
+
+def program_rows(nest, levels, room):
+    """The runs of the programs by what they are, each with its words, its input, its status and what it writes and says; None is anything."""
     whole, other, unknown = (nest(levels, inner) for inner in (TRUE, SEVEN, UNKNOWN))
     refused = (1, b"", b"podtool: byte 0: InvalidType\n")
-    first, second = objects(1, whole), objects(1, nest(levels, FALSE))
     return {
         "podtool rewrite": ([PODTOOL, "rewrite"], whole, (0, whole, b"")),
         "podtool rewrite, innermost isn't its own": ([PODTOOL, "rewrite"], other, (0, whole, b"")),
@@ -101,9 +152,7 @@ def program_rows(nest, levels):
         "podtool fixate": ([PODTOOL, "fixate"], other, (0, other, b"")),
         "podtool fixate, innermost is unknown": ([PODTOOL, "fixate"], unknown, refused),
         "podtool show": ([PODTOOL, "show"], whole, (0, None, b"")),
-        "pod meet": ([POD, "meet"], first + first, (0, first, b"")),
-        "pod meet, innermost differs": ([POD, "meet"], first + second, (1, b"", b"pod: standard input: no value for key 1 is in both\n")),
-    }
+    } | pod_rows(nest, levels, room)
 
 
 def limit_stack():
@@ -134,7 +183,7 @@ def call_once(name, given, wanted, limit=limit_stack):
 def program_once(words, given, wanted):
     """The milliseconds of a run, and whether it ended as it has to."""
     status, written, said, spent = run(words, given)
-    ok = status == wanted[0] and said == wanted[2] and written in (written if wanted[1] is None else wanted[1],)
+    ok = status == wanted[0] and wanted[2] in (None, said) and written in (written if wanted[1] is None else wanted[1],)
     return spent, ok and (wanted[1] is not None or written != b"")
 
 
@@ -161,9 +210,10 @@ def main(words):
         few, many = calls(nest, levels // 10), calls(nest, levels)
         for name, row in many.items():
             found.setdefault(name, {})[what] = compare((name, *few[name]), (name, *row), call_once)
-        few, many = program_rows(nest, levels // 10), program_rows(nest, levels)
-        for name, row in many.items():
-            found.setdefault(name, {})[what] = compare(few[name], row, program_once)
+        with tempfile.TemporaryDirectory() as room:
+            few, many = (program_rows(nest, count, pathlib.Path(room)) for count in (levels // 10, levels))
+            for name, row in many.items():
+                found.setdefault(name, {})[what] = compare(few[name], row, program_once)
     print(f"| {levels} levels, ms (times as long as a tenth of them) | {' | '.join(nests)} |\n|---|{'---|' * len(nests)}")
     for name, row in found.items():
         cells = (f"{it[1]:.1f} ({it[1] / max(it[0], 0.001):.1f}){'' if it[2] else ' WRONG'}" if it else "" for it in map(row.get, nests))

@@ -1,5 +1,5 @@
-/* spav-guard stands between PipeWire's socket and its clients, and rewrites the pods of each message that passes, in
- * both directions. dist/spav-guard.help says what it does, whom it hides from the daemon, and what its limits are.
+/* spav-guard is a proxy between PipeWire's socket and its clients that rewrites the pods of each message, in both
+ * directions. dist/spav-guard.help says what it does, that it hides its clients from the daemon, and what its limits are.
  *
  * Each client has a process of its own. So one that breaks a limit ends its own connection alone, all that was held for
  * it is given back, and no client takes another's descriptors.
@@ -30,12 +30,12 @@
 /* A message begins with four words: the id of its object, its opcode and in 24 bits the length of its pods, its number,
  * and how many descriptors it has. */
 enum { HEADER = 16, LENGTH_BITS = 24, LENGTH_MAX = (1 << LENGTH_BITS) - 1 };
-/* The object that each client has from the beginning, its event that tells of an error, and the number in errors that
- * answer no request. */
+/* The object that each client has from the beginning, its event for errors, and the number in errors that answer no
+ * request. */
 enum { CORE = 0, CORE_ERROR = 3, NO_REQUEST = -1 };
 /* Descriptors: of one message, as many as one sendmsg takes; of all that wait in one direction, as in PipeWire. */
 enum { MESSAGE_FDS = 253, WAITING_FDS = 1024 };
-/* Bytes of buffers that are kept, of a text that tells of an error, and of the message around it. */
+/* Bytes of buffers that are kept, of the text of an error, and of the message around it. */
 enum { BLOCK = 1 << 16, TEXT_ROOM = 256, ERROR_ROOM = 512 };
 /* How many milliseconds a client has to read why it is closed, and the listener rests where it can't accept. */
 enum { LINGER = 1000, REST = 100 };
@@ -136,8 +136,8 @@ static bool flush(struct stream *s) {
 	return true;
 }
 
-/* Puts the core's event of an error behind what waits for the client. Without memory it isn't told. */
-static void tell(uint32_t id, int32_t number, int32_t result, const char *why) {
+/* Puts the core's event of an error behind what waits for the client; nothing, where there is no memory. */
+static void queue_error(uint32_t id, int32_t number, int32_t result, const char *why) {
 	struct stream *s = &events;
 	char text[TEXT_ROOM + 16];
 	const uint32_t len = (uint32_t)snprintf(text, sizeof text, "spav-guard: %s", why);
@@ -177,7 +177,7 @@ static _Noreturn void leave(void) {
 	_exit(0);
 }
 
-/* Ends the connection for a cause that the client is told. */
+/* Sends the client an error, and ends the connection. */
 __attribute__((__format__(__printf__, 3, 4))) static _Noreturn void give_up(int32_t number, int32_t result,
 	const char *format, ...) {
 	char text[TEXT_ROOM];
@@ -188,7 +188,7 @@ __attribute__((__format__(__printf__, 3, 4))) static _Noreturn void give_up(int3
 	counts->closed++;
 	if (set.is_verbose)
 		fprintf(stderr, "spav-guard: process %d: closed: %s\n", (int)getpid(), text);
-	tell(CORE, number, result, text);
+	queue_error(CORE, number, result, text);
 	leave();
 }
 
@@ -243,7 +243,7 @@ static void add_noise(struct spav_walk walk, unsigned levels) {
 	}
 }
 
-/* Counts a message that conveys no values, or for which there was no memory, and says which fault its pods have. */
+/* Counts a message that conveys no values, or for which there was no memory, and puts into words what its fault is. */
 static void describe(const uint32_t *words, const uint8_t *pods, size_t n, int32_t answer, char *text, size_t room) {
 	static unsigned printed;
 	uint32_t kind = 0;
@@ -257,7 +257,7 @@ static void describe(const uint32_t *words, const uint8_t *pods, size_t n, int32
 		fprintf(stderr, "spav-guard: process %d: %s\n", (int)getpid(), text);
 }
 
-/* Puts a whole message behind what waits, rewritten where its pods can be. Where it is dropped, the client is told. */
+/* Puts a whole message behind what waits, rewritten where its pods can be; or drops it and puts an error there. */
 static void forward(struct stream *s, uint8_t *message, size_t n, size_t fd_count) {
 	uint8_t *pods = message + HEADER;
 	uint32_t words[4];
@@ -281,7 +281,7 @@ static void forward(struct stream *s, uint8_t *message, size_t n, size_t fd_coun
 		describe(words, pods, n, answer, text, sizeof text);
 	if (answer && set.drops) {
 		forget_fds(s, fd_count);
-		tell(words[0], number, answer, text);
+		queue_error(words[0], number, answer, text);
 		return;
 	}
 	if (answer)
@@ -469,12 +469,12 @@ static void reap(void) {
 	}
 }
 
-/* Tells a client that it isn't served. */
+/* Sends a client an error, in place of serving it. */
 static void turn_away(int client, int32_t result, const char *text) {
 	static uint8_t unread[BLOCK];
 	counts->turned_away++;
 	events.to = client;
-	tell(CORE, NO_REQUEST, result, text);
+	queue_error(CORE, NO_REQUEST, result, text);
 	flush(&events);
 	events.out_at = events.out_len = 0;
 	shutdown(client, SHUT_WR);

@@ -7,11 +7,13 @@ use crate::pod::{Value, discard};
 /// 2 MiB a value of so many levels is dropped, compared and printed also without optimization.
 pub const MOST_LEVELS: u32 = 1000;
 
-/// Whether at most so many structs and objects stand in one another in a value. It calls itself at most so many times in one another.
+/// Whether at most so many structs and objects stand in one another in a value. It calls itself for those alone, at most so many times in one
+/// another.
 fn value_nests_within(value: &Value, levels: u32) -> bool {
+    let is_within = |inner: &Value| !matches!(inner, Value::Struct(_) | Value::Object(_)) || value_nests_within(inner, levels - 1);
     match value {
-        Value::Struct(members) => levels > 0 && members.iter().all(|member| value_nests_within(member, levels - 1)),
-        Value::Object(object) => levels > 0 && object.properties.iter().all(|property| value_nests_within(&property.value, levels - 1)),
+        Value::Struct(members) => levels > 0 && members.iter().all(is_within),
+        Value::Object(object) => levels > 0 && object.properties.iter().all(|property| is_within(&property.value)),
         _ => true,
     }
 }

@@ -28,6 +28,22 @@ fn is_stop(byte: &u8) -> bool {
     matches!(byte, b'"' | b'\\' | 0..0x20)
 }
 
+/// Whether one of the bytes can't be, eight of which are looked at at once; the last of these may be among those before them.
+#[inline]
+fn has_stop(bytes: &[u8]) -> bool {
+    const ONES: u64 = 0x0101_0101_0101_0101;
+    // The highest bit of a byte below the second, or of one above such a byte.
+    let below = |word: u64, limit: u64| word.wrapping_sub(ONES * limit) & !word & (ONES << 7);
+    let is_in = |word: u64| below(word, 0x20) | below(word ^ (ONES * 0x22), 1) | below(word ^ (ONES * 0x5c), 1) != 0;
+    if let Some(last) = bytes.last_chunk::<8>() {
+        return bytes.as_chunks().0.iter().chain([last]).any(|word| is_in(u64::from_le_bytes(*word)));
+    }
+    match (bytes.first_chunk(), bytes.last_chunk()) {
+        (Some(first), Some(last)) => is_in(u64::from(u32::from_le_bytes(*first)) | u64::from(u32::from_le_bytes(*last)) << 32),
+        _ => bytes.iter().any(is_stop),
+    }
+}
+
 /// The string in front of the first quote that isn't escaped, as it is written, and whether it has escapes.
 fn string_of(text: &str) -> Option<(&str, bool)> {
     let (mut at, mut has_escapes) = (0, false);
@@ -255,12 +271,24 @@ impl Writer {
         self.out
     }
 
+    #[inline]
     fn put(&mut self, text: &str) -> Result<(), AllocError> {
         self.out.try_extend_from_slice(text.as_bytes())
     }
 
-    fn put_string(&mut self, text: &str) -> Result<(), AllocError> {
-        self.put("\"")?;
+    /// Puts a string and what stands behind it: at once, where nothing in it is escaped.
+    fn put_string(&mut self, text: &str, behind: &str) -> Result<(), AllocError> {
+        self.out.make_room(text.len() + 2 + behind.len())?;
+        self.out.extend_from_slice(b"\"");
+        if has_stop(text.as_bytes()) {
+            self.put_escaped(text)?;
+        } else {
+            self.out.extend_from_slice(text.as_bytes());
+        }
+        self.put(behind)
+    }
+
+    fn put_escaped(&mut self, text: &str) -> Result<(), AllocError> {
         let mut left = text;
         while let Some(at) = left.as_bytes().iter().position(is_stop) {
             self.put(&left[..at])?;
@@ -271,19 +299,20 @@ impl Writer {
             }
             left = &left[at + 1..];
         }
-        self.put(left)?;
-        self.put("\"")
+        self.put(left)
     }
 
     /// Puts what stands between the last token and the next.
+    #[inline(always)]
     fn put_between(&mut self, opens: bool, closes: bool) -> Result<(), AllocError> {
         if self.last == Some(Last::Value) && !closes {
             self.put(",")?;
         }
-        let Some(before) = self.depth else {
-            return Ok(());
-        };
-        let depth = before.saturating_sub(usize::from(closes));
+        if self.depth.is_some() { self.put_line(opens, closes) } else { Ok(()) }
+    }
+
+    fn put_line(&mut self, opens: bool, closes: bool) -> Result<(), AllocError> {
+        let depth = self.depth.unwrap_or(0).saturating_sub(usize::from(closes));
         self.depth = Some(depth + usize::from(opens));
         match self.last {
             None => Ok(()),
@@ -296,37 +325,52 @@ impl Writer {
         }
     }
 
+    #[inline(always)]
     fn token(&mut self, token: Token<'_>) -> Result<(), AllocError> {
         let opens = matches!(token, Token::BeginObject | Token::BeginArray);
         self.put_between(opens, matches!(token, Token::EndObject | Token::EndArray))?;
-        self.last = Some(if opens { Last::Open } else { Last::Value });
-        let text = match token {
-            Token::BeginObject => "{",
-            Token::EndObject => "}",
-            Token::BeginArray => "[",
-            Token::EndArray => "]",
-            Token::String(text) => return self.put_string(text),
-            Token::Key(text) => {
-                self.put_string(text)?;
-                self.last = Some(Last::Key);
-                ":"
-            }
-            Token::Number(text) => text,
-            Token::Bool(true) => "true",
-            Token::Bool(false) => "false",
-            Token::Null => "null",
-            Token::Bad => "",
-        };
-        self.put(text)
+        self.last = Some(match token {
+            Token::BeginObject | Token::BeginArray => Last::Open,
+            Token::Key(_) => Last::Key,
+            _ => Last::Value,
+        });
+        match token {
+            Token::BeginObject => self.put("{"),
+            Token::EndObject => self.put("}"),
+            Token::BeginArray => self.put("["),
+            Token::EndArray => self.put("]"),
+            Token::Key(text) => self.put_string(text, "\":"),
+            Token::String(text) => self.put_string(text, "\""),
+            Token::Number(text) => self.put(text),
+            Token::Bool(flag) => self.put(if flag { "true" } else { "false" }),
+            Token::Null => self.put("null"),
+            Token::Bad => Ok(()),
+        }
+    }
+
+    #[inline]
+    pub fn float(&mut self, number: impl Number) -> Result<(), AllocError> {
+        self.put_between(false, false)?;
+        self.last = Some(Last::Value);
+        self.out.try_extend_from_slice(Buffer::new().digits(number))
     }
 }
 
 macro_rules! written {
     ($($name:ident($($arg:ident: $type_:ty)?) $token:expr;)*) => {
         impl Writer {
-            $(pub fn $name(&mut self $(, $arg: $type_)?) -> Result<(), AllocError> {
+            $(#[inline]
+            pub fn $name(&mut self $(, $arg: $type_)?) -> Result<(), AllocError> {
                 self.token($token)
             })*
+
+            pub fn u64(&mut self, number: u64) -> Result<(), AllocError> {
+                self.float(number)
+            }
+
+            pub fn i64(&mut self, number: i64) -> Result<(), AllocError> {
+                self.float(number)
+            }
         }
     };
 }
@@ -338,9 +382,6 @@ written! {
     end_array() Token::EndArray;
     key(text: &str) Token::Key(text);
     string(text: &str) Token::String(text);
-    u64(number: u64) Token::Number(Buffer::new().format(number));
-    i64(number: i64) Token::Number(Buffer::new().format(number));
-    float(number: impl Number) Token::Number(Buffer::new().format(number));
     boolean(flag: bool) Token::Bool(flag);
     null() Token::Null;
 }

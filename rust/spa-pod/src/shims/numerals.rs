@@ -26,6 +26,7 @@ pub fn parse_i64(text: &[u8]) -> Result<i64, ParseError> {
 #[derive(Clone, Copy, Debug, Default)]
 pub struct Buffer {
     room: [u8; 32],
+    begin: usize,
     len: usize,
 }
 
@@ -45,17 +46,46 @@ impl Buffer {
 
     /// The digits of a number; of a float, the fewest that give it back: `0.1`, `-12.0`, `1.5e30`, `inf`.
     pub fn format<T: Number>(&mut self, number: T) -> &str {
-        self.len = 0;
+        from_utf8(self.digits(number)).unwrap_or_default()
+    }
+
+    #[inline]
+    pub fn digits<T: Number>(&mut self, number: T) -> &[u8] {
+        (self.begin, self.len) = (0, 0);
         let answer = number.put(self);
         debug_assert!(answer.is_ok());
-        from_utf8(&self.room[..self.len]).unwrap_or_default()
+        &self.room[self.begin..self.len]
+    }
+
+    fn text(&self) -> &str {
+        from_utf8(&self.room[self.begin..self.len]).unwrap_or_default()
+    }
+
+    /// Puts an integer and what stands behind it, the last first.
+    #[inline]
+    fn put_integer(&mut self, is_negative: bool, mut left: u64, behind: &[u8]) {
+        self.len = self.room.len();
+        self.begin = self.len - behind.len();
+        self.room[self.begin..].copy_from_slice(behind);
+        loop {
+            self.begin -= 1;
+            self.room[self.begin] = b'0' + (left % 10) as u8;
+            left /= 10;
+            if left == 0 {
+                break;
+            }
+        }
+        if is_negative {
+            self.begin -= 1;
+            self.room[self.begin] = b'-';
+        }
     }
 
     /// Puts a float. As many digits at most stand before its point, and as many zeros behind it, without an exponent.
     fn put_float<T: LowerExp>(&mut self, float: T, most_digits: i32, most_zeros: i32) -> fmt::Result {
         let mut written = Buffer::new();
         write!(written, "{float:e}")?;
-        let written = from_utf8(&written.room[..written.len]).unwrap_or_default();
+        let written = written.text();
         let Some((mantissa, exponent)) = written.split_once('e') else {
             return self.write_str(written);
         };
@@ -84,26 +114,41 @@ pub trait Number: Copy {
 }
 
 macro_rules! integers {
-    ($($type_:ty)*) => {
+    ($($type_:ty, $is_negative:expr, $magnitude:expr;)*) => {
         $(impl Number for $type_ {
+            #[inline]
             fn put(self, buffer: &mut Buffer) -> fmt::Result {
-                write!(buffer, "{self}")
+                buffer.put_integer($is_negative(self), $magnitude(self), b"");
+                Ok(())
             }
         })*
     };
 }
-integers! { u32 usize u64 i64 }
-
-impl Number for f32 {
-    fn put(self, buffer: &mut Buffer) -> fmt::Result {
-        buffer.put_float(self, 13, 5)
-    }
+integers! {
+    u32, |_| false, u64::from;
+    usize, |_| false, |number| number as u64;
+    u64, |_| false, |number| number;
+    i64, i64::is_negative, i64::unsigned_abs;
 }
 
-impl Number for f64 {
-    fn put(self, buffer: &mut Buffer) -> fmt::Result {
-        buffer.put_float(self, 16, 4)
-    }
+macro_rules! floats {
+    ($($type_:ty, $most_digits:literal, $most_zeros:literal;)*) => {
+        $(impl Number for $type_ {
+            fn put(self, buffer: &mut Buffer) -> fmt::Result {
+                // Many are small integers.
+                let whole = self.abs() as u32;
+                if whole < 1_000_000 && whole as $type_ == self.abs() {
+                    buffer.put_integer(self.is_sign_negative(), u64::from(whole), b".0");
+                    return Ok(());
+                }
+                buffer.put_float(self, $most_digits, $most_zeros)
+            }
+        })*
+    };
+}
+floats! {
+    f32, 13, 5;
+    f64, 16, 4;
 }
 
 /// A text isn't two digits for each byte, or memory was refused.

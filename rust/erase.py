@@ -312,7 +312,8 @@ ASSERTED = {
 
 
 # Functions of a file whose calls cost as much as what they do.
-INLINED = [('leaves', 'read_string'), ('bodies', 'text_of')]
+INLINED = [('leaves', 'read_string'), ('bodies', 'text_of'), ('front', 'open'), ('words', 'u32_at'), ('words', 'u64_at'), ('words', 'two_words'),
+           ('words', 'joined'), ('words', 'word_body'), ('words', 'wide_body')]
 
 
 # Where rustc doesn't optimize, what it puts in place of calls makes frames larger, and looks call themselves for each level of nesting.

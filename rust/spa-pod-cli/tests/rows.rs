@@ -123,5 +123,6 @@ fn programs_write_what_the_proved_ones_write() {
 #[test]
 fn the_version_says_which_build_it_is() {
     let (status, text) = ran(env!("CARGO_BIN_EXE_pod"), &["--version"], b"");
-    assert_eq!((status, text.starts_with(b"pod 0.2.0 (built by cargo")), (Some(0), true));
+    let number = concat!("pod ", env!("CARGO_PKG_VERSION"), " (built by cargo");
+    assert_eq!((status, text.starts_with(number.as_bytes())), (Some(0), true));
 }

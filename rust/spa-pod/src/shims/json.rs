@@ -390,6 +390,7 @@ written! {
 #[derive(Debug)]
 pub struct Pretty(Writer);
 
+#[allow(clippy::new_without_default)]
 impl Pretty {
     pub fn new() -> Pretty {
         Pretty(Writer { out: Vec::new(), last: None, depth: Some(0) })

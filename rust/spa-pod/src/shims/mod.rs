@@ -4,7 +4,7 @@
 
 // What the proved text calls for each number is put in line, and a search without branches is.
 #![allow(clippy::inline_always, clippy::needless_bitwise_bool)]
-#![cfg_attr(feature = "parts", allow(missing_debug_implementations))]
+#![cfg_attr(feature = "parts", allow(missing_debug_implementations, clippy::new_without_default))]
 
 pub mod array;
 pub mod bytes;

@@ -79,6 +79,7 @@ RULES = [
     ('exports', r'mod (\w+) ;', r'pub ( crate ) mod \1 ;'),
     ('asserted', r'', r'assert ! \( [^;]* \) ;'),
     ('inlined', r'', r'# [ cfg_attr ( not ( debug_assertions ) , inline ( always ) ) ]'),
+    ('inlined', r'', r'# [ inline ]'),
     ('inlined', r'# \[ inline \( always \) \]', r'# [ cfg_attr ( not ( debug_assertions ) , inline ( always ) ) ]'),
     ('surface', r'', r'# \[ (?:derive \( (?:Debug|Clone|Eq|Hash|Default) \)|cfg_attr \( not \( feature = "parts" \) , non_exhaustive \)|must_use) \]'),
     ('printed floats', r'# \[ derive \( Clone , Copy , Debug ,', r'# [ cfg_attr ( feature = "parts" , derive ( Debug ) ) ] # [ derive ( Clone , Copy ,'),

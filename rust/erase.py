@@ -312,8 +312,10 @@ ASSERTED = {
 
 
 # Functions of a file whose calls cost as much as what they do.
-INLINED = [('leaves', 'read_string'), ('bodies', 'text_of'), ('front', 'open'), ('words', 'u32_at'), ('words', 'u64_at'), ('words', 'two_words'),
-           ('words', 'joined'), ('words', 'word_body'), ('words', 'wide_body')]
+INLINED = [('leaves', 'read_string'), ('bodies', 'text_of')]
+# Small functions that rustc may put in place of their calls also where it compiles modules apart, as it does without link-time optimization.
+HINTED = [('front', 'open'), ('words', 'u32_at'), ('words', 'u64_at'), ('words', 'two_words'), ('words', 'joined'), ('words', 'word_body'),
+          ('words', 'wide_body')]
 
 
 # Where rustc doesn't optimize, what it puts in place of calls makes frames larger, and looks call themselves for each level of nesting.
@@ -322,9 +324,10 @@ OPTIMIZED = '#[cfg_attr(not(debug_assertions), inline(always))]'
 
 def inline(text, file):
     """With the attribute that has rustc put these functions, and those that have it, in place of their calls, where it optimizes."""
-    for where, name in INLINED:
-        if where == os.path.basename(file):
-            text = re.sub(r'^( *)((?:pub )?fn %s\()' % name, r'\1#[inline(always)]\n\1\2', text, flags=re.M)
+    for attribute, functions in (('#[inline(always)]', INLINED), ('#[inline]', HINTED)):
+        for where, name in functions:
+            if where == os.path.basename(file):
+                text = re.sub(r'^( *)((?:pub )?fn %s\()' % name, r'\1%s\n\1\2' % attribute, text, flags=re.M)
     return text.replace('#[inline(always)]', OPTIMIZED)
 
 

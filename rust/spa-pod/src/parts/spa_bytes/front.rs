@@ -25,7 +25,7 @@ pub fn extent_of(size: u32) -> usize {
 }
 
 /// Opens the pod that the first size word names. None: it isn't all there.
-#[cfg_attr(not(debug_assertions), inline(always))]
+#[inline]
 #[must_use]
 pub fn open(input: &[u8]) -> Option<Front<'_>> {
     if input.len() < HEADER_LEN {

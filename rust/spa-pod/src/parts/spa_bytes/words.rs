@@ -16,7 +16,7 @@ pub const POINTER_LEN: usize = 16;
 pub const SHORT_POINTER_LEN: usize = 12;
 
 /// The word at the offset `at`, least byte first.
-#[cfg_attr(not(debug_assertions), inline(always))]
+#[inline]
 #[must_use]
 pub fn u32_at(bytes: &[u8], at: usize) -> u32 {
     let word = &bytes[at..at + 4];
@@ -24,7 +24,7 @@ pub fn u32_at(bytes: &[u8], at: usize) -> u32 {
 }
 
 /// The number of the eight bytes at the offset `at`, least byte first.
-#[cfg_attr(not(debug_assertions), inline(always))]
+#[inline]
 #[must_use]
 pub fn u64_at(bytes: &[u8], at: usize) -> u64 {
     let word = &bytes[at..at + 8];
@@ -34,7 +34,7 @@ pub fn u64_at(bytes: &[u8], at: usize) -> u64 {
 }
 
 /// The eight bytes of two words.
-#[cfg_attr(not(debug_assertions), inline(always))]
+#[inline]
 pub fn two_words(first: u32, second: u32) -> [u8; 8] {
     let [a, b, c, d] = first.to_le_bytes();
     let [e, f, g, h] = second.to_le_bytes();
@@ -42,20 +42,20 @@ pub fn two_words(first: u32, second: u32) -> [u8; 8] {
 }
 
 /// The four bytes of a word, and four zeros.
-#[cfg_attr(not(debug_assertions), inline(always))]
+#[inline]
 pub fn word_body(number: u32) -> [u8; 8] {
     let [a, b, c, d] = number.to_le_bytes();
     [a, b, c, d, 0, 0, 0, 0]
 }
 
 /// The eight bytes of a number.
-#[cfg_attr(not(debug_assertions), inline(always))]
+#[inline]
 pub fn wide_body(number: u64) -> [u8; 8] {
     number.to_le_bytes()
 }
 
 /// Eight bytes, and eight more behind them.
-#[cfg_attr(not(debug_assertions), inline(always))]
+#[inline]
 pub fn joined(front: [u8; 8], back: [u8; 8]) -> [u8; 16] {
     let mut bytes = [0; 16];
     let (first, last) = bytes.split_at_mut(8);

@@ -4,7 +4,7 @@
 use crate::shims::prelude::*;
 use crate::parts::spa_filter_offers::element::Element;
 use crate::parts::spa_filter_offers::numbers::{Numbers, add};
-use crate::parts::spa_filter_offers::offer::{Offer, admits, is_among};
+use crate::parts::spa_filter_offers::offer::{Offer, admits, is_among, is_same};
 use crate::shims::memory::AllocError;
 use crate::shims::sorted::BTreeSet;
 
@@ -21,7 +21,13 @@ pub(crate) fn kept<T: Element>(
     if others.len() <= FEW && is_short(other) {
         return kept_of_few(first, others, other);
     }
-    kept_of_many(first, others, other)
+    if let Offer::Among(_, _) = other {
+        return kept_of_many(first, others, other);
+    }
+    match kept_in_order(first, others, other)? {
+        Some(values) => Ok(values),
+        None => kept_of_many(first, others, other),
+    }
 }
 
 /// Whether an offer isn't an Enum of more than `FEW` alternatives.
@@ -60,6 +66,68 @@ fn keep_one<T: Element>(
     }
     values.try_push(*value)?;
     Ok(())
+}
+
+/// How elements have followed one another so far by their search keys.
+#[derive(Clone, Copy)]
+struct Sequence {
+    last: Option<Numbers>,
+    is_rising: bool,
+    is_falling: bool,
+}
+
+/// Whether the search keys still only rise or only fall with this one, so that none has come twice.
+fn goes_on(sequence: &mut Sequence, next: Numbers) -> bool {
+    if let Some(last) = sequence.last {
+        sequence.is_rising = sequence.is_rising && last < next;
+        sequence.is_falling = sequence.is_falling && next < last;
+    }
+    sequence.last = Some(next);
+    sequence.is_rising || sequence.is_falling
+}
+
+/// Appends an element that the offer admits to the list, unless it is the first one, which the list has where it is admitted. False: the search
+/// keys no longer only rise or only fall.
+fn keep_next<T: Element>(
+    values: &mut Vec<T>,
+    sequence: &mut Sequence,
+    first: &T,
+    value: &T,
+    offer: &Offer<'_, T>,
+) -> Result<bool, AllocError> {
+    if is_same(value, first) {
+        return Ok(true);
+    }
+    if !admits(offer, value) {
+        return Ok(true);
+    }
+    if !goes_on(sequence, value.numbers()) {
+        return Ok(false);
+    }
+    values.try_push(*value)?;
+    Ok(true)
+}
+
+/// Of an element and others, those that an offer admits, in one pass without searches. None: the search keys of the others neither only rise nor
+/// only fall, so that one may have come twice.
+fn kept_in_order<T: Element>(
+    first: &T,
+    others: &[T],
+    other: &Offer<'_, T>,
+) -> Result<Option<Vec<T>>, AllocError> {
+    let mut values = Vec::with_room(others.len())?;
+    let mut sequence = Sequence {
+        last: None,
+        is_rising: true,
+        is_falling: true,
+    };
+    keep_one(&mut values, first, other)?;
+    for value in others {
+        if !keep_next(&mut values, &mut sequence, first, value, other)? {
+            return Ok(None);
+        }
+    }
+    Ok(Some(values))
 }
 
 /// Of an element and others, those that an offer admits, by sets of search keys.

@@ -23,7 +23,7 @@ pub fn spav_is_canonical(input: &[u8]) -> i32 {
 /// -ELOOP: `levels` is above 1000, and so is the depth, which isn't measured further.
 ///
 /// On bytes that aren't a pod it is the nesting depth of the containers that walks over whole pods find: 0 where no front is there. It takes no
-/// memory, and calls itself at most 1000 deep.
+/// memory.
 pub fn spav_nests_within(input: &[u8], levels: u32) -> i32 {
     if levels > LEVELS {
         if nests_within(input, LEVELS) {

@@ -277,11 +277,11 @@ impl<'a> Command<'a> {
 
     /// What these words say.
     pub fn try_get_matches_from(self, words: &'a [&'a str]) -> Result<ArgMatches<'a>, Error> {
-        let Some((first, rest)) = words.split_first() else {
+        let (Some((first, rest)), false) = (words.split_first(), words == ["--"]) else {
             return Err(Error { kind: ErrorKind::Misuse, text: self.help() });
         };
         match *first {
-            "--" => return self.stray(rest),
+            "--" => return self.stray(rest[0]),
             HELP => return self.help_of(rest),
             _ if first.len() > 1 && first.starts_with('-') => return self.read(words),
             _ => {}
@@ -293,14 +293,11 @@ impl<'a> Command<'a> {
         Ok(ArgMatches { values: Vec::new(), word: Some((word.name, Box::new(given))) })
     }
 
-    /// A command line without a word.
-    fn stray<T>(&self, behind: &[&str]) -> Result<T, Error> {
-        if let Some(first) = behind.first() {
-            return misuse(&format!("unexpected argument '{first}' found"), &[], Some(self.usage(&[])));
-        }
-        let names: Vec<_> = self.words.iter().map(|word| word.name).chain([HELP]).collect();
-        let what = format!("'{}' requires a subcommand but one was not provided\n  [subcommands: {}]", self.path, names.join(", "));
-        misuse(&what, &[], Some(self.usage(&[])))
+    /// A file where none is taken.
+    fn stray<T>(&self, file: &str) -> Result<T, Error> {
+        let is_word = file == HELP || self.words.iter().any(|word| word.name == file);
+        let tip = is_word.then(|| format!("subcommand '{file}' exists; to use it, remove the '--' before it"));
+        misuse(&format!("unexpected argument '{file}' found"), tip.as_slice(), Some(self.usage(&[])))
     }
 
     fn help_of<T>(&self, names: &[&str]) -> Result<T, Error> {
@@ -343,7 +340,7 @@ impl<'a> Command<'a> {
                 },
                 None => match self.files() {
                     Some(files) => given.add(files.name, word),
-                    None => return self.stray(&[word]),
+                    None => return self.stray(word),
                 },
             }
         }
@@ -393,6 +390,16 @@ impl<'a> Command<'a> {
         Ok(())
     }
 
+    /// Whether there is an option of this name.
+    fn has_long(&self, text: &str) -> bool {
+        let name = text.split_once('=').map_or(text, |it| it.0);
+        self.answer(name).is_err() || self.options().any(|arg| arg.long == Some(name))
+    }
+
+    fn has_short(&self, letters: &str) -> bool {
+        letters.chars().next().is_some_and(|letter| self.answer(&letter.to_string()).is_err() || self.options().any(|arg| arg.short == Some(letter)))
+    }
+
     /// Gives help or the version, where that is asked for.
     fn answer(&self, name: &str) -> Result<(), Error> {
         match (name, self.version) {
@@ -412,6 +419,7 @@ impl<'a> Command<'a> {
         let value = match (arg.action, value) {
             (ArgAction::SetTrue, Some(value)) => {
                 let what = format!("unexpected value '{value}' for '{arg}' found; no more were expected");
+                given.add(arg.name, value);
                 return misuse(&what, &[], Some(self.usage(&self.used(given))));
             }
             (ArgAction::SetTrue, None) => "true",
@@ -421,7 +429,15 @@ impl<'a> Command<'a> {
                     *left = behind;
                     value
                 }
-                _ => return misuse(&format!("a value is required for '{arg}' but none was supplied"), &[], None),
+                next => {
+                    // Of two mistakes an option that there isn't is the one that is named.
+                    match next.map_or("", |next| next.0).strip_prefix('-').map(|name| name.strip_prefix('-').ok_or(name)) {
+                        Some(Ok(long)) if !long.is_empty() && !self.has_long(long) => self.read_long(long, left, given)?,
+                        Some(Err(letters)) if !self.has_short(letters) => self.read_short(letters, left, given)?,
+                        _ => {}
+                    }
+                    return misuse(&format!("a value is required for '{arg}' but none was supplied"), &[], None);
+                }
             },
         };
         if given.get_strs(arg.name).is_some() {

@@ -221,7 +221,8 @@ impl<'a> Reader<'a> {
     }
 
     fn word(&mut self) -> Option<Token<'a>> {
-        let is_part = |byte: &&u8| byte.is_ascii_alphanumeric() || matches!(byte, b'+' | b'-' | b'.');
+        // Up to a blank or a mark, so that what runs into another token is none.
+        let is_part = |byte: &&u8| !matches!(byte, b' ' | b'\t' | b'\n' | b'\r' | b',' | b':' | b'[' | b']' | b'{' | b'}');
         let len = self.left.iter().take_while(is_part).count();
         let word = &self.text[self.offset()..][..len];
         let token = match word {

@@ -41,7 +41,7 @@ COMMANDS = [it.split() for it in WORDS if it == "cat" or PROGRAMS[it.split()[0]]
 
 # As the script `podtool` sets it.
 MALLOC = "glibc.malloc"
-TUNABLES = f"{MALLOC}.hugetlb=1:{MALLOC}.mmap_threshold=4294967296:{MALLOC}.top_pad=4194304"
+TUNABLES = f"{MALLOC}.hugetlb=1:{MALLOC}.mmap_threshold=4294967296:{MALLOC}.top_pad=262144"
 ENVIRONMENT = {**os.environ, "GLIBC_TUNABLES": os.environ.get("GLIBC_TUNABLES", TUNABLES)}
 
 

@@ -13,7 +13,7 @@ read -ra words <<< "${WORDS:-rewrite fixate show}"
 program=$here/../crates/podtool/out/podtool
 # as the script sets it
 malloc=glibc.malloc
-export GLIBC_TUNABLES=${GLIBC_TUNABLES:-$malloc.hugetlb=1:$malloc.mmap_threshold=4294967296:$malloc.top_pad=4194304}
+export GLIBC_TUNABLES=${GLIBC_TUNABLES:-$malloc.hugetlb=1:$malloc.mmap_threshold=4294967296:$malloc.top_pad=262144}
 
 # The least of so many rounds, in microseconds: from a file in memory, into a pipe that is emptied at once.
 best_of() {

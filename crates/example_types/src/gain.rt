@@ -1,4 +1,4 @@
-//! An object whose property has flags: a declaration says nothing of them, so a visitor of its own reads it.
+//! An object whose property has flags: a declaration writes them and doesn't read them, so a visitor of its own reads it.
 ghost use Rattle.std.specs.Prelude.{◌≡◌, IfErr, IfOk, refl};
 ghost use Rattle.libspa.specs.Declining.{DeclinesAll};
 ghost use Rattle.libspa.specs.DeserializeErrors.{UnsupportedType};
@@ -13,7 +13,7 @@ use libspa::pod::deserialize::{
     DeserializeError, DeserializeSuccess, ExactDeserialize, Never, ObjectPodDeserializer,
     PodDeserialize, PodDeserializer, StructPodDeserializer, Visit, Visitor,
 };
-use libspa::pod::serialize::{GenError, PodOutput, PodSerialize, PodSerializer, SerializeSuccess};
+use libspa::pod::serialize::{GenError, PodOutput, SerializeAs, write_object};
 use libspa::utils::Float32;
 use spa_names::{keys, types};
 
@@ -107,15 +107,11 @@ impl<'de> ExactDeserialize<'de> for Gain {
 }
 
 /// Written as this object, wherever it can be.
-impl PodSerialize for Gain {
-    ghost value = { λ gain. gain_tree gain };
+impl SerializeAs for Gain {
+    ghost says = { λ gain. gain_tree gain };
 
-    fn serialize<O: PodOutput>(
-        &self,
-        serializer: PodSerializer<O>,
-    ) -> Result<SerializeSuccess<O>, GenError> {
-        let mut properties = serializer.serialize_object(types::OBJECT_PROPS, self.id)?;
-        properties.serialize_property(keys::PROP_VOLUME, &self.volume, self.flags)?;
-        properties.end()
+    fn write_as<O: PodOutput>(&self, out: &mut O) -> Result<(), GenError> {
+        let volume = (keys::PROP_VOLUME, self.flags, &self.volume);
+        write_object(out, types::OBJECT_PROPS, self.id, &(volume, ()))
     }
 }

@@ -10,7 +10,8 @@ use std::test::Fail;
 use test_bytes::{bytes_of, bytes_spelled};
 
 /// Words of an input; calls, each with its number where it takes one; and what each answers: a pod by its type and its
-/// size. The words 6422625 and 1684234849 are the bytes `a`, NUL, `b`, NUL and the bytes `abcd`.
+/// size. The words 6422625 and 1684234849 are the bytes `a`, NUL, `b`, NUL and the bytes `abcd`. In the last three rows each call comes behind one
+/// that is refused with INVAL, PIPE or PROTO, and answers as if that hadn't been made.
 const CALLS: &str =
     r#"16 14 4 4 3 0 | push_struct; get_long; get_int; get_int; pop 1; get_int | Frame(1); INVAL; 3; PIPE; (); PIPE
 32 15 5 3 1 0 4 4 3 0 | push_object 6; push_object 5; get_int; pop 2; pop 1; get_pod | PROTO; (Frame(1), Id(3)); PIPE; INVAL; (); PIPE
@@ -27,7 +28,10 @@ const CALLS: &str =
 16 14 0 14 0 14 | push_struct; push_struct; pop 1; pop 2; get_pod; get_pod; pop 1 | Frame(1); Frame(2); INVAL; (); (14, 0); PIPE; ()
 8 14 4 4 3 0 | push_struct; get_int; pop 1; get_pod | Frame(1); PIPE; (); PIPE
 32 14 4 4 3 0 4 4 4 0 4 4 5 0 | push_struct; get_int; pop 1; get_int | Frame(1); 3; (); 5
-16 14 8 15 5 3 0 14 | push_struct; push_object 5; push_struct; pop 2; pop 1; push_struct; pop 1 | Frame(1); (Frame(2), Id(3)); PIPE; (); (); Frame(1); ()"#;
+16 14 8 15 5 3 0 14 | push_struct; push_object 5; push_struct; pop 2; pop 1; push_struct; pop 1 | Frame(1); (Frame(2), Id(3)); PIPE; (); (); Frame(1); ()
+0 1 4 2 7 0 4 3 5 0 4 4 3 0 8 5 1 0 4 6 5 0 8 7 1 0 8 18 9 0 8 10 31 14 8 11 16 9 12 17 7 0 4096 9 2 8 97 0 2 8 97 0 3 9 197121 0 8 15 5 3 8 15 5 3 0 14 0 14 | push_struct; get_none; push_struct; get_bool; push_struct; get_id; push_struct; get_int; push_struct; get_long; push_struct; get_float; push_struct; get_double; push_struct; get_fd; push_struct; get_rectangle; push_struct; get_fraction; push_struct; get_pointer; push_struct; get_string_raw; push_struct; get_string; push_struct; get_bytes; push_struct; get_object 5; push_struct; push_object 5; pop 2; pop 1; get_int; push_struct; pop 0; pop 1; get_int; get_pod | INVAL; (); INVAL; true; INVAL; Id(5); INVAL; 3; INVAL; 1; INVAL; Float32(5); INVAL; Float64(1); INVAL; 9; INVAL; Rectangle { width: 31, height: 14 }; INVAL; Fraction { num: 16, denom: 9 }; INVAL; (4096, Id(7)); INVAL; [97]; INVAL; "a"; INVAL; [1, 2, 3]; INVAL; Id(3); INVAL; (Frame(1), Id(3)); INVAL; (); INVAL; Frame(1); INVAL; (); INVAL; (14, 0)
+8 15 5 3 0 1 | push_object 5; get_none; get_bool; get_id; get_int; get_long; get_float; get_double; get_fd; get_rectangle; get_fraction; get_pointer; get_string_raw; get_string; get_bytes; get_object 5; get_pod; push_struct; push_object 5; pop 1; get_none | (Frame(1), Id(3)); PIPE; PIPE; PIPE; PIPE; PIPE; PIPE; PIPE; PIPE; PIPE; PIPE; PIPE; PIPE; PIPE; PIPE; PIPE; PIPE; PIPE; PIPE; (); ()
+32 15 5 3 1 0 4 4 3 0 | push_object 6; get_none; push_object 6; get_bool; push_object 6; get_id; push_object 6; get_int; push_object 6; get_long; push_object 6; get_float; push_object 6; get_double; push_object 6; get_fd; push_object 6; get_rectangle; push_object 6; get_fraction; push_object 6; get_pointer; push_object 6; get_string_raw; push_object 6; get_string; push_object 6; get_bytes; push_object 6; get_object 6; push_struct; push_object 6; pop 1; get_object 6; value_of 1; get_pod | PROTO; INVAL; PROTO; INVAL; PROTO; INVAL; PROTO; INVAL; PROTO; INVAL; PROTO; INVAL; PROTO; INVAL; PROTO; INVAL; PROTO; INVAL; PROTO; INVAL; PROTO; INVAL; PROTO; INVAL; PROTO; INVAL; PROTO; INVAL; PROTO; PROTO; INVAL; PROTO; INVAL; PROTO; 3; PIPE"#;
 
 /// The parts of a row, without the spaces around them.
 fn parts(row: &str) -> (&str, &str, &str) {
@@ -68,9 +72,21 @@ fn next_pod(parser: &mut Parser) -> Result<(u32, u32), Errno> {
     Ok((pod.type_().as_raw(), pod.size()))
 }
 
+/// The id of the next object, of this type.
+fn next_object(parser: &mut Parser, type_: u32) -> Result<Id, Errno> {
+    Ok(parser.get_object(type_)?.id())
+}
+
+/// The Int under this key of the next object, of the type 5.
+fn next_value(parser: &mut Parser, key: u32) -> Result<i32, Errno> {
+    let object = parser.get_object(5)?;
+    parser.value_of(&object, key)?.get_int()
+}
+
 /// What the call of a get answers.
 fn push_got(said: &mut String, parser: &mut Parser, name: &str) -> Result<(), AllocError> {
     match name {
+        "get_none" => push_shown(said, parser.get_none()),
         "get_bool" => push_shown(said, parser.get_bool()),
         "get_id" => push_shown(said, parser.get_id()),
         "get_int" => push_shown(said, parser.get_int()),
@@ -82,6 +98,7 @@ fn push_got(said: &mut String, parser: &mut Parser, name: &str) -> Result<(), Al
         "get_fraction" => push_shown(said, parser.get_fraction()),
         "get_pointer" => push_shown(said, parser.get_pointer()),
         "get_string_raw" => push_shown(said, parser.get_string_raw()),
+        "get_string" => push_shown(said, parser.get_string()),
         "get_bytes" => push_shown(said, parser.get_bytes()),
         "get_pod" => push_shown(said, next_pod(parser)),
         _ => said.push_str("no call; "),
@@ -95,6 +112,8 @@ fn push_answer(said: &mut String, parser: &mut Parser, call: &str) -> Result<(),
     match name {
         "push_struct" => push_shown(said, parser.push_struct()),
         "push_object" => push_shown(said, parser.push_object(number)),
+        "get_object" => push_shown(said, next_object(parser, number)),
+        "value_of" => push_shown(said, next_value(parser, number)),
         "pop" => push_shown(said, parser.pop(Frame(number as usize))),
         _ => push_got(said, parser, name),
     }

@@ -451,140 +451,58 @@ fn name_of<T>(answer: &Result<T, DeserializeError<&[u8]>>) -> &'static str {
     }
 }
 
+/// A struct of four Ints: a call, how a call before it is refused, as which kind, and 3.
+const STRUCT_BYTES: [u8; 72] = [
+    64, 0, 0, 0, 14, 0, 0, 0, 4, 0, 0, 0, 4, 0, 0, 0, 0, 0, 0, 0, 0, 0, 0, 0, 4, 0, 0, 0, 4, 0, 0,
+    0, 0, 0, 0, 0, 0, 0, 0, 0, 4, 0, 0, 0, 4, 0, 0, 0, 0, 0, 0, 0, 0, 0, 0, 0, 4, 0, 0, 0, 4, 0, 0,
+    0, 3, 0, 0, 0, 0, 0, 0, 0,
+];
+
+/// An object with these Ints under the keys 0 to 3.
+const OBJECT_BYTES: [u8; 112] = [
+    104, 0, 0, 0, 15, 0, 0, 0, 5, 0, 0, 0, 3, 0, 0, 0, 0, 0, 0, 0, 0, 0, 0, 0, 4, 0, 0, 0, 4, 0, 0,
+    0, 0, 0, 0, 0, 0, 0, 0, 0, 1, 0, 0, 0, 0, 0, 0, 0, 4, 0, 0, 0, 4, 0, 0, 0, 0, 0, 0, 0, 0, 0, 0,
+    0, 2, 0, 0, 0, 0, 0, 0, 0, 4, 0, 0, 0, 4, 0, 0, 0, 0, 0, 0, 0, 0, 0, 0, 0, 3, 0, 0, 0, 0, 0, 0,
+    0, 4, 0, 0, 0, 4, 0, 0, 0, 3, 0, 0, 0, 0, 0, 0, 0,
+];
+
+/// An array of one Int, a call.
+const ARRAY_BYTES: [u8; 24] = [
+    12, 0, 0, 0, 13, 0, 0, 0, 4, 0, 0, 0, 4, 0, 0, 0, 0, 0, 0, 0, 0, 0, 0, 0,
+];
+
+/// What a struct's reader answers to these calls.
+fn answer_of_struct(alloc: Global, call: u8, how: u8, kind: u8) -> &'static str {
+    let mut bytes = STRUCT_BYTES;
+    bytes[16] = call;
+    bytes[32] = how;
+    bytes[48] = kind;
+    name_of(&PodDeserializer::deserialize_from::<Called<0>>(alloc, &bytes))
+}
+
+/// What an object's reader answers to these calls.
+fn answer_of_object(alloc: Global, call: u8, how: u8, kind: u8) -> &'static str {
+    let mut bytes = OBJECT_BYTES;
+    bytes[32] = call;
+    bytes[56] = how;
+    bytes[80] = kind;
+    bytes[96] = size_of_last(how);
+    name_of(&PodDeserializer::deserialize_from::<Called<1>>(alloc, &bytes))
+}
+
+/// What an array's reader answers to this call.
+fn answer_of_array(alloc: Global, call: u8) -> &'static str {
+    let mut bytes = ARRAY_BYTES;
+    bytes[16] = call;
+    name_of(&PodDeserializer::deserialize_from::<Called<2>>(alloc, &bytes))
+}
+
 /// What the reader of this number answers to these calls.
 fn answer(alloc: Global, reader: u8, call: u8, how: u8, kind: u8) -> &'static str {
     match reader {
-        0 => name_of(&PodDeserializer::deserialize_from::<Called<0>>(
-            alloc,
-            &[
-                64, 0, 0, 0, 14, 0, 0, 0, 4, 0, 0, 0, 4, 0, 0, 0, call, 0, 0, 0, 0, 0, 0, 0, 4, 0,
-                0, 0, 4, 0, 0, 0, how, 0, 0, 0, 0, 0, 0, 0, 4, 0, 0, 0, 4, 0, 0, 0, kind, 0, 0, 0,
-                0, 0, 0, 0, 4, 0, 0, 0, 4, 0, 0, 0, 3, 0, 0, 0, 0, 0, 0, 0,
-            ],
-        )),
-        1 => name_of(&PodDeserializer::deserialize_from::<Called<1>>(
-            alloc,
-            &[
-                104,
-                0,
-                0,
-                0,
-                15,
-                0,
-                0,
-                0,
-                5,
-                0,
-                0,
-                0,
-                3,
-                0,
-                0,
-                0,
-                0,
-                0,
-                0,
-                0,
-                0,
-                0,
-                0,
-                0,
-                4,
-                0,
-                0,
-                0,
-                4,
-                0,
-                0,
-                0,
-                call,
-                0,
-                0,
-                0,
-                0,
-                0,
-                0,
-                0,
-                1,
-                0,
-                0,
-                0,
-                0,
-                0,
-                0,
-                0,
-                4,
-                0,
-                0,
-                0,
-                4,
-                0,
-                0,
-                0,
-                how,
-                0,
-                0,
-                0,
-                0,
-                0,
-                0,
-                0,
-                2,
-                0,
-                0,
-                0,
-                0,
-                0,
-                0,
-                0,
-                4,
-                0,
-                0,
-                0,
-                4,
-                0,
-                0,
-                0,
-                kind,
-                0,
-                0,
-                0,
-                0,
-                0,
-                0,
-                0,
-                3,
-                0,
-                0,
-                0,
-                0,
-                0,
-                0,
-                0,
-                size_of_last(how),
-                0,
-                0,
-                0,
-                4,
-                0,
-                0,
-                0,
-                3,
-                0,
-                0,
-                0,
-                0,
-                0,
-                0,
-                0,
-            ],
-        )),
-        _ => name_of(&PodDeserializer::deserialize_from::<Called<2>>(
-            alloc,
-            &[
-                12, 0, 0, 0, 13, 0, 0, 0, 4, 0, 0, 0, 4, 0, 0, 0, call, 0, 0, 0, 0, 0, 0, 0,
-            ],
-        )),
+        0 => answer_of_struct(alloc, call, how, kind),
+        1 => answer_of_object(alloc, call, how, kind),
+        _ => answer_of_array(alloc, call),
     }
 }
 

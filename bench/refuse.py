@@ -3,8 +3,8 @@
 refuse.py tests [CRATE ..]: does so with each test of these crates, or of all, as `rt test` has built them. CRATE/START: of
 those alone whose names begin so.
 refuse.py rows [CRATE ..]: does so with these programs of rows, or all, as `rt run` has built them.
-refuse.py within N: all three, as `rt ci` has built them. Of a test for which N processor seconds don't suffice only some requests
-are refused: as many as half of the time holds, and then some of all that follow; it says how many are left.
+refuse.py within N: all three, as `rt ci` has built them. Of a test for which N processor seconds don't suffice, and of a program of rows for which
+6 N don't, only some requests are refused: as many as half of the time holds, and then some of all that follow; it says how many are left.
 
 Each word of podtool and pod runs on each pod of examples/, on all of them one after another, and on a list whose last pod is
 short, `pod read` on what `json` makes of these; `pod`'s words meet and filter run on pairs of objects, of which some meet and some
@@ -243,8 +243,8 @@ def row_wants_memory(line, row):
     return said and (said[1] or b"") in row and row.partition(b"|")[2].startswith(said[2])
 
 
-def refuse_in_rows(library, crates, _limit):
-    """Refuses each request of the programs of rows, and returns how many there were and how many ended wrongly."""
+def refuse_in_rows(library, crates, limit):
+    """Refuses requests of the programs of rows, all where there is no limit, and returns how many there were and how many ended wrongly."""
     runs = wrong = 0
     for crate in crates:
         home = HERE.parent / f"crates/{crate}"
@@ -260,7 +260,7 @@ def refuse_in_rows(library, crates, _limit):
             return lines[1:] == behind and (first.endswith(lines[0]) or row_wants_memory(lines[0], first))
 
         command = [home / f"out/{crate}"]
-        found = refuse_each(library, command, (home / "stdin").read_bytes(), (0, wanted), is_refused, 0)
+        found = refuse_each(library, command, (home / "stdin").read_bytes(), (0, wanted), is_refused, 6 * limit)
         count, bad = report(crate, *found)
         runs, wrong = runs + count, wrong + bad
     return runs, wrong

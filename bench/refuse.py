@@ -9,8 +9,8 @@ refuse.py within N: all three, as `rt ci` has built them. Of a test for which N 
 Each word of podtool and pod runs on each pod of examples/, on all of them one after another, and on a list whose last pod is
 short, `pod read` on what `json` makes of these; `pod`'s words meet and filter run on pairs of objects, of which some meet and some
 don't, as one input and as two files. A run must end as it does with memory, or write nothing and say that it is out of memory; `pod
-show` and `--stream`, which write as they go, may have written a beginning. Of a program's rows that one whose request is refused may say so, and
-each other one must have its answer. A test must pass, or end by an error that says so and by nothing else; those of RETRYING must pass. Status
+show` and `--stream`, which write as they go, may have written a beginning. Of a program's rows one may say so, and each other one must
+have its answer. A test must pass, or end by an error that says so and by nothing else; those of RETRYING must pass. Status
 1 where one doesn't, or where a test has more requests than could be refused in SECONDS seconds (from the environment, 600). JOBS
 processes (from the environment, 1) share the requests of a test.
 """
@@ -254,10 +254,11 @@ def refuse_in_rows(library, crates, limit):
         def is_refused(status, wrote):
             if status != 0:
                 return PROGRAM_WANTS_MEMORY.fullmatch(wrote)
-            # What was written before the request isn't the copy's. Its first line is that of the row whose request was refused.
+            # What was written before the request isn't the copy's: it begins with an end of a row, and one row is that whose request was refused.
             lines = wrote.split(b"\n")
-            first, *behind = rows[max(0, len(rows) - len(lines)) :]
-            return lines[1:] == behind and (first.endswith(lines[0]) or row_wants_memory(lines[0], first))
+            last = rows[max(0, len(rows) - len(lines)) :]
+            apart = [(line, row) for line, row in zip(lines, last) if line != row and (row is not last[0] or not row.endswith(line))]
+            return len(lines) == len(last) and (not apart or len(apart) == 1 and row_wants_memory(*apart[0]))
 
         command = [home / f"out/{crate}"]
         found = refuse_each(library, command, (home / "stdin").read_bytes(), (0, wanted), is_refused, 6 * limit)

@@ -129,7 +129,7 @@ static void see_values(const struct spa_pod *pod, size_t n) {
 		SEE_UNDER(spav_float, Float, float);
 		SEE_UNDER(spav_double, Double, double);
 		SEE_UNDER(spav_fd, Fd, int64_t);
-		if (spav_elements(input + at, n - at, &elements) == 0) {
+		if (spav_front_elements(input + at, n - at, &elements) == 0) {
 			uint32_t had, shape;
 			const void *first = elements.type == SPA_TYPE_Array ? spa_pod_get_array(&property->value, &had)
 				: SPA_POD_BODY_CONST(spa_pod_get_values(&property->value, &had, &shape));
@@ -161,8 +161,10 @@ static void call_fixed(uint32_t type, const void *body) {
 		call(spav_add_long((int64_t)wide));
 	else if (type == SPA_TYPE_Fd)
 		call(spav_add_fd((int64_t)wide));
+	else if (type == SPA_TYPE_Double)
+		call(spav_call_with(type, 0, 0, wide));
 	else
-		call(spav_call_of(type, words[0], words[1], wide));
+		call(spav_call_of(type, words[0], words[1]));
 }
 
 /* The call that adds a whole array, whose elements lie in the input; alone it makes what PipeWire's builder makes of them. */
@@ -172,7 +174,7 @@ static void call_array(const struct spa_pod *pod) {
 	const void *elements = SPA_POD_ARRAY_VALUES(pod);
 	size_t len, at;
 	struct spa_pod_builder builder = SPA_POD_BUILDER_INIT(theirs, INPUT);
-	struct spav_call whole = spav_add_array((enum spav_type)type, (size_t)((const uint8_t *)elements - input), n);
+	struct spav_call whole = spav_add_array(type, (size_t)((const uint8_t *)elements - input), n);
 	SEE(spa_pod_builder_array(&builder, size, type, n, elements) == 0 && spav_build(&whole, 1, input, input_len, ours, INPUT, &len, &at) == 0);
 	SEE(len == builder.state.offset && !memcmp(ours, theirs, len));
 	arrays++;
@@ -193,7 +195,7 @@ static bool call_pod(const struct spa_pod *pod) {
 	case SPA_TYPE_Bitmap:
 		return false;
 	case SPA_TYPE_String:
-		call(spav_add_string(at, (uint32_t)strlen((const char *)body)));
+		call(spav_add_string(at, strlen((const char *)body)));
 		return true;
 	case SPA_TYPE_Bytes:
 		call(spav_add_bytes(at, size));

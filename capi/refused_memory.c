@@ -51,17 +51,19 @@ typedef int32_t rewriting(const void *in, size_t n, void *out, size_t cap, size_
 /* Into `cap` bytes. */
 static void refuse_each(rewriting *rewrite, const void *in, size_t n, size_t cap, bool may_ask) {
 	static uint8_t wanted[1024], out[1024], before[1024];
-	size_t len, written, at;
+	size_t len, written, at, kept;
 	memset(before, 0xee, sizeof before);
 	refuse_at = 0;
 	SEE(rewrite(in, n, wanted, cap, &len, &at) == 0 && held == 0);
+	/* The first byte that has to stay. */
+	kept = cap < n ? len : n;
 	for (refuse_at = 1;; refuse_at++) {
 		asked = 0;
 		memset(out, 0xee, sizeof out);
 		int32_t answer = rewrite(in, n, out, cap, &written, &at);
 		SEE(held == 0);
 		if (answer == 0)
-			SEE(written == len && !memcmp(out, wanted, len) && !memcmp(out + len, before, sizeof out - len));
+			SEE(written == len && !memcmp(out, wanted, len) && !memcmp(out + kept, before, sizeof out - kept));
 		if (asked < refuse_at) {
 			SEE(answer == 0);
 			break;
@@ -126,22 +128,24 @@ static void refuse_deep(bool may_ask) {
 	}
 	for (uint32_t i = 0; may_ask && i + 1 < LEVELS; i++)
 		memcpy(deep + 6 * (LEVELS - 1) + 4 + 6 * i, number, sizeof number);
-	SEE(spav_nests_within(deep, len, 1000) == 0 && spav_nests_within(deep, len, 1001) == -ELOOP && spav_nests_within(deep, len, UINT32_MAX) == -ELOOP);
+	bool within = true, canonical;
+	SEE(spav_nests_within(deep, len, 1000, &within) == 0 && !within);
+	SEE(spav_nests_within(deep, len, 1001, &within) == -ELOOP && spav_nests_within(deep, len, UINT32_MAX, &within) == -ELOOP && !within);
 	for (refuse_at = 1;; refuse_at++) {
 		asked = 0;
-		int32_t answer = spav_is_canonical(deep, len);
+		canonical = false;
+		int32_t answer = spav_is_canonical(deep, len, &canonical);
 		SEE(held == 0);
 		if (asked < refuse_at) {
-			SEE(answer == 1);
+			SEE(answer == 0 && canonical);
 			break;
 		}
-		SEE(answer == -ENOMEM || (answer == 1 && !and_after));
+		SEE(answer == -ENOMEM ? !canonical : answer == 0 && canonical && !and_after);
 	}
 	SEE(may_ask == (refuse_at > 1));
 }
 
-/* A choice that gets shorter, deep in structs: where each of these is in tail position, it is rewritten without memory; where an Int follows each,
- * by means of memory. */
+/* A choice that gets shorter, deep in structs, alone or with an Int behind each: past 1000 levels it is rewritten by means of memory. */
 static void refuse_deep_in_place(void) {
 	enum { LEVELS = 1200, FEW = 8 * LEVELS + 40, MANY = FEW + 16 * LEVELS };
 	static const uint32_t shrinking[] = { 28, 19, 0, 5, 4, 4, 1, 2, 3, 0 }, number[] = { 4, 4, 7, 0 };
@@ -151,8 +155,8 @@ static void refuse_deep_in_place(void) {
 		deep[2 * i + 1] = 14;
 	}
 	memcpy(deep + 2 * LEVELS, shrinking, sizeof shrinking);
-	refuse_in_place(spav_rewrite_in_place, deep, FEW, false);
-	refuse_in_place(spav_rewrite_in_place_leniently, deep, FEW, false);
+	refuse_in_place(spav_rewrite_in_place, deep, FEW, true);
+	refuse_in_place(spav_rewrite_in_place_leniently, deep, FEW, true);
 	for (uint32_t i = 0; i < LEVELS; i++) {
 		deep[2 * i] = MANY - 24 * i - 8;
 		memcpy(deep + FEW / 4 + 4 * i, number, sizeof number);

@@ -58,7 +58,7 @@ static int32_t probe(void) {
 #define ROW(name) { "spav_" #name, name##_of_in }
 static struct spav_elements elements_found;
 static struct spav_item item_found;
-static const struct spav_call calls_made[] = { { SPAV_TYPE_Int, 0, 0, 5, 0, 0 } };
+static const struct spav_call calls_made[] = { { SPAV_TYPE_Int, 0, 0, 5, 0, 0, 0, 0 } };
 static int32_t number;
 CALL(rewrite, in, n, out, n, &written, &at)
 static int32_t rewrite_without_room(void) { return spav_rewrite(in, n, out, 0, &written, &at); }
@@ -66,15 +66,19 @@ CALL(rewrite_leniently, in, n, out, n, &written, &at)
 CALL(rewrite_in_place, in, n, &written, &at)
 CALL(rewrite_in_place_leniently, in, n, &written, &at)
 CALL(check, in, n, &at)
-CALL(is_canonical, in, n)
-CALL(nests_within, in, n, 1000)
+static bool truth;
+CALL(is_canonical, in, n, &truth)
+CALL(nests_within, in, n, 1000, &truth)
 CALL(fault, in, n, &kind, &written, &at)
 CALL(read, in, n, NULL, 0, &written, &kind, &at)
-CALL(events, in, n, NULL, 0, &written)
-CALL(item, in, n, &item_found)
+CALL(front_item, in, n, &item_found)
+CALL(settled_item, in, n, &item_found)
+CALL(element, in, n, 0, &item_found)
+CALL(set_int, in, n, 2, 7)
+CALL(same, in, n, in, n, &truth, &kind)
 CALL(find, in, n, 2, &at)
 CALL(member, in, n, 1, &at)
-CALL(elements, in, n, &elements_found)
+CALL(front_elements, in, n, &elements_found)
 CALL(object, in, n, &kind, &kind)
 CALL(int, in, n, 2, &number)
 CALL(string, in, n, 2, (char *)out, 16, &written)
@@ -86,8 +90,8 @@ static const struct row {
 	const char *name;
 	int32_t (*call)(void);
 } rows[] = { ROW(rewrite), { "spav_rewrite_without_room", rewrite_without_room }, ROW(rewrite_leniently), ROW(rewrite_in_place),
-	ROW(rewrite_in_place_leniently), ROW(check), ROW(is_canonical), ROW(nests_within), ROW(fault), ROW(read), ROW(events), ROW(item), ROW(find),
-	ROW(member), ROW(elements), ROW(object), ROW(int), ROW(string), ROW(fixate), ROW(filter), ROW(negotiate), ROW(build) };
+	ROW(rewrite_in_place_leniently), ROW(check), ROW(is_canonical), ROW(nests_within), ROW(fault), ROW(read), ROW(front_item), ROW(settled_item), ROW(element), ROW(set_int), ROW(same), ROW(find),
+	ROW(member), ROW(front_elements), ROW(object), ROW(int), ROW(string), ROW(fixate), ROW(filter), ROW(negotiate), ROW(build) };
 
 /* Where the stack is at a call. */
 static uint8_t *top;

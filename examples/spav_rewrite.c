@@ -7,18 +7,16 @@
 #include <string.h>
 #include <spav.h>
 
-/* Prints a line for each pod and for those inside it: depth, type, size. Whether there was memory. */
-static bool show(const uint8_t *in, size_t n) {
-	size_t room = n / 8, count = 0;
-	struct spav_event *events = malloc(room ? room * sizeof *events : 1);
-	if (!events)
-		return false;
-	if (spav_events(in, n, events, room, &count))
-		return false;
-	for (size_t i = 0; i < count; i++)
-		printf("%zu %u %u\n", events[i].depth, events[i].type, events[i].size);
-	free(events);
-	return true;
+enum { LEVELS = 1000 };
+
+/* Prints a line for each pod of a walk and for those inside it: depth, type, size. Deeper levels are left out. */
+static void show(struct spav_walk walk, unsigned depth) {
+	struct spav_pod pod;
+	while (spav_next(&walk, &pod)) {
+		printf("%u %u %u\n", depth, pod.type, pod.size);
+		if (depth < LEVELS)
+			show(spav_walk_inside(&pod), depth + 1);
+	}
 }
 
 /* All of standard input, or NULL. */
@@ -47,10 +45,11 @@ int main(int argc, char **argv) {
 	if (!strcmp(word, "rewrite")) {
 		answer = spav_rewrite(in, n, out, n, &written, &at);
 	} else if (!strcmp(word, "show")) {
-		if (!show(in, n))
-			return 2;
+		show(spav_walk_pods(in, n), 0);
 	} else if (!strcmp(word, "is_canonical")) {
-		printf("%d\n", spav_is_canonical(in, n));
+		bool canonical = false;
+		answer = spav_is_canonical(in, n, &canonical);
+		printf("%d\n", canonical);
 	} else if (!strcmp(word, "fixate")) {
 		answer = spav_fixate(in, n);
 		memcpy(out, in, written = n);

@@ -186,7 +186,7 @@ def take_apart(text):
     return text.replace('fn drop(mut self)', 'fn drop(&mut self)')
 
 
-def name_calls(text):
+def name_calls(text, place):
     """Calls that may be refused memory, by the names of the module `memory`."""
     text = re.sub(r'\.(%s)\(' % '|'.join(FALLIBLE), lambda m: '.%s(' % FALLIBLE[m.group(1)], text)
     text = re.sub(r'\bfn (push|reserve)(?=(?:<[^>]*>)?\(\s*&mut self\b)', lambda m: 'fn ' + FALLIBLE[m.group(1)], text)
@@ -197,6 +197,11 @@ def name_calls(text):
     text = re.sub(r'\.(?:collect|to_vec)\(\)', '.try_to_vec()', text)
     # A search for NUL.
     text = re.sub(r'\.contains\(&0\)', '.has_nul()', text)
+    # What core has since Rust 1.87 and 1.88, by what it had before.
+    text = re.sub(r'\.cast_((?:un)?signed)\(\)', r'.to_\1()', text)
+    text = re.sub(r'(?<![\w:])str::from_utf8\(', 'core::str::from_utf8(', text)
+    if place.package != TESTS:
+        text = text.replace('.as_chunks::<N>()', '.in_chunks::<N>()').replace('&[[u8; N]]', "Chunks<'_, N>")
     # Copies that may be refused.
     text = re.sub(r'\bClone for (?=\w)', 'TryClone for ', text)
     text = re.sub(r'fn clone\(&self\)', 'fn try_clone(&self)', text)
@@ -305,7 +310,7 @@ def name_imports(text, place, of_std):
 
 # A call from outside can break these `requires`: the function of a file, and what is asserted in its place.
 ASSERTED = {
-    ('async_seq', 'from_raw'): 'assert!(code.cast_unsigned() >> SEQ_BITS == 1, "the code is not asynchronous");',
+    ('async_seq', 'from_raw'): 'assert!(code.to_unsigned() >> SEQ_BITS == 1, "the code is not asynchronous");',
     ('code', 'into_sync_result'): 'assert!(!self.is_async(), "the code is asynchronous");',
     ('code', 'into_async_result'): 'assert!(self.0 < 0 || self.is_async(), "the code is neither an error nor asynchronous");',
 }
@@ -315,7 +320,7 @@ ASSERTED = {
 INLINED = [('leaves', 'read_string'), ('bodies', 'text_of')]
 # Small functions that rustc may put in place of their calls also where it compiles modules apart, as it does without link-time optimization.
 HINTED = [('front', 'open'), ('words', 'u32_at'), ('words', 'u64_at'), ('words', 'two_words'), ('words', 'joined'), ('words', 'word_body'),
-          ('words', 'wide_body')]
+          ('words', 'wide_body'), ('fixed', 'of_body')]
 
 
 # Where rustc doesn't optimize, what it puts in place of calls makes frames larger, and looks call themselves for each level of nesting.
@@ -327,7 +332,7 @@ def inline(text, file):
     for attribute, functions in (('#[inline(always)]', INLINED), ('#[inline]', HINTED)):
         for where, name in functions:
             if where == os.path.basename(file):
-                text = re.sub(r'^( *)((?:pub )?fn %s\()' % name, r'\1%s\n\1\2' % attribute, text, flags=re.M)
+                text = re.sub(r'^( *)((?:pub )?fn %s\((?!.*;$))' % name, r'\1%s\n\1\2' % attribute, text, flags=re.M)
     return text.replace('#[inline(always)]', OPTIMIZED)
 
 
@@ -359,7 +364,7 @@ def erase(source, place, of_std=()):
                   r'\1\2fn \3() {\n\1    crate::shims::test::run(\3_answers())\n\1}\n\n\1fn \3_answers() -> Result<(), Fail> {\n', text, flags=re.M)
     text = drop_bounds(text)
     text = take_apart(text)
-    text = name_calls(text)
+    text = name_calls(text, place)
     # Printing.
     text = re.sub(r'fn fmt<\w+: fmt::Write>\(', 'fn fmt(', text)
     text = re.sub(r"<('\w+), W: fmt::Write>", r'<\1>', text)
@@ -388,7 +393,7 @@ def erase(source, place, of_std=()):
 
 
 # What the prelude has.
-IN_SCOPE = re.compile(r'\b(?:Vec|String|TryClone|VecRoom|has_nul|try_\w+|make_room\w*|with_room)\b|\bwrite(?:ln)?!')
+IN_SCOPE = re.compile(r'\b(?:Vec|String|TryClone|VecRoom|has_nul|to_(?:un)?signed|in_chunks|try_\w+|make_room\w*|with_room)\b|\bwrite(?:ln)?!')
 
 
 def sources(folder):

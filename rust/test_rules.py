@@ -237,6 +237,19 @@ impl Id {
         for old, new in [('derive(Hash)', 'derive(Ord)'), ('#[must_use]', '#[cold]'), ('pub u32', 'pub u64')]:
             self.assertNotEqual(faults(found.replace(old, new, 1), source), [], (old, new))
 
+    def test_calls_of_newer_rust_are_those_of_older(self):
+        source = 'fn a<const N: usize>(x: &[[u8; N]], y: &[u8]) -> u32 {\n    f(x, y.as_chunks::<N>(), str::from_utf8(y), self.0.cast_signed());\n    b(y).cast_unsigned()\n}\n'
+        found = erased(source, 'counts')
+        wanted = source
+        for old, new in [('&[[u8; N]]', "Chunks<'_, N>"), ('as_chunks', 'in_chunks'), ('str::', 'core::str::'), ('cast_', 'to_')]:
+            wanted = wanted.replace(old, new)
+        self.assertEqual(found, 'use crate::shims::prelude::*;\n' + wanted)
+        self.assertEqual(faults(found, source), [])
+        for old, new in [("Chunks<'_, N>", "Chunks<'_, 4>"), ('in_chunks::<N>', 'in_chunks::<4>'), ('0.to_signed', '0.to_unsigned'), (').to_unsigned', ').to_signed'),
+                         ('from_utf8', 'from_utf8_mut')]:
+            self.assertIn(old, found)
+            self.assertNotEqual(faults(found.replace(old, new, 1), source), [], (old, new))
+
     def test_plain_reads_are_those_of_the_api(self):
         source = 'fn a(b: B) -> C {\n    b.deserialize_any()\n}\n'
         found = surface.surfaced('tests/src/parts/x.rs', source)

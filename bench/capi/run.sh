@@ -44,7 +44,3 @@ done
 for row in mixed:canonical mixed-noise:canonical mixed:fixate; do
   echo "| ${row%:*}, ${row#*:} | | $(count "${row#*:}" "${row%:*}") | | | |"
 done
-"$room/calls" events_check "$room/mixed" 1
-one=$(count events_by_calls mixed)
-ours=$(count events mixed)
-echo "| mixed, events | $one | $ours | $((ours * 100 / one))% | | |"

@@ -18,6 +18,18 @@ enum { MOST = 1 << 16, PAGE = 4096, UNTOUCHED = 0xee };
 
 #define SEE(fact) do { if (!(fact)) { fprintf(stderr, "line %d: %s\n", __LINE__, #fact); abort(); } } while (0)
 
+static bool is_canonical(const uint8_t *in, size_t n) {
+	bool canonical = false;
+	SEE(spav_is_canonical(in, n, &canonical) == 0);
+	return canonical;
+}
+
+static bool nests_within(const uint8_t *in, size_t n, uint32_t levels) {
+	bool within = false;
+	SEE(spav_nests_within(in, n, levels, &within) == 0);
+	return within;
+}
+
 static uint8_t wanted[MOST], again[MOST];
 
 /* The end of a region behind which no byte can be touched. */
@@ -45,11 +57,11 @@ static void try_rewriting(const uint8_t *in, size_t n, uint8_t *out) {
 		SEE(spav_rewrite_in_place(again, n, &written, &other) == -EINVAL && other == at && !memcmp(again, in, n));
 		return;
 	}
-	SEE(answer == 0 && written == len && !memcmp(out, wanted, len) && is_untouched(out + len, n - len));
+	SEE(answer == 0 && written == len && !memcmp(out, wanted, len));
 	SEE(spav_check(in, n, &at) == 0);
 	SEE(spav_rewrite(out, len, again, MOST, &written, &at) == 0 && written == len && !memcmp(again, out, len));
 	memcpy(again, in, n);
-	SEE(spav_rewrite_in_place(again, n, &written, &at) == 0 && written == len && !memcmp(again, wanted, len) && !memcmp(again + len, in + len, n - len));
+	SEE(spav_rewrite_in_place(again, n, &written, &at) == 0 && written == len && !memcmp(again, wanted, len));
 	/* Just enough room, and too little: behind the first `n - len` bytes, so that the page behind shows what goes past them. */
 	uint8_t *exact = out + n - len;
 	memset(out, UNTOUCHED, n);
@@ -63,9 +75,9 @@ static void try_rewriting(const uint8_t *in, size_t n, uint8_t *out) {
 static void try_front(const uint8_t *in, size_t n, uint8_t *out) {
 	uint32_t type = 0, size = 0;
 	size_t whole = 0, at = 0;
-	bool is_there = spav_front(in, n, &type, &size, &whole);
+	bool is_there = spav_front(in, n, &type, &size, &whole) == 0;
 	size_t len = is_there ? one_pass(in, whole, wanted) : SIZE_MAX;
-	SEE(spav_is_canonical(in, n) == (is_there && len == whole && !memcmp(wanted, in, len)));
+	SEE(is_canonical(in, n) == (is_there && len == whole && !memcmp(wanted, in, len)));
 	memcpy(out, in, n);
 	int32_t answer = spav_fixate(out, n);
 	SEE(answer == (is_there && type == 15 && size >= 8 ? 0 : -EINVAL));
@@ -75,36 +87,27 @@ static void try_front(const uint8_t *in, size_t n, uint8_t *out) {
 		SEE(spav_check(out, whole, &at) == 0);
 }
 
-/* Walks over all that is inside by calls of itself, reads what is there, and compares it with the events. */
-static size_t walk_inside(struct spav_walk walk, const uint8_t *in, const struct spav_event *events, size_t count, size_t depth, size_t parent) {
+/* Walks over all that is inside by calls of itself, reads what is there, and answers how many levels there are. */
+static uint32_t walk_inside(struct spav_walk walk) {
 	struct spav_pod pod;
+	uint32_t most = 0;
 	while (spav_next(&walk, &pod)) {
 		int32_t value;
-		const struct spav_event *event = &events[count];
-		SEE(event->type == pod.type && event->size == pod.size && event->depth == depth && event->at == (size_t)(pod.bytes - in) && event->parent == parent);
 		SEE(spav_int(pod.bytes, pod.whole, 1, &value) != -ENOSPC);
-		count = walk_inside(spav_walk_inside(&pod), in, events, count + 1, depth + 1, count);
+		uint32_t inside = walk_inside(spav_walk_inside(&pod)), here = pod.type == 14 || pod.type == 15 ? 1 + inside : 0;
+		most = here > most ? here : most;
 	}
-	return count;
+	return most;
 }
 
-static void try_events(const uint8_t *in, size_t n) {
-	static struct spav_event events[MOST / 8 + 1], fewer[MOST / 8 + 1];
-	size_t count = 0, enough = 0;
-	events[n / 8].type = fewer[n / 8].type = UNTOUCHED;
-	SEE(spav_events(in, n, events, n / 8, &count) == 0 && count <= n / 8);
-	SEE(walk_inside(spav_walk_pods(in, n), in, events, 0, 0, SPAV_NO_PARENT) == count);
-	if (count > 0) {
-		fewer[count - 1].type = UNTOUCHED;
-		SEE(spav_events(in, n, fewer, count - 1, &enough) == -ENOSPC && enough == n / 8);
-		SEE(!memcmp(fewer, events, (count - 1) * sizeof *events) && fewer[count - 1].type == UNTOUCHED);
+static void try_walks(const uint8_t *in, size_t n) {
+	uint32_t type, size;
+	size_t whole = 0;
+	walk_inside(spav_walk_pods(in, n));
+	if (spav_front(in, n, &type, &size, &whole) == 0) {
+		uint32_t levels = walk_inside(spav_walk_pods(in, whole));
+		SEE(nests_within(in, n, levels) && (levels == 0 || !nests_within(in, n, levels - 1)));
 	}
-	uint32_t levels = 0;
-	for (size_t i = 0; i < count && (i == 0 || events[i].depth > 0); i++) {
-		uint32_t here = (uint32_t)events[i].depth + (events[i].type == 14 || events[i].type == 15);
-		levels = here > levels ? here : levels;
-	}
-	SEE(spav_nests_within(in, n, levels) == 1 && (levels == 0 || spav_nests_within(in, n, levels - 1) == 0));
 }
 
 typedef int32_t join(const void *a, size_t n, const void *b, size_t m, void *out, size_t cap, size_t *written, uint32_t *key_or_side);
@@ -113,7 +116,7 @@ typedef int32_t join(const void *a, size_t n, const void *b, size_t m, void *out
 static int32_t try_joining(join *call, const uint8_t *in, size_t n, uint8_t *out) {
 	uint32_t type, size, told = 0, other = 0;
 	size_t whole = n, len = 0, swapped = 0;
-	if (!spav_front(in, n, &type, &size, &whole))
+	if (spav_front(in, n, &type, &size, &whole))
 		whole = n;
 	const uint8_t *second = whole < n ? in + whole : in;
 	size_t m = whole < n ? n - whole : n;
@@ -122,9 +125,9 @@ static int32_t try_joining(join *call, const uint8_t *in, size_t n, uint8_t *out
 	int32_t back = call(second, m, in, whole, again, MOST, &swapped, &other);
 	SEE((answer == 0 || answer == -ENOSPC) == (back == 0) && (answer == -EINVAL) == (back == -EINVAL) && (answer == -EPROTO) == (back == -EPROTO));
 	if (answer == 0 || answer == -ENOSPC)
-		SEE(len == swapped && spav_is_canonical(again, len) == 1);
+		SEE(len == swapped && is_canonical(again, len));
 	if (answer == 0)
-		SEE(spav_is_canonical(out, len) == 1 && is_untouched(out + len, n - len));
+		SEE(is_canonical(out, len) && is_untouched(out + len, n - len));
 	else
 		SEE(is_untouched(out, n));
 	if (answer == -EINVAL)
@@ -139,7 +142,10 @@ static void try_building(const uint8_t *in, size_t n, uint8_t *out) {
 	for (size_t i = 0; i < count; i++) {
 		uint32_t words[4];
 		memcpy(words, in + 16 * i, sizeof words);
-		calls[i] = spav_call_of(words[0], words[1], words[2], words[3]);
+		calls[i] = spav_call_with(words[0], (int32_t)words[1], words[2], words[3]);
+		calls[i].first = words[1];
+		calls[i].second = words[2];
+		calls[i].len = words[2];
 		calls[i].number = (int32_t)words[1];
 		calls[i].wide = (int64_t)words[3];
 	}
@@ -162,7 +168,7 @@ static void try_all(const uint8_t *bytes, size_t n, uint8_t *in_end, uint8_t *ou
 	memcpy(in, bytes, n);
 	try_rewriting(in, n, out);
 	try_front(in, n, out);
-	try_events(in, n);
+	try_walks(in, n);
 	int32_t met = try_joining(spav_negotiate, in, n, out), filtered = try_joining(spav_filter, in, n, out);
 	SEE((met == -EINVAL) == (filtered == -EINVAL) && (met == -EPROTO) == (filtered == -EPROTO));
 	try_building(in, n, out);

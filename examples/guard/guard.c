@@ -21,22 +21,29 @@
 #include <sys/resource.h>
 #include <sys/socket.h>
 #include <sys/stat.h>
+#include <sys/uio.h>
 #include <sys/un.h>
 #include <sys/wait.h>
 #include <time.h>
 #include <unistd.h>
 #include <spav.h>
+#include "protocol.h"
 
 /* A message begins with four words: the id of its object, its opcode and in 24 bits the length of its pods, its number,
  * and how many descriptors it has. */
 enum { HEADER = 16, LENGTH_BITS = 24, LENGTH_MAX = (1 << LENGTH_BITS) - 1 };
-/* The object that each client has from the beginning, its event for errors, and the number in errors that answer no
- * request. */
-enum { CORE = 0, CORE_ERROR = 3, NO_REQUEST = -1 };
+/* The objects that each client has from the beginning, the core's event for errors, and the number in errors that answer
+ * no request. */
+enum { CORE = 0, CLIENT = 1, CORE_ERROR = 3, NO_REQUEST = -1 };
 /* Descriptors: of one message, as many as one sendmsg takes; of all that wait in one direction, as in PipeWire. */
 enum { MESSAGE_FDS = 253, WAITING_FDS = 1024 };
-/* Bytes of buffers that are kept, of the text of an error, and of the message around it. */
-enum { BLOCK = 1 << 16, TEXT_ROOM = 256, ERROR_ROOM = 512 };
+/* Bytes of buffers that are kept, of the text of an error, and of the message around it; of what stands before a recorded
+ * message's pods. */
+enum { BLOCK = 1 << 16, TEXT_ROOM = 256, ERROR_ROOM = 512, HEAD_ROOM = 512 };
+/* Of how many objects of a client a recording may name the interface: those with ids below this. */
+enum { KNOWN_OBJECTS = 1 << 16, EXPORTED = 0x80 };
+/* What each recorded message begins with: the program, and the number of the layout. */
+#define RECORDED "spav-guard 1"
 /* How many milliseconds a client has to read why it is closed, and the listener rests where it can't accept. */
 enum { LINGER = 1000, REST = 100 };
 /* How many faults are printed for one client, and how deep random bytes go into padding. */
@@ -69,6 +76,10 @@ struct stream {
 /* The two directions of the client that a process serves, and the seed of its noise. */
 static struct stream requests, events;
 static unsigned seed;
+/* What a recording says of the client: the number of its connection, its process or 0, and for each of its objects which
+ * of `interfaces` it has, counted from 1, or 0; with EXPORTED, if the client serves it. */
+static int32_t connection, process;
+static uint8_t known[KNOWN_OBJECTS];
 
 /* The call that this program is about: almost all are pods, and what isn't may convey values all the same. */
 static int32_t rewrite(const void *in, size_t n, void *out, size_t cap, size_t *written, size_t *at) {
@@ -154,19 +165,19 @@ static void queue_error(uint32_t id, int32_t number, int32_t result, const char 
 	s->out_len += HEADER + n;
 }
 
-static int64_t now(void) {
+static int64_t now(clockid_t clock) {
 	struct timespec it;
-	clock_gettime(CLOCK_MONOTONIC, &it);
+	clock_gettime(clock, &it);
 	return (int64_t)it.tv_sec * 1000000000 + it.tv_nsec;
 }
 
 /* Ends the connection once the client has read what waits for it, or has had its time. */
 static _Noreturn void leave(void) {
 	static uint8_t unread[BLOCK];
-	const int64_t until = now() + (int64_t)LINGER * 1000000;
+	const int64_t until = now(CLOCK_MONOTONIC) + (int64_t)LINGER * 1000000;
 	while (flush(&events)) {
 		struct pollfd waits = { .fd = events.to, .events = events.out_len ? POLLOUT : POLLIN };
-		const int64_t left = until - now();
+		const int64_t left = until - now(CLOCK_MONOTONIC);
 		if (!events.out_len)
 			shutdown(events.to, SHUT_WR);
 		if (left <= 0 || poll(&waits, 1, (int)(left / 1000000) + 1) <= 0)
@@ -249,12 +260,97 @@ static void describe(const uint32_t *words, const uint8_t *pods, size_t n, int32
 	uint32_t kind = 0;
 	size_t top = 0, at = 0;
 	counts->refused++;
-	const bool has_fault = answer == -EINVAL && spav_fault(pods, n, &kind, &top, &at) == 1;
+	const bool has_fault = answer == -EINVAL && spav_fault(pods, n, &kind, &top, &at) == 0 && kind;
 	const char *why = has_fault ? spav_fault_text(kind) : answer == -ENOMEM ? "no memory" : "no values";
 	snprintf(text, room, "%s: object %u, opcode %u, %zu bytes: byte %zu, in the pod at %zu: %s",
 		set.drops ? "dropped" : "refused", words[0], words[1] >> LENGTH_BITS, n, at, top, why);
 	if (set.is_verbose && printed++ < FAULTS_PRINTED)
 		fprintf(stderr, "spav-guard: process %d: %s\n", (int)getpid(), text);
+}
+
+/* The number of an interface, counted from 1; 0 where it isn't known. */
+static uint8_t interface_of(const char *type, size_t len) {
+	uint8_t i = sizeof interfaces / sizeof *interfaces;
+	while (i && (strlen(interfaces[i - 1].type) != len || memcmp(interfaces[i - 1].type, type, len)))
+		i--;
+	return i;
+}
+
+/* What an object and an opcode are called: an interface or NULL, a method or event or an empty text. */
+struct names {
+	const char *interface;
+	char method[32];
+};
+
+static struct names names_of(const struct stream *s, const uint32_t *words) {
+	struct names names = { 0 };
+	const uint8_t number = words[0] < KNOWN_OBJECTS ? known[words[0]] : 0;
+	if (!number)
+		return names;
+	const struct interface *it = interfaces + (number & ~EXPORTED) - 1;
+	const size_t prefix = strlen(PIPEWIRE);
+	names.interface = it->type + (strncmp(it->type, PIPEWIRE, prefix) == 0 ? prefix : 0);
+	const char *word = (s == &requests) == !(number & EXPORTED) ? it->methods : it->events;
+	for (uint32_t i = words[1] >> LENGTH_BITS; i && *word; i--)
+		word += strcspn(word, " ") + (word[strcspn(word, " ")] == ' ');
+	snprintf(names.method, sizeof names.method, "%.*s", (int)strcspn(word, " "), word);
+	return names;
+}
+
+static bool is_method(const struct names *names, const char *interface, const char *method) {
+	return names->interface && strcmp(names->interface, interface) == 0 && strcmp(names->method, method) == 0;
+}
+
+/* The member of this number of the struct at the front. Whether it is there, of this type; where a text begins. */
+static bool has_member(const uint8_t *pods, size_t n, size_t number, uint32_t type, struct spav_item *item,
+	const char **text) {
+	size_t at;
+	if (spav_member(pods, n, number, &at) || spav_front_item(pods + at, n - at, item) || item->type != type)
+		return false;
+	*text = (const char *)pods + at + (type == SPAV_TYPE_String ? item->first : 0);
+	return true;
+}
+
+/* Notes what a message that is forwarded says of an object's interface. */
+static void learn(const struct names *names, const uint8_t *pods, size_t n) {
+	const struct assignment *it = assignments, *end_of_it = it + sizeof assignments / sizeof *assignments;
+	struct spav_item object, type;
+	const char *text;
+	while (it < end_of_it && !is_method(names, it->interface, it->method))
+		it++;
+	if (it == end_of_it || !has_member(pods, n, it->object, SPAV_TYPE_Int, &object, &text) || object.first >= KNOWN_OBJECTS)
+		return;
+	uint8_t number = it->gives ? interface_of(it->gives, strlen(it->gives)) : 0;
+	if (!it->gives && has_member(pods, n, 1, SPAV_TYPE_String, &type, &text))
+		number = interface_of(text, type.second);
+	if (number && interfaces[number - 1].is_exported && is_method(names, "Core", "create_object"))
+		number |= EXPORTED;
+	known[object.first] = number;
+}
+
+/* Appends a message to the recording, as docs/FORMAT.md, "Recorded messages", says. Where that fails, no further message of
+ * this client is recorded. */
+static void record(const struct stream *s, const uint32_t *words, const struct names *names, const uint8_t *pods, size_t n) {
+	static const uint8_t zeros[8];
+	char texts[TEXT_ROOM];
+	uint8_t head[HEAD_ROOM];
+	size_t size = 0, at;
+	const uint32_t mark = sizeof RECORDED - 1, of = names->interface ? (uint32_t)strlen(names->interface) : 0;
+	const uint32_t len = (uint32_t)strlen(names->method);
+	snprintf(texts, sizeof texts, "%s%s%s", RECORDED, of ? names->interface : "", names->method);
+	const struct spav_call calls[] = { spav_push_struct(), spav_add_string(0, mark), spav_add_long(now(CLOCK_REALTIME)),
+		spav_add_bool(s == &requests), spav_add_int(connection), spav_add_int(process), spav_add_int((int32_t)words[0]),
+		spav_add_int((int32_t)(words[1] >> LENGTH_BITS)), of ? spav_add_string(mark, of) : spav_add_none(),
+		len ? spav_add_string(mark + of, len) : spav_add_none(), spav_pop() };
+	errno = -spav_build(calls, sizeof calls / sizeof *calls, texts, mark + of + len, head, sizeof head, &size, &at);
+	/* The message's pods are the struct's further members, whatever they are. */
+	const uint32_t body = (uint32_t)(size - 8 + n);
+	memcpy(head, &body, sizeof body);
+	const struct iovec parts[] = { { head, size }, { (void *)(uintptr_t)pods, n }, { (void *)(uintptr_t)zeros, -n % 8 } };
+	if (errno || writev(set.recording, parts, 3) != (ssize_t)(size + n + -n % 8)) {
+		fprintf(stderr, "spav-guard: the recording of client %d ends: %s\n", connection, strerror(errno ? errno : ENOSPC));
+		set.recording = -1;
+	}
 }
 
 /* Puts a whole message behind what waits, rewritten where its pods can be; or drops it and puts an error there. */
@@ -269,11 +365,14 @@ static void forward(struct stream *s, uint8_t *message, size_t n, size_t fd_coun
 		give_up(number, -ENOMEM, "no memory for a message of %zu bytes", n);
 	if (set.noise && spav_check(pods, n, &at) == 0)
 		add_noise(spav_walk_pods(pods, n), NOISE_LEVELS);
-	if (set.recording >= 0 && write(set.recording, pods, n) != (ssize_t)n)
-		perror("spav-guard: the recording");
-	const int64_t before = now();
+	struct names names = { 0 };
+	if (set.recording >= 0) {
+		names = names_of(s, words);
+		record(s, words, &names, pods, n);
+	}
+	const int64_t before = now(CLOCK_MONOTONIC);
 	const int32_t answer = rewrite(pods, n, s->out + HEADER, n, &written, &at);
-	counts->ns += (uint64_t)(now() - before);
+	counts->ns += (uint64_t)(now(CLOCK_MONOTONIC) - before);
 	counts->messages++;
 	counts->bytes_in += n;
 	counts->descriptors += fd_count;
@@ -286,6 +385,8 @@ static void forward(struct stream *s, uint8_t *message, size_t n, size_t fd_coun
 	}
 	if (answer)
 		memcpy(s->out + HEADER, pods, written = n);
+	else if (set.recording >= 0)
+		learn(&names, s->out + HEADER, written);
 	counts->changed += written != n || memcmp(s->out + HEADER, pods, n);
 	counts->bytes_out += written;
 	words[1] = (words[1] >> LENGTH_BITS << LENGTH_BITS) | (uint32_t)written;
@@ -439,7 +540,9 @@ static _Noreturn void begin(int client, pid_t listener, const sigset_t *none) {
 		fds.rlim_cur = fds.rlim_max < wanted ? fds.rlim_max : wanted;
 		setrlimit(RLIMIT_NOFILE, &fds);
 	}
-	seed = set.noise + (unsigned)counts->connections;
+	seed = set.noise + (unsigned)connection;
+	known[CORE] = interface_of(PIPEWIRE "Core", strlen(PIPEWIRE "Core"));
+	known[CLIENT] = interface_of(PIPEWIRE "Client", strlen(PIPEWIRE "Client"));
 	requests.from = events.to = client;
 	const int daemon = connect_to(set.behind, 0);
 	if (daemon < 0)
@@ -494,6 +597,8 @@ static bool accept_one(int listener, const sigset_t *none) {
 	for (size_t i = 0; i < served_count; i++)
 		of_it += served[i].process == peer.pid;
 	const pid_t here = getpid();
+	connection = (int32_t)counts->connections + 1;
+	process = peer.pid;
 	const bool fits = served_count < set.clients && of_it < set.of_a_process;
 	const pid_t pid = fits ? fork() : -1;
 	if (pid == 0) {

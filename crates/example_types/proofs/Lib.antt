@@ -6,3 +6,4 @@ pub mod Captures
 pub mod Gains
 pub mod Latencies
 pub mod Streams
+pub mod Formats

@@ -1,6 +1,8 @@
 -- A mode's value: how long its encoding is, that it can be written, and what is read as one.
-use Rattle.std.proofs.Common.{◌≡◌, ℕ, ℤ, List, length, refl, ap, ◌∙◌, arith, ⊎_elim}
+use Rattle.std.proofs.Common.{◌≡◌, ℕ, ◌≤◌, ℤ, List, length, refl, ap, ◌∙◌, arith, ⊎_elim}
 use Rattle.std.specs.Borrow.{Bor}
+use Rattle.libspa.specs.DeepValues.{levels_without_memory}
+use Rattle.libspa.specs.Depth.{depth_of}
 use Rattle.libspa.specs.Encoding.{encoding_of}
 use Rattle.libspa.specs.Front.{HasFront, Begins}
 use Rattle.libspa.specs.Kind.{int, long}
@@ -32,6 +34,11 @@ mode_writable m = record {
       ⊎_elim (λ l. absurd (omega (arith, l)))
       (⊎_elim (⊎_elim (λ l. absurd (omega (arith, l))) (⊎_elim absurd (⊎_elim absurd absurd))) (⊎_elim absurd absurd));
 }
+
+pub mode_shallow : (m : Mode) → depth_of (mode_value m) ≤ levels_without_memory
+mode_shallow m =
+    let two : 2 ≤ 512 = omega arith in
+    two
 
 -- Of two members, what is read as a struct of them is their values' struct, and this is read so.
 abbrev pub ReadsTwo : {A B : Type 0} → (Tree → A → Type 0) → (Tree → B → Type 0) → Tree → A × (B × Unit {0}) → Type 0

@@ -45,6 +45,8 @@ pub use Rattle.spa_typed_write.specs.Success
 pub use Rattle.spa_typed_write.specs.Unfinished
 pub use Rattle.spa_typed_write.specs.Listed
 pub use Rattle.spa_typed_write.specs.Complete
+pub use Rattle.spa_typed_write.specs.Parts as WrittenParts
+pub use Rattle.spa_write.specs.DeepValues
 pub use Rattle.spa_scan.specs.Canonical
 pub use Rattle.spa_scan.specs.Depth
 pub use Rattle.spa_rewrite.specs.Rewriting

@@ -218,7 +218,7 @@ fn is_so_behind(
     Ok(found == answer && before == BEFORE && appended == encodings)
 }
 
-/// Whether the rewriting in place is this one, behind which nothing else changes.
+/// Whether the rewriting in place is this one.
 fn is_so_in_place(
     alloc: Global,
     list: &[u8],
@@ -230,8 +230,8 @@ fn is_so_in_place(
     is_left_so(found, bytes.as_slice(), list, encodings, answer)
 }
 
-/// Whether the rewriting into a buffer of so many bytes is this one, behind which nothing else changes. To a buffer that is shorter than the list
-/// nothing is written, and the length alone answered.
+/// Whether the rewriting into a buffer of so many bytes is this one, and nothing changes behind as many bytes as the list has. To a buffer that is
+/// shorter than the list nothing is written, and the length alone answered; nor is anything where the list is refused.
 fn is_so_in_room(
     alloc: Global,
     list: &[u8],
@@ -239,21 +239,28 @@ fn is_so_in_room(
     encodings: &[u8],
     answer: Answer,
 ) -> Result<bool, AllocError> {
-    let mut out = filled(alloc, &[], room)?;
+    let mut out = filled(alloc, room)?;
     let found = match rewrite_into_leniently(alloc, list, out.as_mut_slice()) {
         Ok(len) if len == encodings.len() => Ok(()),
         Ok(_) => return Ok(false),
         Err(refusal) => answer_of(Err(refusal))?,
     };
-    let written = if room < list.len() { &[] } else { encodings };
-    let wanted = filled(alloc, written, room)?;
-    Ok(found == answer && out.as_slice() == wanted.as_slice())
+    let untouched = filled(alloc, room)?;
+    let is_unwritten = room < list.len() || answer.is_err();
+    let written = if is_unwritten { &[] } else { encodings };
+    let behind = if is_unwritten { 0 } else { list.len() };
+    let (out, untouched) = (out.as_slice(), untouched.as_slice());
+    Ok(
+        found == answer
+            && out.get(..written.len()) == Some(written)
+            && out.get(behind..) == untouched.get(behind..),
+    )
 }
 
-/// A buffer of so many bytes that begins with these.
-fn filled(alloc: Global, first: &[u8], room: usize) -> Result<Vec<u8>, AllocError> {
-    let mut out = Vec::from_slice(alloc, first)?;
-    for _ in first.len()..room {
+/// A buffer of so many bytes.
+fn filled(alloc: Global, len: usize) -> Result<Vec<u8>, AllocError> {
+    let mut out = Vec::new(alloc);
+    for _ in 0..len {
         out.push(FILL)?;
     }
     Ok(out)

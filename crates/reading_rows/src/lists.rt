@@ -96,7 +96,7 @@ fn is_so_in_parts(
     }
 }
 
-/// Whether `rewrite_in_place` gives this answer, and writes these encodings with no change to the bytes behind them.
+/// Whether `rewrite_in_place` gives this answer, and puts these encodings at the front.
 fn is_so_in_place(
     alloc: Global,
     input: &[u8],
@@ -108,7 +108,7 @@ fn is_so_in_place(
     is_left_so(found, bytes.as_slice(), input, encodings, answer)
 }
 
-/// Whether a rewriting in place answered so, and left the bytes of the input so.
+/// Whether a rewriting in place answered so, and put these encodings at the front; where it is refused, the bytes of the input are unchanged.
 pub(crate) fn is_left_so<P: Drop>(
     found: Result<usize, (usize, DeserializeError<P>)>,
     bytes: &[u8],
@@ -117,11 +117,7 @@ pub(crate) fn is_left_so<P: Drop>(
     answer: Answer,
 ) -> Result<bool, AllocError> {
     match found {
-        Ok(len) => Ok(
-            answer.is_ok()
-                && bytes.get(..len) == Some(encodings)
-                && bytes.get(len..) == input.get(len..),
-        ),
+        Ok(len) => Ok(answer.is_ok() && bytes.get(..len) == Some(encodings)),
         Err((_, DeserializeError::OutOfMemory)) => Err(AllocError),
         Err((place, error)) => {
             let left = input.len().saturating_sub(place);

@@ -183,9 +183,8 @@ pub made_value : (s : State) (v : Tree) (old new : BuilderFields) (r : Result (U
     Makes (step s (add v)) old new r → MakesValue s v old new r
 made_value s v old new r m = inl m
 
-pub refused_value : (v : Tree) (old new : List ℕ) (e : GenError) →
-    RefusesPiece (HasNul v) (IsTooLarge v) (λ d. d ≡ OutOfMemory) old new e →
-    RefusesValue v (errno_of e)
+pub refused_value : {lacks : GenError → Type 0} (v : Tree) (old new : List ℕ) (e : GenError) →
+    RefusesPiece (HasNul v) (IsTooLarge v) lacks old new e → RefusesValue v (errno_of e)
 refused_value v old new NulInText r = inl (refl, r.cause.0)
 refused_value v old new TooLarge r = inr (inr (refl, r.cause.0))
 refused_value v old new Full r = inr (inl refl)

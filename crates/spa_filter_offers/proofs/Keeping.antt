@@ -27,14 +27,6 @@ module _ (P : Fixed → Type 0) (x : Fixed) (old : List Fixed) where
             (λ h. inl h, λ h. elim h [ inl c ↦ c | inr p ↦ subst (Contains old) (sym p.0) there ]);
       }
 
-  -- one more that was there if it is admitted
-  pub IsOneMoreKept-known : (P x → Contains old x) → IsOneMoreKept P x old old
-  IsOneMoreKept-known known =
-      record {
-        each = λ y.
-            (λ h. inl h, λ h. elim h [ inl c ↦ c | inr p ↦ subst (Contains old) (sym p.0) (known (subst P p.0 p.1)) ]);
-      }
-
   -- one more that is appended
   pub IsOneMoreKept-pushed : P x → IsOneMoreKept P x old (old ++ x ∷ [])
   IsOneMoreKept-pushed h =

@@ -1,6 +1,7 @@
 //! The elements of an Enum that another offer admits.
-ghost use Rattle.std.specs.Prelude.{◌↔◌, ◌∷◌, Contains, IfOk, IfSome, IsTrue, OnOk, map};
+ghost use Rattle.std.specs.Prelude.{◌≡◌, ◌↔◌, ◌∷◌, Contains, IfOk, IfSome, IsTrue, OnOk, map};
 ghost use Rattle.spa_filter_offers.specs.Numbering.{HasAll};
+ghost use Rattle.spa_filter_offers.specs.declared.kept.Slot.TheVariants.{Known};
 ghost use Rattle.spa_filter_offers.specs.Offers.{IsIndexed, IsKept, IsOneMoreKept, OfferAdmits};
 
 use crate::element::Element;
@@ -11,6 +12,9 @@ use std::collections::BTreeSet;
 
 /// The greatest number of alternatives that are searched one by one.
 const FEW: usize = 16;
+
+/// The greatest number of slots of a hash table that are searched for an element.
+const MOST_SEARCHED: usize = 256;
 
 /// Of an element and others, those that an offer admits, each once, in order. Refused only for want of memory.
 #[inline(never)]
@@ -30,7 +34,7 @@ pub(crate) fn kept<T: Element>(
     if let Offer::Among(_, _) = other {
         return kept_of_many(alloc, first, others, other);
     }
-    match kept_in_order(alloc, first, others, other)? {
+    match kept_by_hash(alloc, first, others, other)? {
         Some(values) => Ok(values),
         None => kept_of_many(alloc, first, others, other),
     }
@@ -82,55 +86,82 @@ fn keep_one<T: Element>(
     Ok(())
 }
 
-/// How elements have followed one another so far by their search keys.
+/// Where the search for an element in a hash table ends.
 #[derive(Clone, Copy)]
-struct Sequence {
-    last: Option<Numbers>,
-    is_rising: bool,
-    is_falling: bool,
+enum Slot {
+    /// The list has the element.
+    Known,
+    /// The slot at this index is free for it.
+    Free(usize),
+    /// Too many slots are taken.
+    Crowded,
 }
 
-/// Whether the search keys still only rise or only fall with this one, so that none has come twice.
-fn goes_on(sequence: &mut Sequence, next: Numbers) -> bool {
-    if let Some(last) = sequence.last {
-        sequence.is_rising = sequence.is_rising && last < next;
-        sequence.is_falling = sequence.is_falling && next < last;
+/// The index of the first slot that is searched for a search key, one of so many: products of the key with 2^64 over the golden ratio are spread over
+/// these.
+fn first_slot(numbers: &Numbers, firsts: u64) -> usize {
+    let key = numbers.signed.cast_unsigned() ^ numbers.first ^ numbers.second.rotate_left(32);
+    let hash = key.wrapping_mul(0x9e37_79b9_7f4a_7c15) >> 32;
+    (hash.wrapping_mul(firsts) >> 32) as usize
+}
+
+/// Searches for an element of a list in its hash table. A slot holds the index of an element, counted from 1, or 0 where it is free.
+fn search<T: Element>(slots: &[u32], values: &[T], value: &T, first: usize) -> Slot
+    ensures { result ≡ Known → Contains (map T.fixed values.now) (T.fixed value.now) }
+{
+    for place in first..first.saturating_add(MOST_SEARCHED) {
+        let Some(index) = slots.get(place) else {
+            return Slot::Crowded;
+        };
+        if *index == 0 {
+            return Slot::Free(place);
+        }
+        let Some(known) = values.get(*index as usize - 1) else {
+            return Slot::Crowded;
+        };
+        if is_same(value, known) {
+            return Slot::Known;
+        }
     }
-    sequence.last = Some(next);
-    sequence.is_rising || sequence.is_falling
+    Slot::Crowded
 }
 
-/// Appends an element that the offer admits to the list, unless it is the first one, which the list has where it is admitted. False: the search
-/// keys no longer only rise or only fall.
-fn keep_next<T: Element>(
+/// Appends an element that the offer admits to the list, where the hash table of the list doesn't have it yet. False: the table is too crowded for
+/// it.
+fn keep_hashed<T: Element>(
     values: &mut Vec<T>,
-    sequence: &mut Sequence,
-    first: &T,
+    slots: &mut [u32],
     value: &T,
     offer: &Offer<'_, T>,
 ) -> Result<bool, AllocError>
-    requires first { OfferAdmits T.fixed offer.now (T.fixed first.now)
-        → Contains (map T.fixed values.old.items) (T.fixed first.now) }
-    ensures { IfOk result (λ goes_on. IsTrue goes_on
+    ensures { IfOk result (λ is_done. IsTrue is_done
         → IsOneMoreKept (OfferAdmits T.fixed offer.now) (T.fixed value.now)
         (map T.fixed values.old.items) (map T.fixed values.new.items)) }
 {
-    if is_same(value, first) {
-        return Ok(true);
-    }
     if !admits(offer, value) {
         return Ok(true);
     }
-    if !goes_on(sequence, value.numbers()) {
-        return Ok(false);
-    }
+    // The search never comes to the end of the table.
+    let firsts = slots.len().saturating_sub(MOST_SEARCHED);
+    let first = first_slot(&value.numbers(), firsts as u64);
+    let place = match search(slots, values.as_slice(), value, first) {
+        Slot::Known => return Ok(true),
+        Slot::Free(place) => place,
+        Slot::Crowded => return Ok(false),
+    };
     values.push(*value)?;
+    let Ok(index) = u32::try_from(values.len()) else {
+        return Ok(false);
+    };
+    if let Some(slot) = slots.get_mut(place) {
+        *slot = index;
+    }
     Ok(true)
 }
 
-/// Of an element and others, those that an offer admits, in one pass without searches. None: the search keys of the others neither only rise nor
-/// only fall, so that one may have come twice.
-fn kept_in_order<T: Element>(
+/// Of an element and others, those that an offer admits, in a time that grows with their number. None: the hash table of those that are kept is too
+/// crowded.
+fn kept_by_hash<T: Element>(
     alloc: Global,
     first: &T,
     others: &[T],
@@ -141,14 +172,15 @@ fn kept_in_order<T: Element>(
         (map T.fixed kept.items))) }
 {
     let mut values = Vec::with_capacity(alloc, others.len())?;
-    let mut sequence = Sequence {
-        last: None,
-        is_rising: true,
-        is_falling: true,
-    };
-    keep_one(&mut values, first, other)?;
+    let mut slots = vec![in alloc; 0; others
+        .len()
+        .saturating_mul(2)
+        .saturating_add(MOST_SEARCHED)]?;
+    if !keep_hashed(&mut values, &mut slots, first, other)? {
+        return Ok(None);
+    }
     for value in others {
-        if !keep_next(&mut values, &mut sequence, first, value, other)? {
+        if !keep_hashed(&mut values, &mut slots, value, other)? {
             return Ok(None);
         }
     }

@@ -1,5 +1,5 @@
 -- Why pods aren't rewritten in place; and what was written elsewhere and copied back.
-use Rattle.std.proofs.Common.{◌≡◌, ℕ, ◌+◌, ◌-◌, ◌≤◌, inl, inr, List, [], ◌++◌, length, take, drop, refl, sym, ap, ◌∙◌, subst, arith, length-append}
+use Rattle.std.proofs.Common.{◌≡◌, ℕ, ◌+◌, ◌-◌, ◌≤◌, List, [], ◌++◌, length, take, drop, refl, sym, ap, ◌∙◌, subst, arith, length-append}
 use Rattle.std.specs.Borrow.{Bor}
 use Rattle.std.specs.Prelude.{Option, Some, None}
 use Rattle.std.proofs.lemmas.List.{drop_at, take_at}
@@ -11,15 +11,13 @@ use Rattle.spa_fixed_sized.specs.declared.fault.Refusal.{Refusal}
 use Rattle.spa_fixed_sized.specs.declared.fault.Refusal.TheVariants as refusal
 use Rattle.spa_bodies.specs.Reading.{OnFault, OnMemory}
 use Rattle.spa_bodies.specs.Refusing.{error_of}
-use Rattle.spa_in_place.specs.InPlace.{IsFaultOf, NamesOffset, RefusesListAt, WritesShorter, moved}
-use Rattle.spa_in_place.proofs.ChangedPods.{behind_canonical}
+use Rattle.spa_in_place.specs.InPlace.{IsFaultOf, NamesOffset, RefusesListAt, moved}
 use Rattle.spa_rewrite.specs.Memory.{AsksMemory}
 use Rattle.spa_rewrite.specs.Offsets.{IsFaultAt, StandsAt, from_pod}
-use borrow.Rule.Slice.PartMut.{put_mid}
 use Rattle.spa_scan.specs.Canonical.{AreCanonical}
 use Rattle.spa_rewrite.specs.Rewriting.{AreRewritten, IsLeft, RefusesFront, RefusesList}
 use Rattle.spa_rewrite.specs.Shorter.{AreRewrittenAs, AreShorter}
-use Rattle.spa_rewrite.proofs.FirstPods.{accepted_behind, left_behind_pods}
+use Rattle.spa_rewrite.proofs.FirstPods.{left_behind_pods}
 use Rattle.spa_rewrite.proofs.Stretches.{list_refused}
 
 -- what is left begins behind so many bytes
@@ -113,44 +111,6 @@ others_left input first others i = ap (drop (length first)) i ∙ drop_at first 
 pub rewritten_room : (pods out : List ℕ) → AreRewritten pods [] out → length out ≤ length pods
 rewritten_room pods out w = let s = short_members w.0 pods w.1 in let l = ap length w.2 in omega arith
 
-rewritten_shorter : (pods out : List ℕ) → AreRewritten pods [] out → AreShorter pods (length pods - length out)
-rewritten_shorter pods out w =
-    let s = short_members w.0 pods w.1 in
-    let l = ap length w.2 in
-    record { values = w.0; members = w.1; long = omega arith }
-
--- what was written elsewhere of the others is copied there
-pub record CopiedBehind (input new : List ℕ) (end : ℕ) : Type 0 where
-  pub rewritten : AreRewritten input [] (take end new)
-  pub within : end ≤ length input
-  pub behind : drop end new ≡ drop end input
-
-pub copied_behind : (input first others written sub_old sub : List ℕ) (k l : ℕ) → input ≡ first ++ others → AreCanonical first →
-    AreRewritten others [] written → l ≡ length written → k ≡ length input - length first → sub_old ≡ drop (length first) input →
-    sub ≡ written ++ drop (length written) sub_old → CopiedBehind input (put_mid (length first) k input sub) (length first + l)
-copied_behind input first others written sub_old sub k l i c w z kl so b =
-    let n = length others - length written in
-    let few = rewritten_room others written w in
-    let left : sub_old ≡ others = so ∙ others_left input first others i in
-    let old_is = ap length left in
-    let many : length sub_old - n ≡ length written = omega arith in
-    let there : WritesShorter sub_old sub_old sub n = record {
-      rewritten = subst (AreRewritten sub_old [])
-          (sym (ap (λ m. take m sub) many ∙ ap (take (length written)) b ∙ take_at written (drop (length written) sub_old) (length written) refl))
-          (subst (λ x. AreRewritten x [] written) (sym left) w);
-      behind = ap (λ m. drop m sub) many ∙ ap (drop (length written)) b ∙ drop_at written (drop (length written) sub_old) (length written) refl
-          ∙ ap (λ m. drop m sub_old) (sym many);
-    } in
-    let all = behind_canonical input first others sub_old sub k n i c kl so (rewritten_shorter others written w) there in
-    let whole = ap length i ∙ length-append first others in
-    let at : length input - n ≡ length first + l = omega arith in
-    let new = put_mid (length first) k input sub in
-    record {
-      rewritten = subst (λ m. AreRewritten input [] (take m new)) at all.rewritten;
-      within = omega arith;
-      behind = subst (λ m. drop m new ≡ drop m input) at all.behind;
-    }
-
 -- the length that is answered
 pub into_counted : (input : List ℕ) (n len : ℕ) → AreShorter input n → len ≡ length input - n → AreRewrittenAs input len
 into_counted input n len s e = let l = s.long in record { values = s.values; members = s.members; long = omega arith }
@@ -171,8 +131,7 @@ on_memory P error.OutOfMemory h = h refl
 
 -- what memory is asked for behind the first pods
 pub asks_behind : (input first others : List ℕ) → input ≡ first ++ others → AreCanonical first → AsksMemory others → AsksMemory input
-asks_behind input first others i k (inl m) = inl (accepted_behind input first others k.values i k.members m)
-asks_behind input first others i k (inr d) = inr (d.0, left_behind_pods input first others d.0 k.values i k.members d.1, d.2)
+asks_behind input first others i k d = (d.0, left_behind_pods input first others d.0 k.values i k.members d.1, d.2)
 
 pub deep_memory : {I : Type 0} (P : Type 0) (e : DeserializeError I) → P → OnMemory P e
 deep_memory P e h = on_memory P e (λ z. h)

@@ -1,5 +1,5 @@
 -- What a rewriting in place leaves, and why it is refused: docs/FORMAT.md, "The encoding of a value", "Faults".
-use Rattle.std.specs.Prelude.{⊤, ◌≡◌, ◌+◌, ◌-◌, ℕ, List, [], Option, Some, None, drop, length, take}
+use Rattle.std.specs.Prelude.{⊤, ◌≡◌, ◌+◌, ℕ, List, Option, Some, None, drop}
 use Rattle.std.specs.Borrow.{Bor}
 use Rattle.spa_fixed_sized.specs.declared.fault.DeserializeError.{DeserializeError}
 use Rattle.spa_fixed_sized.specs.declared.fault.DeserializeError.TheVariants as error
@@ -11,11 +11,6 @@ use Rattle.spa_bodies.specs.Reading.{NamesFaultKind, OnFault}
 use Rattle.spa_rewrite.specs.Memory.{AsksMemory}
 use Rattle.spa_rewrite.specs.Offsets.{StandsAt, from_pod}
 use Rattle.spa_rewrite.specs.Rewriting.{AreRewritten, IsLeft, RefusesFront}
-
--- the encodings of pods, which are so many bytes shorter, are at the front of an output, and what is behind them is as it was
-pub record WritesShorter (pods old new : List ℕ) (surplus : ℕ) : Type 0 where
-  pub rewritten : AreRewritten pods [] (take (length pods - surplus) new)
-  pub behind : drop (length pods - surplus) new ≡ drop (length pods - surplus) old
 
 -- the first refusal has the cause of the second one, whose place is given by bytes
 abbrev pub IsFaultOf : {I : Type 0} → DeserializeError I → DeserializeError (Bor (List ℕ)) → Type 0

@@ -1,6 +1,6 @@
 -- The items of a pod, and of those that stand one after another.
-use Rattle.std.proofs.Common.{◌≡◌, ◌≢◌, ℕ, suc, ◌+◌, ◌-◌, ◌*◌, ◌<◌, ◌≤◌, List, [], ◌∷◌, ◌++◌, length, take, drop, map, refl, sym, ap, subst, ◌∙◌, arith, length-take, length-drop}
-use Rattle.std.specs.Prelude.{Bool, true, false, if◌then◌else◌}
+use Rattle.std.proofs.Common.{◌≡◌, ◌≢◌, ℕ, suc, ◌+◌, ◌-◌, ◌*◌, ◌<◌, ◌≤◌, List, [], ◌∷◌, ◌++◌, length, take, drop, refl, sym, ap, subst, ◌∙◌, arith, length-take, length-drop, true≢false}
+use Rattle.std.specs.Prelude.{Bool, true, false, if◌then◌else◌, nat_eq}
 use Rattle.std.specs.Simd.{first_chunks}
 use Rattle.std.proofs.lemmas.Bool.{le-leb, ne_eqb}
 use Rattle.spa_events.specs.Inside.{IsInside, key_size}
@@ -10,14 +10,14 @@ use Rattle.spa_format.specs.Walk.{extent_behind, walk_behind}
 use Rattle.spa_format.specs.Tree.{object_type, struct_type}
 use Rattle.spa_format.specs.Words.{body_of, extent, header_size, word_at}
 use Rattle.spa_format.proofs.WalkLemmas.{walk_behind-end, walk_behind-there}
-use Rattle.spa_items.specs.Contents.{content, element, element_count, elements, values_of, word_or}
+use Rattle.spa_items.specs.Contents.{before_values, content, element, element_count, elements, elements_along, flags_of_choice, values_behind, values_of, values_taken, word_or}
 use Rattle.spa_items.specs.Items.{head, items_along, items_in, items_inside, items_within}
 use Rattle.spa_items.specs.Puts.{AreElements, ArePut, IsFirst, first_of, item_of}
 use Rattle.spa_items.specs.declared.elements.Elements.{Elements}
 use Rattle.spa_items.specs.declared.item.Item.{Item}
 use Rattle.spa_items.specs.declared.listing.First.{First}
 use Rattle.spa_events.proofs.Places.{not_object}
-use Rattle.spa_items.proofs.Overlays.{ArePutOf, all_put, begun, more_put}
+use Rattle.spa_items.proofs.Overlays.{ArePutOf, all_put, begun, more_put, none_put, renamed}
 
 none_within : (depth : ℕ) (keyed : Bool) (at : ℕ) (p : List ℕ) → items_within 0 depth keyed at p ≡ []
 unfolding items_within
@@ -39,6 +39,21 @@ pub no_levels : (levels depth : ℕ) (keyed : Bool) (at : ℕ) (b : List ℕ) �
 no_levels levels depth keyed at b e =
     ap (λ n. items_in n depth keyed at b) e ∙ no_items_along depth keyed at (walk_behind (key_size keyed) b)
 
+-- the item, as one that begins at this byte
+abbrev begins_at : Item → ℕ → Item
+begins_at x n = record {
+  type_ = x.type_;
+  key = x.key;
+  flags = x.flags;
+  child = x.child;
+  choice_flags = x.choice_flags;
+  reserved = x.reserved;
+  depth = x.depth;
+  at = n;
+  first = x.first;
+  second = x.second;
+}
+
 -- the item of the first pod is that of its parts
 its_head : (keyed : Bool) (depth at body_at : ℕ) (b : List ℕ) (f : First) → IsFirst keyed b f → body_at ≡ at + key_size keyed + 8 →
     item_of depth body_at f ≡ head keyed depth at (first_of keyed b)
@@ -46,12 +61,27 @@ its_head keyed depth at body_at b f i e =
     let p = first_of keyed b in
     let t = word_at (drop (key_size keyed) p) 4 in
     let make : ℕ → ℕ → ℕ → ℕ → List ℕ → Item = λ k l y x c.
-    let w = content y x c in record { type_ = y; key = k; flags = l; child = word_or (values_of y c) 4; depth = depth; first = w.first; second = w.second } in
+    let w = content y x c in
+    record {
+      type_ = y;
+      key = k;
+      flags = l;
+      child = word_or (values_of y c) 4;
+      choice_flags = flags_of_choice y c;
+      reserved = 0;
+      depth = depth;
+      at = x - 8;
+      first = w.first;
+      second = w.second;
+    } in
+    let here = make (if keyed then word_at p 0 else 0) (if keyed then word_at p 4 else 0) t (at + key_size keyed + 8) (body_of (drop (key_size keyed) p)) in
+    let begins : at + key_size keyed + 8 - 8 ≡ at + key_size keyed = omega arith in
     ap (λ k. make k f.flags f.type_ body_at f.body.now) i.its_key
     ∙ ap (λ l. make (if keyed then word_at p 0 else 0) l f.type_ body_at f.body.now) i.its_flags
     ∙ ap (λ y. make (if keyed then word_at p 0 else 0) (if keyed then word_at p 4 else 0) y body_at f.body.now) i.its_type
     ∙ ap (λ x. make (if keyed then word_at p 0 else 0) (if keyed then word_at p 4 else 0) t x f.body.now) e
     ∙ ap (λ c. make (if keyed then word_at p 0 else 0) (if keyed then word_at p 4 else 0) t (at + key_size keyed + 8) c) i.its_body
+    ∙ ap (λ n. begins_at here n) begins
 
 -- the item of the pod at the front
 pub front_head : (at : ℕ) (b : List ℕ) (f : First) → IsFirst false b f → item_of 0 (at + 8) f ≡ head false 0 at (front_of b)
@@ -102,13 +132,13 @@ none_listed levels depth keyed at b h = ap (items_along (items_within levels dep
 
 -- The elements that are still to be listed.
 
-pub elements_begun : (place type depth size count : ℕ) (bytes : List ℕ) (old : List Item) → let all = map (element type depth) (first_chunks size count bytes) in
-    ArePutOf place all (map (element type depth) (first_chunks size (count - 0) bytes)) old (place + 0) old
-elements_begun place type depth size count bytes old =
-    let all = map (element type depth) (first_chunks size count bytes) in
+pub elements_begun : (place type depth size count at : ℕ) (bytes : List ℕ) (old : List Item) → let all = elements_along type depth size at (first_chunks size count bytes) in
+    ArePutOf place all (elements_along type depth size at (first_chunks size (count - 0) bytes)) old (place + 0) old
+elements_begun place type depth size count at bytes old =
+    let all = elements_along type depth size at (first_chunks size count bytes) in
     let e : count ≡ count - 0 = omega arith in
     let p : place ≡ place + 0 = omega arith in
-    subst (λ n. ArePutOf place all (map (element type depth) (first_chunks size n bytes)) old (place + 0) old) e
+    subst (λ n. ArePutOf place all (elements_along type depth size at (first_chunks size n bytes)) old (place + 0) old) e
     (subst (λ k. ArePutOf place all all old k old) p (begun place all old))
 
 room_left : (n size l : ℕ) → suc n * size ≤ l → (size ≤ l) × (n * size ≤ l - size)
@@ -119,36 +149,56 @@ element_room count done size l h r =
     let e : count - done ≡ suc (count - (done + 1)) = omega arith in
     room_left (count - (done + 1)) size l (subst (λ n. n * size ≤ l) e r)
 
-pub element_listed : (place type depth size count done : ℕ) (left first others : List ℕ) (x : Item) (all old mid new : List Item) → done < count → x ≡ element type depth first → first ≡ take size left → others ≡ drop size left →
-    ArePutOf place all (map (element type depth) (first_chunks size (count - done) left)) old (place + done) mid →
+pub element_listed : (place type depth size count done begins : ℕ) (left first others : List ℕ) (x : Item) (all old mid new : List Item) → done < count →
+    x ≡ element type depth begins first → first ≡ take size left → others ≡ drop size left →
+    ArePutOf place all (elements_along type depth size begins (first_chunks size (count - done) left)) old (place + done) mid →
     ArePut (place + done) (x ∷ []) mid (place + done + 1) new →
-    ArePutOf place all (map (element type depth) (first_chunks size (count - (done + 1)) others)) old (place + (done + 1)) new
-element_listed place type depth size count done left first others x all old mid new h ex ef eo a p =
+    ArePutOf place all (elements_along type depth size (begins + size) (first_chunks size (count - (done + 1)) others)) old (place + (done + 1)) new
+element_listed place type depth size count done begins left first others x all old mid new h ex ef eo a p =
     let m = count - (done + 1) in
     let e : count - done ≡ suc m = omega arith in
     let k : place + done + 1 ≡ place + (done + 1) = omega arith in
-    let b = subst (λ n. ArePutOf place all (map (element type depth) (first_chunks size n left)) old (place + done) mid) e a in
-    let q = subst (λ y. ArePut (place + done) (y ∷ []) mid (place + done + 1) new) (ex ∙ ap (element type depth) ef) p in
-    subst (λ x. ArePutOf place all (map (element type depth) (first_chunks size m x)) old (place + (done + 1)) new) (sym eo)
-    (subst (λ x. ArePutOf place all (map (element type depth) (first_chunks size m (drop size left))) old x new) k
-    (more_put place (place + done) (place + done + 1) all (element type depth (take size left) ∷ []) (map (element type depth) (first_chunks size m (drop size left))) old mid new b q))
+    let behind : List ℕ → List Item = λ b. elements_along type depth size (begins + size) (first_chunks size m b) in
+    let b = subst (λ n. ArePutOf place all (elements_along type depth size begins (first_chunks size n left)) old (place + done) mid) e a in
+    let q = subst (λ y. ArePut (place + done) (y ∷ []) mid (place + done + 1) new) (ex ∙ ap (element type depth begins) ef) p in
+    subst (λ x. ArePutOf place all (behind x) old (place + (done + 1)) new) (sym eo)
+    (subst (λ x. ArePutOf place all (behind (drop size left)) old x new) k
+    (more_put place (place + done) (place + done + 1) all (element type depth begins (take size left) ∷ []) (behind (drop size left)) old mid new b q))
 
-pub elements_listed : (place type depth size count done : ℕ) (bytes left : List ℕ) (old new : List Item) → count ≤ done →
-    ArePutOf place (map (element type depth) (first_chunks size count bytes)) (map (element type depth) (first_chunks size (count - done) left)) old (place + done) new →
-    ArePut place (map (element type depth) (first_chunks size count bytes)) old (place + done) new
-elements_listed place type depth size count done bytes left old new h a =
+pub elements_listed : (place type depth size count done begins at : ℕ) (bytes left : List ℕ) (old new : List Item) → count ≤ done →
+    ArePutOf place (elements_along type depth size at (first_chunks size count bytes)) (elements_along type depth size begins (first_chunks size (count - done) left)) old (place + done) new →
+    ArePut place (elements_along type depth size at (first_chunks size count bytes)) old (place + done) new
+elements_listed place type depth size count done begins at bytes left old new h a =
     let e : count - done ≡ 0 = omega arith in
-    all_put place (place + done) (map (element type depth) (first_chunks size count bytes)) (map (element type depth) (first_chunks size (count - done) left)) old new a
-    (ap (λ k. map (element type depth) (first_chunks size k left)) e)
+    all_put place (place + done) (elements_along type depth size at (first_chunks size count bytes))
+    (elements_along type depth size begins (first_chunks size (count - done) left)) old new a
+    (ap (λ k. elements_along type depth size begins (first_chunks size k left)) e)
 
 -- the elements of a body, by their parts
-pub their_parts : (type depth : ℕ) (b : List ℕ) (them : Elements) → AreElements type b them →
-    map (element them.type_ depth) (first_chunks them.size them.count them.bytes.now) ≡ elements type depth b
-their_parts type depth b them a =
-    ap (λ t. map (element t depth) (first_chunks them.size them.count them.bytes.now)) a.its_type
-    ∙ ap (λ s. map (element (word_or (values_of type b) 4) depth) (first_chunks s them.count them.bytes.now)) a.its_size
-    ∙ ap (λ n. map (element (word_or (values_of type b) 4) depth) (first_chunks (word_or (values_of type b) 0) n them.bytes.now)) a.its_count
-    ∙ ap (λ x. map (element (word_or (values_of type b) 4) depth) (first_chunks (word_or (values_of type b) 0) (element_count type b) x)) a.its_bytes
+pub their_parts : (type depth at : ℕ) (b : List ℕ) (them : Elements) → AreElements type at b them →
+    elements_along them.type_ depth them.size them.at (first_chunks them.size them.count them.bytes.now) ≡ elements type depth at b
+their_parts type depth at b them a =
+    let v = values_of type b in
+    let make : ℕ → ℕ → ℕ → ℕ → List ℕ → List Item = λ t s x n d. elements_along t depth s x (first_chunks s n d) in
+    ap (λ t. make t them.size them.at them.count them.bytes.now) a.its_type
+    ∙ ap (λ s. make (word_or v 4) s them.at them.count them.bytes.now) a.its_size
+    ∙ ap (λ x. make (word_or v 4) (word_or v 0) x them.count them.bytes.now) a.its_at
+    ∙ ap (λ n. make (word_or v 4) (word_or v 0) (at + before_values type) n them.bytes.now) a.its_count
+    ∙ ap (λ d. make (word_or v 4) (word_or v 0) (at + before_values type) (element_count type b) d) a.its_bytes
+
+-- only an array and a choice have elements
+none_of : (x y : Bool) (depth at : ℕ) (b : List ℕ) → x ≡ false → y ≡ false →
+    let c = if x then b else (if y then drop 8 b else []) in
+    elements_along (word_or c 4) depth (word_or c 0) (at + (if y then 8 + 8 else 8))
+    (first_chunks (word_or c 0) (if y then values_taken (word_or b 0) (values_behind c) else values_behind c) (drop 8 c)) ≡ []
+none_of true y depth at b p q = absurd (true≢false p)
+none_of false true depth at b p q = absurd (true≢false q)
+none_of false false depth at b p q = refl
+
+pub no_elements : (place type depth at : ℕ) (b : List ℕ) (out : List Item) → type ≢ 13 → type ≢ 19 → ArePut place (elements type depth at b) out place out
+no_elements place type depth at b out n m =
+    renamed place place [] (elements type depth at b) out out
+    (sym (none_of (nat_eq type 13) (nat_eq type 19) depth at b (ne_eqb type 13 n) (ne_eqb type 19 m))) (none_put place out)
 
 -- what is inside a struct, an object, or another pod
 pub in_struct : (n depth at type : ℕ) (b : List ℕ) → type ≡ 14 → items_in n depth false at b ≡ items_inside (items_within n depth) type depth at b
@@ -168,12 +218,12 @@ pub in_object : (n depth at type : ℕ) (b ps : List ℕ) → type ≢ 14 → is
     items_in n depth true (at + 8) ps ≡ items_inside (items_within n depth) type depth at b
 in_object n depth at type b ps ne e ep =
     ap (items_in n depth true (at + 8)) ep
-    ∙ struct_or (is_struct type) (is_object type (length b)) (items_in n depth false at b) (items_in n depth true (at + 8) (drop 8 b)) (elements type depth b) (ne_eqb type 14 ne) e
+    ∙ struct_or (is_struct type) (is_object type (length b)) (items_in n depth false at b) (items_in n depth true (at + 8) (drop 8 b)) (elements type depth at b) (ne_eqb type 14 ne) e
 
 pub in_other : (n depth at type : ℕ) (b : List ℕ) → type ≢ 14 → is_object type (length b) ≡ false →
-    elements type depth b ≡ items_inside (items_within n depth) type depth at b
+    elements type depth at b ≡ items_inside (items_within n depth) type depth at b
 in_other n depth at type b ne e =
-    neither (is_struct type) (is_object type (length b)) (items_in n depth false at b) (items_in n depth true (at + 8) (drop 8 b)) (elements type depth b) (ne_eqb type 14 ne) e
+    neither (is_struct type) (is_object type (length b)) (items_in n depth false at b) (items_in n depth true (at + 8) (drop 8 b)) (elements type depth at b) (ne_eqb type 14 ne) e
 
 pub in_pods : (n depth at type : ℕ) (b pods : List ℕ) (keyed : Bool) → IsInside type b keyed pods →
     items_in n depth keyed (at + key_size keyed) pods ≡ items_inside (items_within n depth) type depth at b
@@ -185,5 +235,5 @@ in_pods n depth at type b pods true i =
     in_object n depth at type b pods ne (subst (λ t. is_object t (length b) ≡ true) (sym i.0) (le-leb 8 (length b) i.1)) i.2
 
 pub in_none : (n depth at type : ℕ) (b : List ℕ) → type ≢ struct_type → (type ≡ object_type → length b < header_size) →
-    elements type depth b ≡ items_inside (items_within n depth) type depth at b
+    elements type depth at b ≡ items_inside (items_within n depth) type depth at b
 in_none n depth at type b s o = in_other n depth at type b s (not_object type (length b) o)

@@ -1,5 +1,5 @@
 -- The item of one pod: docs/FORMAT.md, "Items".
-use Rattle.std.specs.Prelude.{ℕ, ◌+◌, ◌-◌, ◌/◌, List, [], length, drop, map, min, if◌then◌else◌, nat_eq, nat_le}
+use Rattle.std.specs.Prelude.{ℕ, ◌+◌, ◌-◌, ◌*◌, ◌/◌, List, [], ◌∷◌, length, drop, min, if◌then◌else◌, nat_eq, nat_le, take}
 use Rattle.std.specs.Simd.{first_chunks}
 use Rattle.spa_format.specs.Kind.{bool_kind, id_kind, int_kind, long_kind, float_kind, double_kind, rectangle_kind, fraction_kind, fd_kind, type_number}
 use Rattle.spa_format.specs.Tree.{string_type, bytes_type, bitmap_type, array_type, object_type, pointer_type, choice_type, shape_number, none_choice, range_choice, step_choice}
@@ -71,20 +71,45 @@ content type at b =
     else (if nat_eq type object_type then both (word_or b 0) (word_or b 4)
     else fixed_content type b))))))
 
--- the item of a value without key
-abbrev pub element : (type depth : ℕ) → List ℕ → Item
-element type depth b =
+-- the flags of a choice; 0 of any other type
+abbrev pub flags_of_choice : ℕ → List ℕ → ℕ
+flags_of_choice type b = if nat_eq type choice_type then word_or b 4 else 0
+
+-- the item of a value without key, which begins at the byte `at`
+abbrev pub element : (type depth at : ℕ) → List ℕ → Item
+element type depth at b =
     let c = fixed_content type b in record {
       type_ = type;
       key = 0;
       flags = 0;
       child = 0;
+      choice_flags = 0;
+      reserved = 0;
       depth = depth;
+      at = at;
       first = c.first;
       second = c.second;
     }
 
--- the items of the elements of an array, or of the values that a choice takes
-abbrev pub elements : (type depth : ℕ) → List ℕ → List Item
-elements type depth b =
-    let c = values_of type b in map (element (word_or c 4) depth) (first_chunks (word_or c 0) (element_count type b) (drop header_size c))
+-- the items of values of one type and size one after another, the first of which begins at the byte `at`
+abbrev pub elements_along : (type depth size at : ℕ) → List (List ℕ) → List Item
+elements_along type depth size at [] = []
+elements_along type depth size at (b ∷ bs) = element type depth at b ∷ elements_along type depth size (at + size) bs
+
+-- how many bytes of a body are before an array's elements, or before a choice's values
+abbrev pub before_values : ℕ → ℕ
+before_values type = if nat_eq type choice_type then header_size + header_size else header_size
+
+-- the items of the elements of an array, or of the values that a choice takes, where the body begins at the byte `at`
+abbrev pub elements : (type depth at : ℕ) → List ℕ → List Item
+elements type depth at b =
+    let c = values_of type b in
+    elements_along (word_or c 4) depth (word_or c 0) (at + before_values type)
+    (first_chunks (word_or c 0) (element_count type b) (drop header_size c))
+
+-- the item of the element of this number, or of the value of it, counted from 0, where the body begins at the byte `at`
+abbrev pub element_at : (type depth at number : ℕ) → List ℕ → Item
+element_at type depth at number b =
+    let c = values_of type b in
+    let before = number * word_or c 0 in
+    element (word_or c 4) depth (at + before_values type + before) (take (word_or c 0) (drop before (drop header_size c)))

@@ -4,7 +4,7 @@ use Rattle.spa_events.specs.Inside.{key_size}
 use Rattle.spa_events.specs.Events.{is_object, is_struct}
 use Rattle.spa_format.specs.Walk.{walk_behind}
 use Rattle.spa_format.specs.Words.{body_of, header_size, word_at}
-use Rattle.spa_items.specs.Contents.{content, elements, values_of, word_or}
+use Rattle.spa_items.specs.Contents.{content, elements, flags_of_choice, values_of, word_or}
 use Rattle.spa_items.specs.declared.item.Item.{Item}
 
 -- the item of a pod with the key and flags before it, if there are any, which begin at the byte `at`
@@ -17,7 +17,10 @@ head keyed depth at p =
       key = if keyed then word_at p 0 else 0;
       flags = if keyed then word_at p 4 else 0;
       child = word_or (values_of type (body_of pod)) 4;
+      choice_flags = flags_of_choice type (body_of pod);
+      reserved = 0;
       depth = depth;
+      at = at + key_size keyed;
       first = c.first;
       second = c.second;
     }
@@ -33,7 +36,7 @@ abbrev pub items_inside : (Bool → ℕ → List ℕ → List Item) → (type de
 items_inside read type depth at b =
     if is_struct type then items_along (read false) at (walk_behind 0 b)
     else (if is_object type (length b) then items_along (read true) (at + header_size) (walk_behind header_size (drop header_size b))
-    else elements type depth b)
+    else elements type depth at b)
 
 -- the items of a pod, with key and flags where it is a property's, and of all pods and elements in it, down to this nesting depth
 unfoldable pub items_within : (levels depth : ℕ) → Bool → ℕ → List ℕ → List Item

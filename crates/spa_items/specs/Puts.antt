@@ -3,7 +3,7 @@ use Rattle.std.specs.Prelude.{◌≡◌, ℕ, zero, suc, ◌+◌, ◌-◌, ◌�
 use Rattle.spa_events.specs.Inside.{key_size}
 use Rattle.spa_format.specs.Words.{body_of, header_size, word_at}
 use Rattle.spa_format.specs.Walk.{extent_behind}
-use Rattle.spa_items.specs.Contents.{content, element_count, values_of, word_or}
+use Rattle.spa_items.specs.Contents.{before_values, content, element_count, flags_of_choice, values_of, word_or}
 use Rattle.spa_items.specs.Items.{items_in, items_within, overlaid}
 use Rattle.spa_items.specs.declared.elements.Elements.{Elements}
 use Rattle.spa_items.specs.declared.item.Item.{Item}
@@ -36,11 +36,12 @@ pub record IsFirst (keyed : Bool) (b : List ℕ) (first : First) : Type 0 where
   pub its_rest : first.rest.now ≡ drop (extent_behind (key_size keyed) b) b
   pub fits : length first.body.now + key_size keyed + header_size + length first.rest.now ≤ length b
 
--- these are the elements of an array, or the values that a choice takes
-pub record AreElements (type : ℕ) (b : List ℕ) (them : Elements) : Type 0 where
+-- these are the elements of an array, or the values that a choice takes, where the body begins at the byte `at`
+pub record AreElements (type at : ℕ) (b : List ℕ) (them : Elements) : Type 0 where
   pub its_type : them.type_ ≡ word_or (values_of type b) 4
   pub its_size : them.size ≡ word_or (values_of type b) 0
   pub its_count : them.count ≡ element_count type b
+  pub its_at : them.at ≡ at + before_values type
   pub its_bytes : them.bytes.now ≡ drop header_size (values_of type b)
 
 -- the item of a pod with these parts, whose body begins at this byte
@@ -51,7 +52,10 @@ item_of depth body_at first =
       key = first.key;
       flags = first.flags;
       child = word_or (values_of first.type_ first.body.now) 4;
+      choice_flags = flags_of_choice first.type_ first.body.now;
+      reserved = 0;
       depth = depth;
+      at = body_at - header_size;
       first = c.first;
       second = c.second;
     }

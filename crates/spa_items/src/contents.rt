@@ -4,7 +4,7 @@ ghost use Rattle.spa_format.specs.Tree.{pointer_type};
 ghost use Rattle.spa_format.specs.Words.{header_size};
 ghost use Rattle.spa_items.specs.Contents as c;
 
-use crate::elements::element_count;
+use crate::elements::{element_count, values_of};
 use crate::item::Content;
 use spa_bytes::{HEADER_LEN, SECOND_WORD, SHORT_POINTER_LEN, u32_at, u64_at};
 use spa_utils::SpaTypes;
@@ -85,6 +85,22 @@ pub(crate) fn fixed_content(type_: u32, body: &[u8]) -> Content
             first: 0,
             second: 0,
         },
+    }
+}
+
+/// The type of an array's elements or of a choice's values, and the flags of a choice; of any other pod 0.
+#[inline(always)]
+pub(crate) fn child_and_flags(type_: u32, body: &[u8]) -> (u32, u32)
+    ensures child { result.0 ≡ c.word_or (c.values_of type_ body.now) 4 }
+    ensures flags { result.1 ≡ c.flags_of_choice type_ body.now }
+{
+    match SpaTypes(type_) {
+        SpaTypes::Array => (word_or(body, SECOND_WORD), 0),
+        SpaTypes::Choice => (
+            word_or(values_of(type_, body), SECOND_WORD),
+            word_or(body, SECOND_WORD),
+        ),
+        _ => (0, 0),
     }
 }
 

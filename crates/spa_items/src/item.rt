@@ -12,8 +12,14 @@ pub struct Item {
     pub flags: u32,
     /// The type of an array's elements, or of a choice's values; of any other pod 0.
     pub child: u32,
+    /// The flags of a choice; of any other pod 0.
+    pub choice_flags: u32,
+    /// 0.
+    pub reserved: u32,
     /// How many structs, objects, arrays and choices it is nested in.
     pub depth: usize,
+    /// The byte of the input at which the pod, the element or the value begins.
+    pub at: usize,
     /// A number, its bits, an Id, a width, a numerator; 1 for true; the type of a pointer or an object; a choice's shape; the byte at which a
     /// text, bytes, a bitmap or the elements of an array begin.
     pub first: u64,

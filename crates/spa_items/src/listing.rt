@@ -11,15 +11,15 @@ ghost use Rattle.spa_items.specs.Items.{head, items_in, items_of, overlaid};
 ghost use Rattle.spa_items.specs.Puts.{ArePut, IsFirst, IsFirstListed, item_of};
 ghost use Rattle.spa_scan.specs.Depth.{NestsDeeper, SomeOf, levels_looked_into, member_depth};
 
-use crate::contents::{content, word_or};
-use crate::elements::{put, put_elements, values_of};
+use crate::contents::{child_and_flags, content};
+use crate::elements::{put, put_elements};
 use crate::item::Item;
 use spa_bytes::{HEADER_LEN, SECOND_WORD, u32_at};
 use spa_events::{inside_of, key_len, open_first};
 use spa_scan::{LEVELS, all_nest_within};
 
 /// How many levels of containers can wait in the short array.
-const FEW: usize = 16;
+const FEW: usize = 8;
 
 /// How many can wait in the long one, which is taken where pods nest deeper.
 const MANY: usize = LEVELS as usize;
@@ -55,7 +55,7 @@ pub(crate) struct First<'a> {
 /// answers how many items there are: an item comes before those of the pods in it, and these before those of the pods that follow it. None: the
 /// nesting depth of one of the pods is above 1000, and `out` is unchanged.
 ///
-/// It takes no memory: the containers that it is in wait in an array of 16 levels, or of 1000.
+/// It takes no memory: the containers that it is in wait in an array of 8 levels, or of 1000.
 pub fn list_items(input: &[u8], out: &mut [Item]) -> Option<usize>
     ensures count { IfSome result (λ count. count ≡ length (items_of input.now)) }
     ensures items { IfSome result (λ _. out.new ≡ overlaid (items_of input.now) out.old) }
@@ -188,7 +188,7 @@ fn list_pod<'a>(
     let body_at = level.at + key_len(level.keyed) + HEADER_LEN;
     put(out, place, head(depth, body_at, first));
     let Some(inside) = inside_of(first.type_, first.body) else {
-        let behind = put_elements(out, place + 1, depth + 1, first.type_, first.body);
+        let behind = put_elements(out, place + 1, depth + 1, first.type_, body_at, first.body);
         return Listed {
             place: behind,
             inner: None,
@@ -207,16 +207,21 @@ fn list_pod<'a>(
 
 /// The item of a pod whose body begins at the byte `body_at`.
 fn head(depth: usize, body_at: usize, first: First<'_>) -> Item
-    requires { body_at + header_size < 2 ^ 64 }
+    requires behind { header_size ≤ body_at }
+    requires within { body_at + header_size < 2 ^ 64 }
     ensures { result ≡ item_of depth body_at first.entry }
 {
     let content = content(first.type_, body_at, first.body);
+    let (child, choice_flags) = child_and_flags(first.type_, first.body);
     Item {
         type_: first.type_,
         key: first.key,
         flags: first.flags,
-        child: word_or(values_of(first.type_, first.body), SECOND_WORD),
+        child,
+        choice_flags,
+        reserved: 0,
         depth,
+        at: body_at - HEADER_LEN,
         first: content.first,
         second: content.second,
     }

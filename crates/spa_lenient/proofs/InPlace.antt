@@ -1,5 +1,5 @@
 -- Lists that are rewritten leniently into room of their own length.
-use Rattle.std.proofs.Common.{◌≡◌, ℕ, ◌+◌, ◌-◌, ◌≤◌, List, length, drop, refl, sym, ap, ◌∙◌, subst, arith, length-append}
+use Rattle.std.proofs.Common.{◌≡◌, ℕ, ◌+◌, ◌-◌, ◌≤◌, List, ◌++◌, length, drop, refl, sym, ap, ◌∙◌, subst, arith, length-append}
 use Rattle.std.specs.Prelude.{⊤}
 use Rattle.std.proofs.lemmas.List.{drop_at}
 use Rattle.std.specs.Borrow.{Bor}
@@ -17,6 +17,7 @@ use Rattle.spa_in_place.specs.InPlace.{IsFaultOf}
 use Rattle.spa_in_place.specs.InPlace as exact
 use Rattle.spa_rewrite.specs.Rewriting.{AreRewritten}
 use Rattle.spa_rewrite.specs.Shorter.{AreRewrittenAs}
+use Rattle.spa_rewrite.proofs.Written.{further_behind}
 use Rattle.spa_lenient.specs.Rewriting.{AreRewrittenLeniently, AreRewrittenLenientlyAs, IsLeftLeniently, RefusesList, RefusesListAt}
 use Rattle.spa_lenient.proofs.Causes.{named_memory}
 use Rattle.spa_lenient.proofs.Fronts.{lacks_memory}
@@ -47,6 +48,11 @@ are_shorter input old new f r =
     let s = members_shorter r.0 input f r.1 in
     let l = ap length r.2 ∙ length-append old (member_encodings r.0) in
     omega arith
+
+-- behind what was put at the front of an output it stays
+pub put_behind : (bytes old new : List ℕ) (n : ℕ) → new ≡ bytes ++ drop (length bytes) old → length bytes ≤ n → drop n new ≡ drop n old
+put_behind bytes old new n e l =
+    further_behind new old (length bytes) n l (ap (drop (length bytes)) e ∙ drop_at bytes (drop (length bytes) old) (length bytes) refl)
 
 -- Refusals.
 

@@ -12,8 +12,8 @@ use spa_fixed_sized::{DeserializeError, Fault, FaultKind, Refusal};
 use spa_in_place::{rewrite_in_place, rewrite_into};
 use std::alloc::Global;
 
-/// Rewrites all pods that the bytes consist of leniently in place, and answers the length of the outcome in bytes: never more than there were. The
-/// bytes behind it are unchanged.
+/// Rewrites all pods that the bytes consist of leniently in place, and answers the length of the outcome in bytes: never more than there were. What
+/// the bytes behind it are isn't said.
 ///
 /// The call is refused exactly as `rewrite_all_leniently`, and then no byte is changed. A refusal gives the offset of the refused pod, and its
 /// cause without the place inside the pod: a lenient read of the bytes from that offset on gives the place, too.
@@ -26,7 +26,6 @@ pub fn rewrite_in_place_leniently(
 ) -> Result<usize, (usize, DeserializeError<()>)>
     ensures rewritten { IfOk result (λ len. AreRewrittenLeniently bytes.old [] (take len bytes.new)) }
     ensures within { IfOk result (λ len. len ≤ length bytes.old) }
-    ensures behind { IfOk result (λ len. drop len bytes.new ≡ drop len bytes.old) }
     ensures unchanged { OnErr result (bytes.new ≡ bytes.old) }
     ensures refused { IfErr result (λ refusal. RefusesListAt bytes.old refusal.0 refusal.1) }
     // Pods with a nesting depth of at most 1000 are never refused: no memory is asked for them.
@@ -49,8 +48,8 @@ pub fn rewrite_in_place_leniently(
 }
 
 /// Rewrites all pods that the input consists of leniently, to the front of an output that is at least as long as the input, and answers the length
-/// of the outcome in bytes: never more than the input has. The output behind it is unchanged. For a shorter output only the length is answered, and
-/// nothing is written.
+/// of the outcome in bytes: never more than the input has. The output behind as many bytes as the input has is unchanged. For a shorter output only
+/// the length is answered, and nothing is written.
 ///
 /// The call is refused exactly as `rewrite_all_leniently`, and then nothing is written. Pods that the exact reading accepts are rewritten as by
 /// `rewrite_into`, without memory, where their nesting depth is at most `LEVELS`; else memory is asked for the rewritings of all pods.
@@ -63,7 +62,7 @@ pub fn rewrite_into_leniently<'a>(
     ensures within { IfOk result (λ len. len ≤ length input.now) }
     ensures rewritten { IfOk result (λ len. length input.now ≤ length out.old
         → AreRewrittenLeniently input.now [] (take len out.new)) }
-    ensures behind { IfOk result (λ len. drop len out.new ≡ drop len out.old) }
+    ensures behind { drop (length input.now) out.new ≡ drop (length input.now) out.old }
     ensures short { length out.old < length input.now → out.new ≡ out.old }
     ensures unchanged { OnErr result (out.new ≡ out.old) }
     ensures refused { IfErr result (λ refusal. RefusesList input.now refusal.0.now refusal.1) }
@@ -75,9 +74,10 @@ pub fn rewrite_into_leniently<'a>(
     }
     let mut rewritten = Vec::new(alloc);
     rewrite_all_leniently(input, &mut rewritten)?;
-    if input.len() <= out.len() {
-        put_first(rewritten.as_slice(), out);
+    if out.len() < input.len() {
+        return Ok(rewritten.len());
     }
+    put_first(rewritten.as_slice(), out);
     Ok(rewritten.len())
 }
 

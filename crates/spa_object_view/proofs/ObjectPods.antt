@@ -16,7 +16,9 @@ use Rattle.spa_fixed_sized.specs.declared.fault.Refusal.{Refusal}
 use Rattle.spa_fixed_sized.specs.declared.fault.Refusal.TheVariants as refusal
 use Rattle.spa_bodies.specs.Reading.{TakesMemory}
 use Rattle.spa_scan.specs.Canonical.{BeginsCanonical}
-use Rattle.spa_rewrite.specs.Look.{IsRejected, IsTooDeep}
+use Rattle.spa_scan.specs.Depth.{NestsDeeper, levels_looked_into}
+use Rattle.spa_scan.proofs.Deeper.{its_container}
+use Rattle.spa_rewrite.specs.Look.{IsRejected}
 use Rattle.spa_rewrite.specs.Rewriting.{IsRewriting}
 use Rattle.spa_events.specs.Inside.{IsInside}
 use Rattle.spa_rewrite.specs.declared.look.Rejected.{Rejected}
@@ -99,16 +101,12 @@ pub refused_front : (input : List ℕ) (r : Rejected) (place : Bor (List ℕ)) (
     IsRefused input
 refused_front input r place at why e h = (subst (IsRejected input) e h).refused
 
-pub too_deep : (input : List ℕ) (r : Rejected) → r ≡ rejected.TooDeep → IsRejected input r → IsTooDeep input
+pub too_deep : (input : List ℕ) (r : Rejected) → r ≡ rejected.TooDeep → IsRejected input r → NestsDeeper levels_looked_into input
 too_deep input r e h = subst (IsRejected input) e h
 
 -- a pod that nests deep is a struct or an object
-pub deep_takes_memory : (input : List ℕ) → IsTooDeep input → TakesMemory (word_at input 4)
-deep_takes_memory input d = inside_type d.inner d.opens.its_inside
-  where
-    same : word_at input 4 ≡ d.opens.type
-    same = sym (d.opens.opens.its_type ∙ ap (λ b. word_at b 4) d.opens.its_key)
-
-    inside_type : (inner : Bool) → IsInside d.opens.type d.opens.body inner d.inside → TakesMemory (word_at input 4)
-    inside_type true i = inr (inr (inr (inr (inr (inl (same ∙ i.0))))))
-    inside_type false i = inr (inr (inr (inr (inl (same ∙ i.0)))))
+pub deep_takes_memory : (input : List ℕ) → NestsDeeper levels_looked_into input → TakesMemory (word_at input 4)
+deep_takes_memory input d = elim (its_container levels_looked_into input d) [
+  | inl s ↦ inr (inr (inr (inr (inl s))))
+  | inr o ↦ inr (inr (inr (inr (inr (inl o)))))
+]

@@ -6,7 +6,7 @@ ghost use Rattle.spa_bytes.specs.Opening.{Opens};
 ghost use Rattle.spa_object_view.specs.Fronts.{BeginsObjectIn, BeginsObjectOf, BeginsView, IsNoObject, IsObjectBody, IsUnread, IsViewIn};
 ghost use Rattle.spa_bodies.specs.Reading.{TakesMemory};
 ghost use Rattle.spa_scan.specs.Canonical.{AreCanonicalProperties};
-ghost use Rattle.spa_rewrite.specs.Look.{IsTooDeep};
+ghost use Rattle.spa_scan.specs.Depth.{NestsDeeper, levels_looked_into};
 ghost use Rattle.spa_rewrite.specs.Rewriting.{IsRewriting};
 
 use crate::object_view::ObjectView;
@@ -111,8 +111,7 @@ fn rewritten(alloc: Global, input: &[u8]) -> Result<Vec<u8>, NoObject>
     }
 }
 
-/// Why a front of another type than an object's is refused. Memory is asked for only where structs nest more than 1000 deep, not counting those in
-/// tail position.
+/// Why a front of another type than an object's is refused. Memory is asked for only where structs nest more than 1000 deep.
 #[inline(never)]
 fn no_object(alloc: Global, input: &[u8]) -> NoObject
     requires { word_at input.now 4 ≢ object_type }
@@ -130,7 +129,7 @@ fn no_object(alloc: Global, input: &[u8]) -> NoObject
 /// What a front is that nests too deep to be looked into: it is rewritten to see.
 fn deep_no_object(alloc: Global, input: &[u8]) -> NoObject
     requires other { word_at input.now 4 ≢ object_type }
-    requires deep { IsTooDeep input.now }
+    requires deep { NestsDeeper levels_looked_into input.now }
     ensures { IsNoObject input.now result }
 {
     let Err(why) = rewritten(alloc, input) else {

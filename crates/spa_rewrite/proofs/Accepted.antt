@@ -134,7 +134,7 @@ front_stops input why f =
 -- what is rejected is a pod of no value, or of one with more levels
 pub rejected_value : (input : List ℕ) (r : Rejected) → IsRejected input r → (v : Tree) → Begins input v → levels_looked_into < depth_of v
 rejected_value input (rejected.Fault place at why) s v b = absurd (s.refused v b)
-rejected_value input rejected.TooDeep s v b = deep_begun levels_looked_into input v s.nests b
+rejected_value input rejected.TooDeep s v b = deep_begun levels_looked_into input v s b
 
 -- so it isn't the first of pods of so many levels
 pub rejected_first : (left : List ℕ) (r : Rejected) → 0 < length left → IsRejected left r → ¬ (ArePodsWithin levels_looked_into left)

@@ -1,7 +1,7 @@
 -- What is appended for accepted pods.
-use Rattle.std.proofs.Common.{◌≡◌, ℕ, ◌+◌, ◌-◌, List, [], ◌++◌, length, take, refl, sym, ap, ◌∙◌, subst, arith, append_assoc, length-append}
+use Rattle.std.proofs.Common.{◌≡◌, ℕ, ◌+◌, ◌-◌, List, [], ◌++◌, length, drop, take, refl, sym, ap, ◌∙◌, subst, arith, append_assoc, length-append}
 use Rattle.std.specs.Prelude.{Bool, true, false}
-use Rattle.std.proofs.lemmas.List.{append-nil, take_at}
+use Rattle.std.proofs.lemmas.List.{append-nil, take-append-drop, take_at}
 use Rattle.spa_format.specs.Tree.{Tree, no_trees, member, join_members}
 use Rattle.spa_format.specs.Pod.{AreMembers, IsPod}
 use Rattle.spa_format.specs.Encoding.{encoding_of, member_encodings}
@@ -11,10 +11,9 @@ use Rattle.spa_format.proofs.Unique.{same_members}
 use Rattle.spa_bodies.specs.Reading.{BeginsWith}
 use Rattle.spa_scan.specs.Canonical.{AreCanonical, BeginsCanonical}
 use Rattle.spa_rewrite.specs.Look.{IsAcceptedAsked}
-use Rattle.spa_rewrite.specs.Placed.{WritesPods}
-use Rattle.spa_rewrite.specs.Rewriting.{AppendsEncodings, AppendsFront, IsLookedOver}
+use Rattle.spa_rewrite.specs.Emit.{EncodesAll}
+use Rattle.spa_rewrite.specs.Rewriting.{AppendsEncodings, AppendsFront, ArePassed, IsLookedOver}
 use Rattle.spa_rewrite.specs.Shorter.{AreShorter, BeginsShorter}
-use Rattle.spa_rewrite.specs.Patched.{ArePatched}
 use Rattle.spa_rewrite.specs.declared.look.AcceptedPod.{AcceptedPod}
 use Rattle.spa_rewrite.proofs.Rewritten.{parted}
 use Rattle.spa_rewrite.proofs.LeafBodies.{never}
@@ -26,20 +25,10 @@ pub canonical_encodings : (pods old new : List ℕ) → AreCanonical pods → ne
 canonical_encodings pods old new k w = λ vs m.
     w ∙ ap (λ l. old ++ l) (k.same ∙ ap member_encodings (same_members k.values vs pods k.members m))
 
--- those that are as long as their encodings are patched in the copy,
-pub patched_encodings : (pods old patched new : List ℕ) (n : ℕ) → AreShorter pods n → n ≡ 0 → ArePatched false pods patched →
-    new ≡ old ++ patched → AppendsEncodings pods old new
-patched_encodings pods old patched new n s z p w = λ vs m.
-    let e = ap (λ x. length (member_encodings x)) (same_members vs s.values pods m s.members) in
-    let l = s.long in
-    let long : length (member_encodings vs) ≡ length pods = omega arith in
-    w ∙ ap (λ l. old ++ l) (p vs m long)
-
--- and those that get shorter are written over it
-pub written_encodings : (pods old copy over new : List ℕ) (at len : ℕ) → WritesPods false pods copy over len → at ≡ length old →
-    new ≡ take (at + len) (old ++ over) → AppendsEncodings pods old new
-written_encodings pods old copy over new at len w e n = λ vs m.
-    n ∙ take_past old over at len (sym e) ∙ ap (λ l. old ++ l) (w.placed vs m)
+-- and others replaced in a copy
+pub replaced_encodings : (pods old over new : List ℕ) (at len : ℕ) → EncodesAll pods over len → at ≡ length old → new ≡ take (at + len) (old ++ over) →
+    AppendsEncodings pods old new
+replaced_encodings pods old over new at len w e n = λ vs m. n ∙ take_past old over at len (sym e) ∙ ap (λ l. old ++ l) (w.placed vs m)
 
 -- A pod at the front, as a list.
 
@@ -98,3 +87,25 @@ one_looked_over pods left rest surplus n h c =
       h.1 ∙ ap (λ l. h.0 ++ l) (parted left c.value rest c.begins) ∙ sym (append_assoc h.0 front rest),
       record { values = vs; members = members_joined s.values t.values h.0 front s.members t.members; long = omega arith },
     )
+
+-- the pods that were passed, and those behind them
+pub record PassedParts (pods left accepted rest : List ℕ) : Type 0 where
+  pub surplus : ℕ
+  pub parts : pods ≡ accepted ++ rest
+  pub shorter : AreShorter accepted surplus
+  pub long : length accepted + length left ≡ length pods
+
+pub passed_parts : (pods left accepted rest : List ℕ) (k : ℕ) → ArePassed pods left → k ≡ length pods - length left → accepted ≡ take k pods →
+    rest ≡ drop k pods → PassedParts pods left accepted rest
+passed_parts pods left accepted rest k h e a r =
+    let first = h.1.0 in
+    let parts = h.1.1 in
+    let l = ap length parts ∙ length-append first left in
+    let n : k ≡ length first = omega arith in
+    let same : accepted ≡ first = a ∙ ap (take k) parts ∙ take_at first left k (sym n) in
+    record {
+      surplus = h.0;
+      parts = sym (ap (λ x. x ++ rest) a ∙ ap (λ x. take k pods ++ x) r ∙ take-append-drop k pods);
+      shorter = subst (λ x. AreShorter x h.0) (sym same) h.1.2;
+      long = (let s = ap length same in omega arith);
+    }

@@ -1,19 +1,19 @@
 -- A look for canonical pods: what is passed, what is opened, and what waits.
 use Rattle.std.proofs.Common.{◌≡◌, ◌≢◌, ℕ, suc, ◌+◌, ◌<◌, List, [], ◌∷◌, length, refl, sym, subst, arith}
 use Rattle.std.specs.Prelude.{Bool, false, true}
-use Rattle.std.proofs.lemmas.List.{nil_from_length}
 use Rattle.spa_format.specs.Front.{HasFront, rest_of}
 use Rattle.spa_format.specs.Tree.{object_type, struct_type}
 use Rattle.spa_format.specs.Typed.{IsBytes}
 use Rattle.spa_format.specs.Words.{header_size}
 use Rattle.spa_bytes.specs.Opening.{Opens}
 use Rattle.spa_scan.specs.Canonical.{BeginsCanonical, MissesOnly}
-use Rattle.spa_scan.specs.Depth.{depth_of}
 use Rattle.spa_scan.proofs.Frames.{body_bytes}
-use Rattle.spa_rewrite.specs.Look.{AreCanonicalInside, NestMore, OpensInside, Passes, nest_inside, nest_last}
+use Rattle.spa_scan.specs.Depth.{NestsDeeperInside, depth_of}
+use Rattle.spa_rewrite.specs.Look.{AreCanonicalInside, OpensInside, Passes}
 use Rattle.spa_events.specs.Inside.{IsBehindKey}
 use Rattle.spa_events.specs.declared.inside.Inside.{Inside}
 use Rattle.spa_rewrite.proofs.Accepted.{leaf_differs}
+use Rattle.spa_rewrite.proofs.Levels.{as_deep_inside, deep_inside}
 use Rattle.spa_rewrite.proofs.LeafBodies.{never, some_key}
 use Rattle.spa_rewrite.proofs.SameLength.{left_shorter}
 use Rattle.spa_rewrite.proofs.Looks.{behind_bytes, first_own, inside_bytes, inside_own, none_own, own_opened, own_shorter, passes_pod, some_left}
@@ -23,7 +23,7 @@ pub record OwnLeft (all : Bool) (pods : List ℕ) (Then : Type 0) (waiting : ℕ
   pub bytes : IsBytes left
   pub ends : AreCanonicalInside keyed left → Then
   pub kept : AreCanonicalInside all pods → AreCanonicalInside keyed left
-  pub deep : (n : ℕ) → NestMore n keyed left → NestMore (n + waiting) all pods
+  pub deep : (n : ℕ) → NestsDeeperInside n keyed left → NestsDeeperInside (n + waiting) all pods
 
 -- what holds once the innermost list ends, where these wait, the innermost first
 abbrev pub OwnThen : Bool → List ℕ → List Inside → Type 0
@@ -39,7 +39,7 @@ own_begins all pods h = record {
   bytes = h;
   ends = λ c. c;
   kept = λ c. c;
-  deep = λ n d. subst (λ x. NestMore x all pods) (let e : n ≡ n + 0 = omega arith in e) d;
+  deep = λ n d. subst (λ x. NestsDeeperInside x all pods) (let e : n ≡ n + 0 = omega arith in e) d;
 }
 
 -- canonical pods are passed
@@ -54,7 +54,7 @@ own_passed all keyed pods left rest Then waiting w p = record {
 
 -- a struct or an object is opened
 own_inside : (all keyed inner : Bool) (pods left inside rest : List ℕ) (Then : Type 0) (waiting more : ℕ) → OwnLeft all pods Then waiting keyed left →
-    OpensInside keyed left inner inside rest → ((n : ℕ) → NestMore n inner inside → NestMore (n + more) all pods) →
+    OpensInside keyed left inner inside rest → ((n : ℕ) → NestsDeeperInside n inner inside → NestsDeeperInside (n + more) all pods) →
     OwnLeft all pods (OwnLeft all pods Then waiting keyed rest) more inner inside
 own_inside all keyed inner pods left inside rest Then waiting more w x deeper =
     let at = x.here in
@@ -73,10 +73,10 @@ own_inside all keyed inner pods left inside rest Then waiting more w x deeper =
 
 -- what follows it waits
 pub own_in : (all keyed inner : Bool) (pods left inside rest : List ℕ) (Then : Type 0) (waiting : ℕ) → OwnLeft all pods Then waiting keyed left →
-    OpensInside keyed left inner inside rest → rest ≢ [] → OwnLeft all pods (OwnLeft all pods Then waiting keyed rest) (suc waiting) inner inside
-own_in all keyed inner pods left inside rest Then waiting w x r =
+    OpensInside keyed left inner inside rest → OwnLeft all pods (OwnLeft all pods Then waiting keyed rest) (suc waiting) inner inside
+own_in all keyed inner pods left inside rest Then waiting w x =
     own_inside all keyed inner pods left inside rest Then waiting (suc waiting) w x (λ n d.
-    subst (λ m. NestMore m all pods) (let e : suc n + waiting ≡ n + suc waiting = omega arith in e) (w.deep (suc n) (nest_inside n keyed inner left inside rest x r d)))
+    subst (λ m. NestsDeeperInside m all pods) (let e : suc n + waiting ≡ n + suc waiting = omega arith in e) (w.deep (suc n) (deep_inside n keyed inner left inside rest x d)))
 
 -- the innermost list has ended
 pub own_ended : (all keyed : Bool) (pods left : List ℕ) (Then : Type 0) (waiting : ℕ) → OwnLeft all pods Then waiting keyed left → length left ≡ 0 → Then
@@ -86,8 +86,7 @@ own_ended all keyed pods left Then waiting w z = w.ends (none_own keyed left z)
 pub own_in_last : (all keyed inner : Bool) (pods left inside rest : List ℕ) (Then : Type 0) (waiting : ℕ) → OwnLeft all pods Then waiting keyed left →
     OpensInside keyed left inner inside rest → length rest ≡ 0 → OwnLeft all pods Then waiting inner inside
 own_in_last all keyed inner pods left inside rest Then waiting w x z =
-    let r = nil_from_length rest z in
-    let n = own_inside all keyed inner pods left inside rest Then waiting waiting w x (λ m d. w.deep m (nest_last m keyed inner left inside rest x r d)) in
+    let n = own_inside all keyed inner pods left inside rest Then waiting waiting w x (λ m d. w.deep m (as_deep_inside m keyed inner left inside rest x d)) in
     record { bytes = n.bytes; ends = λ c. own_ended all keyed pods rest Then waiting (n.ends c) z; kept = n.kept; deep = n.deep }
 
 -- a canonical member is passed

@@ -1,7 +1,6 @@
 -- Pods up to the last one that isn't canonical.
 use Rattle.std.proofs.Common.{◌≡◌, ℕ, ◌+◌, ◌-◌, ◌<◌, List, ◌++◌, length, take, drop, refl, sym, ap, ◌∙◌, subst, arith, append-nil, length-append, append_assoc}
 use Rattle.std.proofs.lemmas.List.{drop_at, nil_from_length, take-append-drop, take_at}
-use Rattle.std.specs.Borrow.{Bor}
 use Rattle.spa_format.specs.Tree.{join_members}
 use Rattle.spa_format.specs.Pod.{AreMembers}
 use Rattle.spa_format.specs.Encoding.{member_encodings}
@@ -19,21 +18,16 @@ use Rattle.spa_rewrite.proofs.Stretches.{member_encodings-join}
 use Rattle.spa_rewrite.proofs.ShorterLemmas.{CountsOn, counts_more, counts_none, within_behind}
 use Rattle.std.specs.Prelude.{Bool, false}
 
--- All pods before what is left are accepted: those before the others are as long as their encodings, and those behind the last one that isn't canonical
--- are.
-pub record ChangesUpTo (pods others tail left : List ℕ) (surplus : ℕ) : Type 0 where
+-- All pods before what is left are accepted, and those behind the last one that isn't canonical are.
+pub record ChangesUpTo (pods tail left : List ℕ) (surplus : ℕ) : Type 0 where
   pub seen : IsLookedOver pods left surplus
-  pub same_length : IsLookedOver pods others 0
-  pub since : IsLookedOver others left surplus
-  pub changed : IsLookedOver others tail surplus
+  pub changed : IsLookedOver pods tail surplus
   pub last : IsStretch tail left
   pub counts : CountsOn false levels_looked_into pods left surplus
 
-pub no_changes : (pods : List ℕ) → ChangesUpTo pods pods pods pods 0
+pub no_changes : (pods : List ℕ) → ChangesUpTo pods pods pods 0
 no_changes pods = record {
   seen = nothing_looked_over pods;
-  same_length = nothing_looked_over pods;
-  since = nothing_looked_over pods;
   changed = nothing_looked_over pods;
   last = no_stretch pods;
   counts = counts_none false levels_looked_into pods;
@@ -79,15 +73,13 @@ stretches_joined pods left rest h s = (
 )
 
 -- and change nothing
-pub stretch_passed : (pods others tail left rest : List ℕ) (surplus : ℕ) → ChangesUpTo pods others tail left surplus → IsStretch left rest →
-    ChangesUpTo pods others tail rest surplus
-stretch_passed pods others tail left rest surplus h s =
+pub stretch_passed : (pods tail left rest : List ℕ) (surplus : ℕ) → ChangesUpTo pods tail left surplus → IsStretch left rest →
+    ChangesUpTo pods tail rest surplus
+stretch_passed pods tail left rest surplus h s =
     let room = h.counts.room in
     let l = ap length s.1 ∙ length-append s.0 rest in
     record {
       seen = stretch_looked_over pods left rest surplus h.seen s;
-      same_length = h.same_length;
-      since = stretch_looked_over others left rest surplus h.since s;
       changed = h.changed;
       last = stretches_joined tail left rest h.last s;
       counts = record {
@@ -99,80 +91,40 @@ stretch_passed pods others tail left rest surplus h s =
       };
     }
 
--- one that isn't, or may not be, behind others that get shorter,
-pub others_more : (asked : Bool) (pods others tail left : List ℕ) (pod : AcceptedPod) (surplus : ℕ) → ChangesUpTo pods others tail left surplus →
-    0 < length left → IsAcceptedAsked asked left pod → ChangesUpTo pods others pod.rest.now pod.rest.now (surplus + pod.surplus)
-others_more asked pods others tail left pod surplus h l a =
+-- one that isn't, or may not be
+pub others_more : (asked : Bool) (pods tail left : List ℕ) (pod : AcceptedPod) (surplus : ℕ) → ChangesUpTo pods tail left surplus →
+    0 < length left → IsAcceptedAsked asked left pod → ChangesUpTo pods pod.rest.now pod.rest.now (surplus + pod.surplus)
+others_more asked pods tail left pod surplus h l a =
     let s = a.shorter in
     let rest = pod.rest.now in
-    let since = one_looked_over others left rest surplus pod.surplus h.since s in
+    let seen = one_looked_over pods left rest surplus pod.surplus h.seen s in
     record {
-      seen = one_looked_over pods left rest surplus pod.surplus h.seen s;
-      same_length = h.same_length;
-      since = since;
-      changed = since;
+      seen = seen;
+      changed = seen;
       last = no_stretch rest;
       counts = counts_more false levels_looked_into pods left left rest surplus pod.surplus h.counts l refl s.begins.follows s;
     }
 
--- and one behind pods that don't: the others begin anew
-pub others_none : (pods others tail left : List ℕ) (surplus : ℕ) → ChangesUpTo pods others tail left surplus → surplus ≡ 0 →
-    ChangesUpTo pods left left left surplus
-others_none pods others tail left surplus h z =
-    let none = subst (IsLookedOver left left) (sym z) (nothing_looked_over left) in
-    record {
-      seen = h.seen;
-      same_length = subst (IsLookedOver pods left) z h.seen;
-      since = none;
-      changed = none;
-      last = no_stretch left;
-      counts = h.counts;
-    }
-
-pub others_are : (pods others tail left : List ℕ) (surplus : ℕ) (new : Bor (List ℕ)) → ChangesUpTo pods others tail left surplus → new.now ≡ others →
-    ChangesUpTo pods new.now tail left surplus
-others_are pods others tail left surplus new h e = subst (λ x. ChangesUpTo pods x tail left surplus) (sym e) h
-
-pub all_changed : (pods others tail left : List ℕ) (same_length more surplus : ℕ) → ChangesUpTo pods others tail left surplus → length left ≡ 0 →
-    same_length ≡ length pods - length others → more ≡ length others - length tail →
-    AreChanged pods (record { same_length = same_length; others = more; surplus = surplus })
-all_changed pods others tail left same_length more surplus h z e f =
-    let s = h.same_length in
+pub all_changed : (pods tail left : List ℕ) (others surplus : ℕ) → ChangesUpTo pods tail left surplus → length left ≡ 0 →
+    others ≡ length pods - length tail → AreChanged pods (record { others = others; surplus = surplus })
+all_changed pods tail left others surplus h z e =
     let c = h.changed in
     let t = h.last in
-    let l = ap length s.1 ∙ length-append s.0 others in
-    let m = ap length c.1 ∙ length-append c.0 tail in
-    let n : same_length ≡ length s.0 = omega arith in
-    let k : more ≡ length c.0 = omega arith in
-    let front : take same_length pods ≡ s.0 = ap (take same_length) s.1 ∙ take_at s.0 others same_length (sym n) in
-    let behind : drop same_length pods ≡ others = ap (drop same_length) s.1 ∙ drop_at s.0 others same_length (sym n) in
-    let mid : take more (drop same_length pods) ≡ c.0 = ap (take more) (behind ∙ c.1) ∙ take_at c.0 tail more (sym k) in
-    let back : drop more (drop same_length pods) ≡ tail = ap (drop more) (behind ∙ c.1) ∙ drop_at c.0 tail more (sym k) in
+    let l = ap length c.1 ∙ length-append c.0 tail in
+    let n : others ≡ length c.0 = omega arith in
+    let front : take others pods ≡ c.0 = ap (take others) c.1 ∙ take_at c.0 tail others (sym n) in
+    let back : drop others pods ≡ tail = ap (drop others) c.1 ∙ drop_at c.0 tail others (sym n) in
     let whole : tail ≡ t.0 = t.1 ∙ ap (λ x. t.0 ++ x) (nil_from_length left z) ∙ append-nil t.0 in
     record {
-      same_length = subst (λ x. AreShorter x 0) (sym front) s.2;
-      shorter = subst (λ x. AreShorter x surplus) (sym mid) c.2;
+      shorter = subst (λ x. AreShorter x surplus) (sym front) c.2;
       within = omega arith;
       canonical = subst AreCanonical (sym (back ∙ whole)) t.2;
     }
 
--- where there are no pods
-pub none_changed : (pods : List ℕ) → length pods ≡ 0 → AreChanged pods (record { same_length = 0; others = 0; surplus = 0 })
-none_changed pods z = all_changed pods pods pods pods 0 0 0 (no_changes pods) z (omega arith) (omega arith)
-
--- those behind the ones that are as long as their encodings
-pub others_shorter : (pods : List ℕ) (c : ChangedPods) → AreChanged pods c → AreShorter (drop c.same_length pods) c.surplus
-others_shorter pods c h =
-    let rest = drop c.same_length pods in
-    let none : c.surplus + 0 ≡ c.surplus = omega arith in
-    subst (AreShorter rest) none
-    (shorter_joined rest (take c.others rest) (drop c.others rest) c.surplus 0 (sym (take-append-drop c.others rest)) h.shorter
-    (canonical_shorter (drop c.others rest) h.canonical))
-
 -- all of them are accepted
 pub changed_shorter : (pods : List ℕ) (c : ChangedPods) → AreChanged pods c → AreShorter pods c.surplus
 changed_shorter pods c h =
-    let sum : 0 + c.surplus ≡ c.surplus = omega arith in
-    subst (AreShorter pods) sum
-    (shorter_joined pods (take c.same_length pods) (drop c.same_length pods) 0 c.surplus (sym (take-append-drop c.same_length pods)) h.same_length
-    (others_shorter pods c h))
+    let none : c.surplus + 0 ≡ c.surplus = omega arith in
+    subst (AreShorter pods) none
+    (shorter_joined pods (take c.others pods) (drop c.others pods) c.surplus 0 (sym (take-append-drop c.others pods)) h.shorter
+    (canonical_shorter (drop c.others pods) h.canonical))

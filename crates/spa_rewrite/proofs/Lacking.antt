@@ -1,5 +1,5 @@
 -- Refusals of the pod at the front, and what memory is asked for.
-use Rattle.std.proofs.Common.{inr, ◌≡◌, ℕ, ◌<◌, List, ◌++◌, length, refl, sym, ap, ◌∙◌, subst, arith, append_assoc}
+use Rattle.std.proofs.Common.{◌≡◌, ℕ, ◌<◌, List, ◌++◌, length, refl, sym, ap, ◌∙◌, subst, arith, append_assoc}
 use Rattle.std.specs.Borrow.{Bor}
 use Rattle.spa_format.specs.Faults.{Stands}
 use Rattle.spa_format.specs.Front.{Begins, HasFront}
@@ -9,11 +9,8 @@ use Rattle.spa_format.proofs.Fronts.{front_of_whole}
 use Rattle.spa_fixed_sized.specs.declared.fault.Refusal.{Refusal}
 use Rattle.spa_fixed_sized.specs.declared.fault.Refusal.TheVariants as refusal
 use Rattle.spa_bodies.specs.Refusing.{Says, error_of}
-use Rattle.spa_rewrite.specs.Look.{IsRejected}
-use Rattle.spa_rewrite.specs.Memory.{AreUnwritten, FrontAsksMemory, IsRefusal}
-use Rattle.spa_rewrite.specs.Rewriting.{IsLeft, RefusesFrontAt}
-use Rattle.spa_rewrite.specs.declared.look.Rejected.{Rejected}
-use Rattle.spa_rewrite.specs.declared.look.Rejected.TheVariants as rejected
+use Rattle.spa_rewrite.specs.Memory.{FrontAsksMemory, IsRefusal}
+use Rattle.spa_rewrite.specs.Rewriting.{RefusesFrontAt}
 use Rattle.spa_rewrite.proofs.Accepted.{fault_front}
 use Rattle.spa_rewrite.proofs.Refusals.{front_refused}
 
@@ -51,8 +48,3 @@ is_refusal input place refusal.InvalidChoiceType h a = is_fault input place refu
 is_refusal input place refusal.MissingChoiceValues h a = is_fault input place refusal.MissingChoiceValues h
 is_refusal input place refusal.WrongSize h a = is_fault input place refusal.WrongSize h
 is_refusal input place refusal.OutOfMemory h a = lacks input place refusal.OutOfMemory refl h a
-
--- what the look at all pods rejects isn't written
-pub unwritten : (pods left : List ℕ) (r : Rejected) → IsLeft pods left → IsRejected left r → AreUnwritten pods left r
-unwritten pods left (rejected.Fault place at why) l s = (l, s)
-unwritten pods left rejected.TooDeep l s = inr (left, l, s)

@@ -1,15 +1,22 @@
--- How deep structs and objects stand in one another, where those that nothing follows don't count.
-use Rattle.std.proofs.Common.{ℕ, suc, inl, inr, List, refl, subst, arith}
-use Rattle.std.specs.Prelude.{Bool}
+-- How deep the pods nest that a look doesn't look into.
+use Rattle.std.proofs.Common.{◌≡◌, ℕ, suc, zero, ◌<◌, ◌≤◌, inl, inr, List, length, drop, take, refl, sym, ap, ◌∙◌, subst, arith, length-drop}
+use Rattle.std.specs.Prelude.{Bool, true, false}
+use Rattle.std.proofs.lemmas.Bool.{cases_lt}
+use Rattle.std.proofs.lemmas.List.{length-take-le}
 use Rattle.spa_format.specs.Front.{HasFront, rest_of}
+use Rattle.spa_format.specs.Walk.{extent_behind, walk_behind}
+use Rattle.spa_format.specs.Words.{body_of, word_at}
+use Rattle.spa_format.proofs.Fronts.{length-body_of}
+use Rattle.spa_format.proofs.WalkLemmas.{walk_behind-end, walk_behind-there}
 use Rattle.spa_events.specs.Inside.{IsBehindKey, IsInside, key_size}
 use Rattle.spa_bytes.specs.Opening.{Opens}
 use Rattle.spa_events.proofs.Firsts.{behind_is}
-use Rattle.spa_scan.specs.Depth.{IsDeepBody, NestsDeeper, NestsDeeperInside, levels_looked_into}
-use Rattle.spa_scan.proofs.Deeper.{container, deep_input, deeper_than_fewer, first_or_behind, inside_deeper_than_fewer}
-use Rattle.spa_rewrite.specs.Look.{IsTooDeep, NestMore, nest_behind, nest_here, nest_inside, nest_last}
+use Rattle.spa_scan.specs.Depth.{IsDeepBody, NestsDeeper, NestsDeeperInside, SomeOf, levels_looked_into}
+use Rattle.spa_scan.proofs.Deeper.{container, deep_input, deeper_than_fewer, first_or_behind, inside_deeper_than_fewer, its_front}
+use Rattle.spa_rewrite.specs.Look.{OpensInside}
 
-deep_behind : (n : ℕ) (keyed : Bool) (left here : List ℕ) → IsBehindKey keyed left here → HasFront here →
+-- one behind the first of them nests so
+pub deep_behind : (n : ℕ) (keyed : Bool) (left here : List ℕ) → IsBehindKey keyed left here → HasFront here →
     NestsDeeperInside n keyed (rest_of here) → NestsDeeperInside n keyed left
 deep_behind n keyed left here k h d =
     let is = behind_is keyed left here k in
@@ -23,27 +30,73 @@ deep_first n keyed left here body rest type k o d =
     (first_or_behind n (key_size keyed) left is.0 (subst HasFront is.1 o.there)).1
     (inl (subst (NestsDeeper n) is.1 (deep_input n here body rest type o d)))
 
--- those that nothing follows count too
-more_deep : (n : ℕ) (keyed : Bool) (pods : List ℕ) → NestMore n keyed pods → NestsDeeperInside n keyed pods
-more_deep _ _ _ (nest_here keyed inner left inside rest o r) =
+-- it is a struct or an object,
+pub deep_here : (keyed inner : Bool) (left inside rest : List ℕ) → OpensInside keyed left inner inside rest → NestsDeeperInside 0 keyed left
+deep_here keyed inner left inside rest o =
     deep_first 0 keyed left o.here o.body rest o.type o.its_key o.opens (container o.type o.body inside inner o.its_inside)
-more_deep _ _ _ (nest_inside n keyed inner left inside rest o r m) =
-    deep_first (suc n) keyed left o.here o.body rest o.type o.its_key o.opens (inner, inside, o.its_inside, more_deep n inner inside m)
-more_deep _ _ _ (nest_last n keyed inner left inside rest o r m) =
-    inside_deeper_than_fewer n (suc n) keyed left (omega arith)
-    (deep_first (suc n) keyed left o.here o.body rest o.type o.its_key o.opens (inner, inside, o.its_inside, more_deep n inner inside m))
-more_deep _ _ _ (nest_behind n keyed left at k h m) = deep_behind n keyed left at k h (more_deep n keyed (rest_of at) m)
+
+-- and one of those inside nests so
+pub deep_inside : (n : ℕ) (keyed inner : Bool) (left inside rest : List ℕ) → OpensInside keyed left inner inside rest → NestsDeeperInside n inner inside →
+    NestsDeeperInside (suc n) keyed left
+deep_inside n keyed inner left inside rest o d =
+    deep_first (suc n) keyed left o.here o.body rest o.type o.its_key o.opens (inner, inside, o.its_inside, d)
+
+pub as_deep_inside : (n : ℕ) (keyed inner : Bool) (left inside rest : List ℕ) → OpensInside keyed left inner inside rest → NestsDeeperInside n inner inside →
+    NestsDeeperInside n keyed left
+as_deep_inside n keyed inner left inside rest o d =
+    inside_deeper_than_fewer n (suc n) keyed left (omega arith) (deep_inside n keyed inner left inside rest o d)
 
 pub too_deep : (input body rest inside : List ℕ) (type : ℕ) (inner : Bool) → Opens input type body rest → IsInside type body inner inside →
-    NestMore levels_looked_into inner inside → IsTooDeep input
-too_deep input body rest inside type inner o i m = record {
-  nests = nests levels_looked_into m;
-  inner = inner;
-  inside = inside;
-  rest = rest;
-  opens = record { here = input; type = type; body = body; its_key = refl; opens = o; its_inside = i };
-  more = m;
-}
+    NestsDeeperInside levels_looked_into inner inside → NestsDeeper levels_looked_into input
+too_deep input body rest inside type inner o i d = fewer levels_looked_into d
   where
-    nests : (n : ℕ) → NestMore n inner inside → NestsDeeper n input
-    nests n m = deeper_than_fewer n (suc n) input (omega arith) (deep_input (suc n) input body rest type o (inner, inside, i, more_deep n inner inside m))
+    fewer : (n : ℕ) → NestsDeeperInside n inner inside → NestsDeeper n input
+    fewer n d = deeper_than_fewer n (suc n) input (omega arith) (deep_input (suc n) input body rest type o (inner, inside, i, d))
+
+-- some of them is no longer than all
+record SomeWithin (P : List ℕ → Type 0) (all : List ℕ) : Type 0 where
+  pod : List ℕ
+  within : length pod ≤ length all
+  its : P pod
+
+some_within : (fuel k : ℕ) (left : List ℕ) (P : List ℕ → Type 0) → length left ≤ fuel → SomeOf P (walk_behind k left) → SomeWithin P left
+some_within zero k left P f s = absurd (subst (SomeOf P) (walk_behind-end k left (omega arith)) s)
+some_within (suc less) k left P f s = elim (cases_lt (length left) (extent_behind k left)) [
+  | inl l ↦ absurd (subst (SomeOf P) (walk_behind-end k left l) s)
+  | inr l ↦ elim (subst (SomeOf P) (walk_behind-there k left l) s) [
+    | inl p ↦ record { pod = take (extent_behind k left) left; within = (let t = length-take-le (extent_behind k left) left l in omega arith); its = p }
+    | inr r ↦
+        let d = length-drop (extent_behind k left) left in
+        let w = some_within less k (drop (extent_behind k left) left) P (omega arith) r in
+        let n = w.within in
+        record { pod = w.pod; within = omega arith; its = w.its }
+  ]
+]
+
+-- each level takes a header
+nests_long : (n : ℕ) (b : List ℕ) → NestsDeeper n b → n < length b
+unfolding NestsDeeper
+nests_long zero b d = let h = d.0.header in omega arith
+nests_long (suc n) b d =
+    let keyed = d.1 in
+    let inside = d.2 in
+    let w = some_within (length inside) (key_size keyed) inside (λ p. NestsDeeper n (drop (key_size keyed) p)) (omega arith) d.4 in
+    let l = nests_long n (drop (key_size keyed) w.pod) w.its in
+    let l0 = length-drop (key_size keyed) w.pod in
+    let l1 = w.within in
+    let l2 = inside_within keyed inside d.3 in
+    let l3 = length-body_of b d.0 in
+    let l4 = d.0.whole in
+    omega arith
+  where
+    inside_within : (keyed : Bool) (inside : List ℕ) → IsInside (word_at b 4) (body_of b) keyed inside → length inside ≤ length (body_of b)
+    inside_within true inside i = let e = ap length i.2 ∙ length-drop 8 (body_of b) in omega arith
+    inside_within false inside i = let e = ap length i.1 in omega arith
+
+pub nested_long : (n : ℕ) (keyed : Bool) (left : List ℕ) → NestsDeeperInside n keyed left → n < length left
+nested_long n keyed left d =
+    let w = some_within (length left) (key_size keyed) left (λ p. NestsDeeper n (drop (key_size keyed) p)) (omega arith) d in
+    let l = nests_long n (drop (key_size keyed) w.pod) w.its in
+    let l0 = length-drop (key_size keyed) w.pod in
+    let l1 = w.within in
+    omega arith

@@ -7,7 +7,7 @@ pub mod Truths
 pub mod SameLength
 pub mod LeafBodies
 pub mod Patches
-pub mod PatchSteps
+pub mod Replacing
 pub mod PatchedBodies
 pub mod ShorterLemmas
 pub mod FirstPods
@@ -22,9 +22,6 @@ pub mod Appended
 pub mod Places
 pub mod PlacedBodies
 pub mod Written
-pub mod Sourced
-pub mod Chains
-pub mod Runs
 pub mod Appending
 pub mod Changed
-pub mod Nesting
+pub mod BegunLists

@@ -19,7 +19,8 @@ use Rattle.spa_scan.specs.Canonical.{AreCanonical, AreCanonicalProperties, Begin
 use Rattle.spa_scan.proofs.Frames.{body_bytes, canonical_front, none_left, none_left_either, object_of, one_more, one_more_property}
 use Rattle.spa_scan.proofs.Made.{made_body, made_members, made_properties}
 use Rattle.spa_scan.proofs.Opened.{object_inside, struct_inside}
-use Rattle.spa_rewrite.specs.Look.{NestMore, OpensInside, Passes, StandsInside, StopsAt, Surround, nest_behind, nest_here, nest_inside, nest_last}
+use Rattle.spa_scan.specs.Depth.{NestsDeeperInside}
+use Rattle.spa_rewrite.specs.Look.{OpensInside, Passes, StandsInside, StopsAt, Surround}
 use Rattle.spa_rewrite.specs.Look.{AreCanonicalInside}
 use Rattle.spa_rewrite.specs.Shorter.{AreShorterInside, BeginsShorter}
 use Rattle.spa_events.specs.Inside.{IsBehindKey, IsInside, key_size}
@@ -27,6 +28,7 @@ use Rattle.spa_rewrite.specs.Offsets.{StandsAt, scope_of}
 use Rattle.spa_rewrite.specs.declared.look.Waiting.{Waiting}
 use Rattle.spa_rewrite.proofs.Offsets.{body_long, key_long, offset_behind, offset_first, offset_opened}
 use Rattle.spa_rewrite.proofs.ShorterLemmas.{shorter_inside, shorter_none, shorter_opened, shorter_room, shorter_step, whole_keyed, whole_list}
+use Rattle.spa_rewrite.proofs.Levels.{deep_behind, deep_inside}
 use Rattle.spa_rewrite.proofs.LeafBodies.{never}
 use Rattle.spa_rewrite.proofs.Rewritten.{parted}
 
@@ -176,7 +178,7 @@ passes_pod keyed canonical left here rest n h l k b c =
       kept = λ s. (first_own keyed left here rest h l k e s).others;
       stands = λ f place s. stands_behind keyed left here rest b.value f place k b.begins s;
       offset = λ f at s. offset_behind keyed left here rest b.value f at k b.begins s;
-      deep = λ m s. nest_behind m keyed left here k b.begins.begins.there (subst (NestMore m keyed) e s);
+      deep = λ m s. deep_behind m keyed left here k b.begins.begins.there (subst (NestsDeeperInside m keyed) e s);
       bytes = rest_bytes here rest (behind_bytes keyed left here h k) e;
       room = omega arith;
     }
@@ -196,7 +198,7 @@ pub record Awaits (all : Bool) (pods : List ℕ) (Then : ℕ → Type 0) (waitin
   pub stands : (k : Fault) (place : List ℕ) → StandsInside keyed left place k → StandsInside all pods place k
   pub room : length left + behind ≤ length pods
   pub offset : (k : Fault) (at : ℕ) → StandsAt k (scope_of keyed) at left → StandsAt k (scope_of all) (length pods - (length left + behind) + at) pods
-  pub deep : (n : ℕ) → NestMore n keyed left → NestMore (n + waiting) all pods
+  pub deep : (n : ℕ) → NestsDeeperInside n keyed left → NestsDeeperInside (n + waiting) all pods
 
 -- what holds once the innermost list ends, where these wait, the innermost first
 abbrev pub Onward : Bool → List ℕ → List Waiting → ℕ → Type 0
@@ -214,7 +216,7 @@ begins_look all pods h = record {
   stands = λ k place s. s;
   room = omega arith;
   offset = λ k n s. (let e : n ≡ length pods - (length pods + 0) + n = omega arith in subst (λ m. StandsAt k (scope_of all) m pods) e s);
-  deep = λ n d. subst (λ x. NestMore x all pods) (let e : n ≡ n + 0 = omega arith in e) d;
+  deep = λ n d. subst (λ x. NestsDeeperInside x all pods) (let e : n ≡ n + 0 = omega arith in e) d;
 }
 
 -- accepted pods are passed
@@ -274,12 +276,11 @@ inside_own type here body rest behind inside false h o i c =
     let m = made_body here behind body rest type h c o in
     subst AreCanonical (sym i.1) (struct_inside type body i.0 m.canonical)
 
--- a struct or an object is opened
-opened : (all keyed inner : Bool) (pods left inside rest : List ℕ) (Then : ℕ → Type 0) (waiting more behind after surplus : ℕ) →
+-- a struct or an object is opened, and what follows it waits
+pub goes_in : (all keyed inner : Bool) (pods left inside rest : List ℕ) (Then : ℕ → Type 0) (waiting behind after surplus : ℕ) →
     Awaits all pods Then waiting keyed left behind surplus → OpensInside keyed left inner inside rest → Surround keyed left inner inside after →
-    ((n : ℕ) → NestMore n inner inside → NestMore (n + more) all pods) →
-    Awaits all pods (Awaits all pods Then waiting keyed rest behind) more inner inside (behind + after) surplus
-opened all keyed inner pods left inside rest Then waiting more behind after surplus w x long deeper =
+    Awaits all pods (Awaits all pods Then waiting keyed rest behind) (suc waiting) inner inside (behind + after) surplus
+goes_in all keyed inner pods left inside rest Then waiting behind after surplus w x long =
     let at = x.here in
     let o = x.opens in
     let i = x.its_inside in
@@ -299,16 +300,10 @@ opened all keyed inner pods left inside rest Then waiting more behind after surp
           let e : length pods - (length left + behind) + (key_size keyed + head) ≡ length pods - (length inside + (behind + after)) + n = omega arith in
           subst (λ m. StandsAt f (scope_of all) m pods) e
           (w.offset f (key_size keyed + head) (offset_first keyed left at f head some x.its_key (offset_opened x.type at x.body rest inside inner f n o i s)));
-      deep = deeper;
+      deep = λ n d.
+          subst (λ m. NestsDeeperInside m all pods) (let e : suc n + waiting ≡ n + suc waiting = omega arith in e)
+          (w.deep (suc n) (deep_inside n keyed inner left inside rest x d));
     }
-
--- what follows it waits
-pub goes_in : (all keyed inner : Bool) (pods left inside rest : List ℕ) (Then : ℕ → Type 0) (waiting behind after surplus : ℕ) →
-    Awaits all pods Then waiting keyed left behind surplus → OpensInside keyed left inner inside rest → Surround keyed left inner inside after →
-    rest ≢ [] → Awaits all pods (Awaits all pods Then waiting keyed rest behind) (suc waiting) inner inside (behind + after) surplus
-goes_in all keyed inner pods left inside rest Then waiting behind after surplus w x long r =
-    opened all keyed inner pods left inside rest Then waiting (suc waiting) behind after surplus w x long (λ n d.
-    subst (λ m. NestMore m all pods) (let e : suc n + waiting ≡ n + suc waiting = omega arith in e) (w.deep (suc n) (nest_inside n keyed inner left inside rest x r d)))
 
 pub none_own : (keyed : Bool) (left : List ℕ) → length left ≡ 0 → AreCanonicalInside keyed left
 none_own true left z = none_left_either left z
@@ -319,23 +314,6 @@ pub list_ends : (all keyed : Bool) (pods left : List ℕ) (Then : ℕ → Type 0
     Awaits all pods Then waiting keyed left behind surplus → length left ≡ 0 → Then surplus
 list_ends all keyed pods left Then waiting behind surplus w z =
     subst Then (let e : surplus + 0 ≡ surplus = omega arith in e) (w.ends 0 (shorter_none keyed left z))
-
--- nothing follows it
-pub goes_in_last : (all keyed inner : Bool) (pods left inside rest : List ℕ) (Then : ℕ → Type 0) (waiting behind after surplus : ℕ) →
-    Awaits all pods Then waiting keyed left behind surplus → OpensInside keyed left inner inside rest → Surround keyed left inner inside after →
-    length rest ≡ 0 → Awaits all pods Then waiting inner inside (behind + after) surplus
-goes_in_last all keyed inner pods left inside rest Then waiting behind after surplus w x long z =
-    let r = nil_from_length rest z in
-    let n = opened all keyed inner pods left inside rest Then waiting waiting behind after surplus w x long
-    (λ m d. w.deep m (nest_last m keyed inner left inside rest x r d)) in
-    record {
-      bytes = n.bytes;
-      ends = λ m s. list_ends all keyed pods rest Then waiting behind (surplus + m) (n.ends m s) z;
-      stands = n.stands;
-      room = n.room;
-      offset = n.offset;
-      deep = n.deep;
-    }
 
 -- how much is left in those that wait
 abbrev pub left_waiting : List Waiting → ℕ
@@ -406,20 +384,3 @@ stops_behind keyed pods left place behind n p s =
           let e : length pods - length left + (length left - (length place + behind)) ≡ length pods - (length place + behind) = omega arith in
           subst (λ m. StandsAt k (scope_of keyed) m pods) e (p.offset k (length left - (length place + behind)) (s.offset k x));
     }
-
--- each list that waits takes a header before it
-pub nested_long : (n : ℕ) (keyed : Bool) (left : List ℕ) → NestMore n keyed left → n < length left
-nested_long _ _ _ (nest_here keyed inner left inside rest x r) = let e = opened_shorter keyed inner left inside rest x in omega arith
-nested_long _ _ _ (nest_inside n keyed inner left inside rest x r m) =
-    let e = opened_shorter keyed inner left inside rest x in
-    let l = nested_long n inner inside m in
-    omega arith
-nested_long _ _ _ (nest_last n keyed inner left inside rest x r m) =
-    let e = opened_shorter keyed inner left inside rest x in
-    let l = nested_long n inner inside m in
-    omega arith
-nested_long _ _ _ (nest_behind n keyed left at k h m) =
-    let l = nested_long n keyed (rest_of at) m in
-    let d = length-drop (extent (word_at at 0)) at in
-    let s = behind_shorter keyed left at k in
-    omega arith

@@ -12,7 +12,8 @@ use Rattle.spa_format.proofs.Encodings.{length-word_bytes}
 use Rattle.spa_format.proofs.Shapes.{choice_only}
 use Rattle.spa_format.proofs.Short.{length-encoded_pod, padded_above}
 use Rattle.spa_format.proofs.WordLemmas.{word_at-append, word_at-drop, word_at-take, word_at-word_bytes}
-use Rattle.spa_rewrite.specs.Placed.{IsPlaced, WritesPod}
+use Rattle.spa_rewrite.specs.Emit.{EncodesPod}
+use Rattle.spa_rewrite.specs.Placed.{IsPlaced}
 use Rattle.spa_rewrite.specs.Patched.{IsPatched, IsPodOf, TakesValues, bytes_taken}
 use Rattle.spa_rewrite.proofs.PatchedBodies.{taken_elements}
 use Rattle.spa_rewrite.proofs.Patches.{says_body}
@@ -38,31 +39,17 @@ leaf_long pod type size v p t w =
     let g = p.long in
     omega arith
 
-pub leaf_written : (pod out front sub : List ℕ) (n type size : ℕ) → n ≡ length pod → IsPodOf pod type size → IsLeafType type → front ≡ pod →
-    IsPatched (take n (front ++ drop n out)) sub → length sub ≡ length (take n (front ++ drop n out)) →
-    WritesPod pod out (sub ++ drop n (front ++ drop n out)) n
-leaf_written pod out front sub n type size e p t f q y =
-    let l : length front ≡ n = ap length f ∙ sym e in
-    let is : take n (front ++ drop n out) ≡ pod = take_at front (drop n out) n l ∙ f in
-    let many : length sub ≡ n = y ∙ ap length is ∙ sym e in
-    record {
-      placed = λ v w. take_at sub (drop n (front ++ drop n out)) n many
-          ∙ q v (subst (λ x. IsPod x v) (sym is) w) (leaf_long pod type size v p t w ∙ ap length (sym is));
-      within = omega arith;
-      behind = drop_at sub (drop n (front ++ drop n out)) n many ∙ drop_at front (drop n out) n l;
-    }
-
--- a pod that holds no others is moved to the front and patched there
-pub leaf_moved : (pod old x sub : List ℕ) (n type size : ℕ) → n ≡ length pod → IsPodOf pod type size → IsLeafType type → x ≡ take n pod ++ drop n old →
-    IsPatched (take n x) sub → length sub ≡ length (take n x) → WritesPod pod old (sub ++ drop n x) n
-leaf_moved pod old x sub n type size e p t is q y =
-    subst (λ z. WritesPod pod old (sub ++ drop n z) n) (sym is)
-    (leaf_written pod old (take n pod) sub n type size e p t (take_all n pod (omega arith)) (subst (λ z. IsPatched (take n z) sub) is q)
-    (y ∙ ap (λ z. length (take n z)) is))
+-- a pod that holds no others is replaced
+pub leaf_encoded : (pod new : List ℕ) (n type size : ℕ) → IsPodOf pod type size → IsLeafType type → IsPatched pod new → length new ≡ length pod →
+    n ≡ length new → EncodesPod pod new n
+leaf_encoded pod new n type size p t q y e = record {
+  placed = λ v w. take_all n new (omega arith) ∙ q v w (leaf_long pod type size v p t w);
+  within = omega arith;
+}
 
 -- of a pod that no value says nothing is written
-pub nothing_written : (pod out : List ℕ) → IsPlaced pod [] → WritesPod pod out out 0
-nothing_written pod out p = record { placed = p; within = omega arith; behind = refl }
+pub none_encoded : (pod : List ℕ) → IsPlaced pod [] → EncodesPod pod pod 0
+none_encoded pod p = record { placed = p; within = omega arith }
 
 -- a choice without its surplus values is one of the same value
 enough_taken : (s : Shape) (x : Fixed) (all : List Fixed) → least_count s ≤ length (x ∷ all) → least_count s ≤ length (x ∷ values_taken s all)
@@ -224,32 +211,15 @@ values_placed pod sub end n size shape child p less e w8 w16 taken t =
     (λ s q. taken_again s child (size - 16) n (taken s q) ∙ ap (λ c. bytes_taken s c n) child_is
     ∙ ap (bytes_taken s (word_at part 16)) (let m : n ≡ 16 + n - 16 = omega arith in m)))
 
-pub choice_written : (pod out front sub : List ℕ) (end n size shape child : ℕ) → IsPodOf pod choice_type size → 16 + n ≤ size → end ≡ extent (16 + n) →
-    front ≡ take end pod → shape ≡ word_at pod 8 → child ≡ word_at pod 16 →
-    ((s : Shape) → shape ≡ shape_number s → n ≡ bytes_taken s child (size - 16)) →
-    TakesValues shape n (take end (front ++ drop end out)) sub → length sub ≡ length (take end (front ++ drop end out)) →
-    WritesPod pod out (sub ++ drop end (front ++ drop end out)) end
-choice_written pod out front sub end n size shape child p less e f w8 w16 taken t y =
-    let u = padded_above (16 + n) in
+-- a choice is replaced
+pub choice_encoded : (pod sub new : List ℕ) (end n size shape child : ℕ) → IsPodOf pod choice_type size → 16 + n ≤ size → end ≡ extent (16 + n) →
+    shape ≡ word_at pod 8 → child ≡ word_at pod 16 → ((s : Shape) → shape ≡ shape_number s → n ≡ bytes_taken s child (size - 16)) →
+    TakesValues shape n (take end pod) sub → length sub ≡ length (take end pod) → new ≡ sub ++ drop end pod → EncodesPod pod new end
+choice_encoded pod sub new end n size shape child p less e w8 w16 taken t y is =
     let room = kept_room pod size (16 + n) end p less e in
-    let x = front ++ drop end out in
-    let long = length-take-le end pod room in
-    let l : length front ≡ end = ap length f ∙ long in
-    let is : take end x ≡ take end pod = take_at front (drop end out) end l ∙ f in
-    let many : length sub ≡ end = y ∙ ap length is ∙ long in
+    let many : length sub ≡ end = y ∙ length-take-le end pod room in
     record {
-      placed = subst (IsPlaced pod) (sym (take_at sub (drop end x) end many))
-          (values_placed pod sub end n size shape child p less e w8 w16 taken (subst (λ z. TakesValues shape n z sub) is t));
+      placed = subst (IsPlaced pod) (sym (ap (take end) is ∙ take_at sub (drop end pod) end many))
+          (values_placed pod sub end n size shape child p less e w8 w16 taken t);
       within = room;
-      behind = drop_at sub (drop end x) end many ∙ drop_at front (drop end out) end l;
     }
-
--- a choice is moved to the front and patched there
-pub choice_moved : (pod old x sub : List ℕ) (end n size shape child : ℕ) → IsPodOf pod choice_type size → 16 + n ≤ size → end ≡ extent (16 + n) →
-    x ≡ take end pod ++ drop end old → shape ≡ word_at pod 8 → child ≡ word_at pod 16 →
-    ((s : Shape) → shape ≡ shape_number s → n ≡ bytes_taken s child (size - 16)) →
-    TakesValues shape n (take end x) sub → length sub ≡ length (take end x) → WritesPod pod old (sub ++ drop end x) end
-choice_moved pod old x sub end n size shape child p less e is w8 w16 taken t y =
-    subst (λ z. WritesPod pod old (sub ++ drop end z) end) (sym is)
-    (choice_written pod old (take end pod) sub end n size shape child p less e refl w8 w16 taken
-    (subst (λ z. TakesValues shape n (take end z) sub) is t) (y ∙ ap (λ z. length (take end z)) is))

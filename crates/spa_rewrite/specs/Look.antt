@@ -8,7 +8,7 @@ use Rattle.spa_format.specs.Typed.{IsBytes}
 use Rattle.spa_bytes.specs.Opening.{Opens}
 use Rattle.spa_bodies.specs.Refusing.{StandsInMembers, StandsInProperties}
 use Rattle.spa_scan.specs.Canonical.{AreCanonical, AreCanonicalProperties, BeginsCanonical}
-use Rattle.spa_scan.specs.Depth.{NestsDeeper, levels_looked_into}
+use Rattle.spa_scan.specs.Depth.{NestsDeeper, NestsDeeperInside, levels_looked_into}
 use Rattle.spa_rewrite.specs.Shorter.{AreShorter, AreShorterInside, BeginsShorter}
 use Rattle.spa_events.specs.Inside.{IsBehindKey, IsInside, key_size}
 use Rattle.spa_rewrite.specs.Offsets.{IsFaultAt, StandsAt, scope_of}
@@ -45,26 +45,6 @@ pub record OpensInside (keyed : Bool) (left : List ℕ) (inner : Bool) (inside r
   pub opens : Opens here type body rest
   pub its_inside : IsInside type body inner inside
 
--- More than so many structs and objects stand in one another in one of them, not counting those that nothing follows in the one around them.
-pub data NestMore : ℕ → Bool → List ℕ → Type 0 where
-  nest_here : (keyed inner : Bool) (left inside rest : List ℕ) → OpensInside keyed left inner inside rest → rest ≢ [] →
-      NestMore 0 keyed left
-  nest_inside : (n : ℕ) (keyed inner : Bool) (left inside rest : List ℕ) → OpensInside keyed left inner inside rest →
-      rest ≢ [] → NestMore n inner inside → NestMore (suc n) keyed left
-  nest_last : (n : ℕ) (keyed inner : Bool) (left inside rest : List ℕ) → OpensInside keyed left inner inside rest →
-      rest ≡ [] → NestMore n inner inside → NestMore n keyed left
-  nest_behind : (n : ℕ) (keyed : Bool) (left at : List ℕ) → IsBehindKey keyed left at → HasFront at →
-      NestMore n keyed (rest_of at) → NestMore n keyed left
-
--- The pod at the front nests in more levels than are looked into, also where those that nothing follows don't count.
-pub record IsTooDeep (input : List ℕ) : Type 0 where
-  pub nests : NestsDeeper levels_looked_into input
-  pub inner : Bool
-  pub inside : List ℕ
-  pub rest : List ℕ
-  pub opens : OpensInside false input inner inside rest
-  pub more : NestMore levels_looked_into inner inside
-
 -- No pod begins at this place, which so many bytes of the pods follow, for a fault that is in no member or property of it: a fault that stands at its
 -- front stands in them.
 pub record StopsAt (keyed : Bool) (pods place : List ℕ) (behind : ℕ) : Type 0 where
@@ -78,7 +58,7 @@ pub record StopsAt (keyed : Bool) (pods place : List ℕ) (behind : ℕ) : Type 
 abbrev pub IsFound : ℕ → Bool → List ℕ → Found → Type 0
 IsFound waiting keyed pods (found.Fits surplus) = AreShorterInside keyed pods surplus
 IsFound waiting keyed pods (found.Stops place behind) = StopsAt keyed pods place.now behind
-IsFound waiting keyed pods found.TooDeep = NestMore waiting keyed pods
+IsFound waiting keyed pods found.TooDeep = NestsDeeperInside waiting keyed pods
 
 -- The first members or properties are accepted and were passed, and this follows them: what is found of it holds of all.
 pub record Passes (keyed canonical : Bool) (left rest : List ℕ) (surplus : ℕ) : Type 0 where
@@ -87,7 +67,7 @@ pub record Passes (keyed canonical : Bool) (left rest : List ℕ) (surplus : ℕ
   pub kept : AreCanonicalInside keyed left → AreCanonicalInside keyed rest
   pub stands : (k : Fault) (place : List ℕ) → StandsInside keyed rest place k → StandsInside keyed left place k
   pub offset : (k : Fault) (at : ℕ) → StandsAt k (scope_of keyed) at rest → StandsAt k (scope_of keyed) (length left - length rest + at) left
-  pub deep : (n : ℕ) → NestMore n keyed rest → NestMore n keyed left
+  pub deep : (n : ℕ) → NestsDeeperInside n keyed rest → NestsDeeperInside n keyed left
   pub bytes : IsBytes rest
   pub room : surplus + length rest ≤ length left
 
@@ -112,7 +92,7 @@ IsFirst keyed left first.Differs = ¬ (AreCanonicalInside keyed left)
 abbrev pub IsCanonicalLook : ℕ → Bool → List ℕ → CanonicalLook → Type 0
 IsCanonicalLook waiting keyed pods look.Same = AreCanonicalInside keyed pods
 IsCanonicalLook waiting keyed pods look.Differs = ¬ (AreCanonicalInside keyed pods)
-IsCanonicalLook waiting keyed pods look.TooDeep = NestMore waiting keyed pods
+IsCanonicalLook waiting keyed pods look.TooDeep = NestsDeeperInside waiting keyed pods
 
 -- the pod at the front is accepted: what follows it, whether it is canonical, and by how much its encoding is shorter
 pub record IsAccepted (input : List ℕ) (pod : AcceptedPod) : Type 0 where
@@ -128,7 +108,7 @@ pub record IsAcceptedAsked (asked : Bool) (input : List ℕ) (pod : AcceptedPod)
 -- why it isn't: a fault that stands, or too many levels
 abbrev pub IsRejected : List ℕ → Rejected → Type 0
 IsRejected input (rejected.Fault place at why) = IsFaultAt input place.now at why
-IsRejected input rejected.TooDeep = IsTooDeep input
+IsRejected input rejected.TooDeep = NestsDeeper levels_looked_into input
 
 -- all pods are accepted: so many first bytes are canonical pods, behind which no canonical pod begins, and the encodings are so much shorter
 pub record AreAccepted (pods : List ℕ) (all : AcceptedPods) : Type 0 where
@@ -137,10 +117,8 @@ pub record AreAccepted (pods : List ℕ) (all : AcceptedPods) : Type 0 where
   pub first : AreCanonical (take all.canonical pods)
   pub most : (rest : List ℕ) → ¬ (BeginsCanonical (drop all.canonical pods) rest)
 
--- all pods are accepted: so many first bytes are pods as long as their encodings, so many behind them pods whose encodings are so much shorter, and
--- canonical pods follow
+-- all pods are accepted: those in so many first bytes, and canonical ones behind them; the encodings are so much shorter
 pub record AreChanged (pods : List ℕ) (changed : ChangedPods) : Type 0 where
-  pub same_length : AreShorter (take changed.same_length pods) 0
-  pub shorter : AreShorter (take changed.others (drop changed.same_length pods)) changed.surplus
-  pub within : changed.same_length + changed.others ≤ length pods
-  pub canonical : AreCanonical (drop changed.others (drop changed.same_length pods))
+  pub shorter : AreShorter (take changed.others pods) changed.surplus
+  pub within : changed.others ≤ length pods
+  pub canonical : AreCanonical (drop changed.others pods)

@@ -11,22 +11,6 @@ use Rattle.spa_format.specs.Typed.{IsBytes}
 abbrev pub IsPatched : List ℕ → List ℕ → Type 0
 IsPatched old new = (v : Tree) → IsPod old v → length (encoding_of v) ≡ length old → new ≡ encoding_of v
 
--- pods one after another became their rewritings, if those are together as long; properties, or members
-abbrev pub ArePatched : Bool → List ℕ → List ℕ → Type 0
-ArePatched true old new =
-    (ps : Properties) → AreProperties ps old → length (property_encodings ps) ≡ length old → new ≡ property_encodings ps
-ArePatched false old new =
-    (vs : Trees) → AreMembers vs old → length (member_encodings vs) ≡ length old → new ≡ member_encodings vs
-
--- The bytes before this place are done: once those from there on become their rewritings, all have.
--- Of two Ints with padding 9, the words 4, 4, 1, 9, 4, 4, 2, 9, the first is done in 4, 4, 1, 0, 4, 4, 2, 9 at place 16: with 4, 4, 2, 0 behind
--- these 16 bytes both are their encodings.
-pub record PatchesOn (all keyed : Bool) (old now : List ℕ) (at : ℕ) : Type 0 where
-  pub within : at ≤ length now
-  pub long : length now ≡ length old
-  pub bytes : IsBytes now
-  pub ends : (new : List ℕ) → ArePatched keyed (drop at now) new → ArePatched all old (take at now ++ new)
-
 -- the type of a kind whose bodies are any word
 abbrev pub IsWordType : ℕ → Type 0
 IsWordType number = (kind : Kind) × (number ≡ type_number kind) × (body_size kind ≡ 4) × (kind ≢ bool_kind)

@@ -13,8 +13,7 @@ use std::alloc::{AllocError, Global};
 /// Whether the pod at the front of the input is canonical: all of it is there, and `rewrite` would give the same bytes.
 /// A front that is refused isn't, and what follows the front doesn't count.
 ///
-/// Memory is asked for only where more than 1000 structs and objects stand in one another, not counting those in tail position, and then as
-/// `rewrite` does.
+/// Memory is asked for only where more than 1000 structs and objects stand in one another, and then as `rewrite` does.
 pub fn is_canonical(alloc: Global, input: &[u8]) -> Result<bool, AllocError>
     // Exactly where the front is there and is the encoding of the value that it says,
     ensures exactly { IfOk result (λ answer. Decides answer (BeginsCanonical input.now (rest_of input.now))) }

@@ -1,29 +1,31 @@
-//! Pods canonicalized in place whose encodings are as long as they are: only padding and words that mean nothing change.
+//! Pods that hold no others, replaced by their encodings where they are.
 ghost use Rattle.std.specs.Prelude.{Bool, List, false, true, ℕ, ◌≡◌, ◌≢◌, ◌+◌, ◌-◌, ◌<◌, ◌≤◌, ◌++◌, ◌*◌, IfNone, IfSome, drop, length, replicate, take};
 ghost use Rattle.spa_fixed_sized.specs.Reading.{AreWhole};
 ghost use Rattle.spa_format.specs.Pod.{IsPointer};
 ghost use Rattle.spa_format.specs.Tree.{Shape, array_type, choice_type, object_type, pointer_type, shape_number, struct_type};
 ghost use Rattle.spa_format.specs.Kind.{bool_kind, type_number};
 ghost use Rattle.spa_rewrite.specs.Elements.{AreTruths};
+ghost use Rattle.spa_format.specs.Typed.{IsBytes};
 ghost use Rattle.spa_format.specs.Words.{header_size, size_limit, word_at};
-ghost use Rattle.spa_events.specs.Inside.{HoldsPods, key_size};
-ghost use Rattle.spa_rewrite.specs.Patched.{ArePatched, BeginsWord, IsPatched, IsPodOf, IsWordType, PatchesOn, TakesValues, TurnsWritten, bytes_taken};
+ghost use Rattle.spa_events.specs.Inside.{key_size};
+ghost use Rattle.spa_rewrite.specs.Emit.{EncodesFirst, EncodesPod};
+ghost use Rattle.spa_rewrite.specs.Patched.{BeginsWord, IsPatched, IsPodOf, IsWordType, TakesValues, TurnsWritten, bytes_taken};
+ghost use Rattle.spa_rewrite.specs.Placed.{HoldsWhole};
 
 use crate::elements::written_flags;
 use spa_bytes::{
-    HEADER_LEN, POINTER_LEN, SECOND_WORD, SHORT_POINTER_LEN, joined, open, two_words, u32_at,
+    HEADER_LEN, POINTER_LEN, SECOND_WORD, SHORT_POINTER_LEN, extent_of, joined, two_words, u32_at,
     u64_at, wide_body,
 };
-use spa_events::keyed_inside;
 use spa_fixed_sized::{CanonicalFixedSizedPod, NONE_SHAPE, RANGE_SHAPE, STEP_SHAPE};
 use spa_utils::SpaTypes;
 
 /// The length in bytes of a word.
-pub(crate) const WORD_LEN: usize = 4;
+const WORD_LEN: usize = 4;
 
 /// The length in bytes of a whole pod whose body is one or two words; also where the second header in a pod ends: an object's
 /// type and id, an array's child header, or a choice's shape and flags.
-pub(crate) const SECOND_HEADER: usize = 16;
+const SECOND_HEADER: usize = 16;
 
 /// Where the child header of a choice ends, and its values begin.
 const VALUES_AT: usize = 24;
@@ -31,106 +33,13 @@ const VALUES_AT: usize = 24;
 /// The length in bytes of a whole pointer.
 const POINTER_POD: usize = 24;
 
-/// Replaces pods one after another by their encodings. It promises nothing where the bytes aren't such pods, or are longer than the encodings.
-pub fn patch_all(bytes: &mut [u8])
-    ensures { ArePatched false bytes.old bytes.new }
-{
-    let mut at = 0;
-    loop {
-        let start = behind_words(false, bytes, at);
-        let Some(front) = open(&bytes[start..]) else {
-            return;
-        };
-        let (type_, size, left) = (front.type_, front.body.len(), front.rest.len());
-        at = bytes.len() - left;
-        patch_here(type_, size, &mut bytes[start..at]);
-    }
-}
-
-/// Replaces a pod by its encoding, if that is as long. The pods in it need no call.
-#[inline(always)]
-fn patch_here(type_: u32, size: usize, pod: &mut [u8])
-    requires { IsPodOf pod.old type_ size }
-    ensures { IsPatched pod.old pod.new }
-{
-    match SpaTypes(type_) {
-        SpaTypes::Struct => patch(false, &mut pod[HEADER_LEN..]),
-        SpaTypes::Object => {
-            if size >= HEADER_LEN {
-                patch_properties(&mut pod[SECOND_HEADER..]);
-            }
-        }
-        _ => patch_leaf(type_, size, pod),
-    }
-}
-
-/// Replaces the pods of properties by their encodings in place, if the properties are as long with these.
-#[inline(always)]
-fn patch_properties(bytes: &mut [u8])
-    ensures { ArePatched true bytes.old bytes.new }
-{
-    let mut at = 0;
-    loop {
-        let start = behind_word_properties(bytes, at);
-        if bytes.len() - start < HEADER_LEN {
-            return;
-        }
-        let here = start + HEADER_LEN;
-        let Some(front) = open(&bytes[here..]) else {
-            return;
-        };
-        let (type_, size, left) = (front.type_, front.body.len(), front.rest.len());
-        at = bytes.len() - left;
-        patch_pod(type_, size, &mut bytes[here..at]);
-    }
-}
-
-/// Replaces pods one after another by their encodings, if these are as long, with key and flags before each where `keyed` is set.
-#[cycle(patching)]
-fn patch(keyed: bool, bytes: &mut [u8])
-    ensures { ArePatched keyed bytes.old bytes.new }
-{
-    patch_inside(keyed, bytes);
-}
-
-/// Does what `patch` does, inlined where it is called.
-#[cycle(patching)]
-#[inline(always)]
-fn patch_inside(keyed: bool, bytes: &mut [u8])
-    ensures { ArePatched keyed bytes.old bytes.new }
-{
-    let mut properties = keyed;
-    let mut at = 0;
-    loop {
-        let start = behind_words(properties, bytes, at);
-        if bytes.len() - start < HEADER_LEN {
-            return;
-        }
-        let here = place_behind(bytes, start, 0, properties);
-        let Some(front) = open(&bytes[here..]) else {
-            return;
-        };
-        let (type_, size, left) = (front.type_, front.body.len(), front.rest.len());
-        match last_inner(left, type_, size) {
-            Some(inner) => {
-                properties = inner;
-                at = place_behind(bytes, here, HEADER_LEN, inner);
-            }
-            None => {
-                at = bytes.len() - left;
-                patch_pod(type_, size, &mut bytes[here..at]);
-            }
-        }
-    }
-}
-
 /// The place behind the first pods from there on that are a word, truth values aside, with key and flags before each where `keyed` is
 /// set: these are replaced by their encodings.
 #[inline(always)]
-fn behind_words(keyed: bool, bytes: &mut [u8], from: usize) -> usize
+pub(crate) fn behind_words(keyed: bool, bytes: &mut [u8], from: usize) -> usize
     requires { from ≤ length bytes.old }
-    ensures patched { (all : Bool) (old : List ℕ) → PatchesOn all keyed old bytes.old from
-        → PatchesOn all keyed old bytes.new result }
+    ensures encoded { (old : List ℕ) → EncodesFirst keyed old bytes.old from from → EncodesFirst keyed old bytes.new result result }
+    ensures bytes { IsBytes bytes.new }
     ensures within { result ≤ length bytes.old }
     ensures further { from ≤ result }
 {
@@ -150,8 +59,7 @@ fn behind_words(keyed: bool, bytes: &mut [u8], from: usize) -> usize
 #[inline(always)]
 fn behind_word_properties(bytes: &mut [u8], from: usize) -> usize
     requires { from ≤ length bytes.old }
-    ensures patched { (all : Bool) (old : List ℕ) → PatchesOn all true old bytes.old from
-        → PatchesOn all true old bytes.new result }
+    ensures encoded { (old : List ℕ) → EncodesFirst true old bytes.old from from → EncodesFirst true old bytes.new result result }
     ensures within { result ≤ length bytes.old }
     ensures further { from ≤ result }
 {
@@ -179,7 +87,7 @@ fn begins_word_property(input: &[u8]) -> bool
 
 /// Whether the pod at the front is there, and a word that is no truth value.
 #[inline(always)]
-pub(crate) fn begins_word(input: &[u8]) -> bool
+fn begins_word(input: &[u8]) -> bool
     ensures { result ≡ true → BeginsWord input.now }
 {
     if input.len() < SECOND_HEADER {
@@ -217,48 +125,59 @@ pub(crate) fn place_behind(bytes: &[u8], at: usize, header: usize, keyed: bool) 
     }
 }
 
-/// Whether the pods of a container in tail position are keyed: false for a struct, true for an object. None where bytes follow it, or for other pods.
+/// Replaces a pod that holds no others by its encoding, which is put at its front, and returns how many bytes that takes. Of a pod that no value says it
+/// promises nothing.
 #[inline(always)]
-fn last_inner(left: usize, type_: u32, size: usize) -> Option<bool>
-    ensures { IfSome result (λ keyed. (left ≡ 0) × HoldsPods type_ size keyed) }
-{
-    if left > 0 {
-        return None;
-    }
-    keyed_inside(type_, size)
-}
-
-/// Replaces one pod by its encoding, if that is as long.
-#[cycle(patching)]
-#[inline(always)]
-fn patch_pod(type_: u32, size: usize, pod: &mut [u8])
-    requires { IsPodOf pod.old type_ size }
-    ensures { IsPatched pod.old pod.new }
+pub(crate) fn encode_leaf(type_: u32, size: usize, pod: &mut [u8]) -> usize
+    requires pod { IsPodOf pod.old type_ size }
+    requires no_inner { (keyed : Bool) → ¬ (HoldsWhole type_ size keyed) }
+    ensures { EncodesPod pod.old pod.new result }
 {
     match SpaTypes(type_) {
-        SpaTypes::Struct => patch(false, &mut pod[HEADER_LEN..]),
-        SpaTypes::Object => {
-            if size >= HEADER_LEN {
-                patch(true, &mut pod[SECOND_HEADER..]);
-            }
+        SpaTypes::Struct => 0,
+        SpaTypes::Object => 0,
+        SpaTypes::Choice => encode_choice(size, pod),
+        _ => {
+            // No other encoding is shorter than its pod.
+            patch_leaf(type_, size, pod);
+            pod.len()
         }
-        _ => patch_leaf(type_, size, pod),
     }
 }
 
-/// Replaces a pod of this type and this size of a body, which holds no others, by its encoding, if that is as long.
+/// Replaces a choice by its encoding, which is put at its front without the surplus values.
 #[inline(always)]
-pub(crate) fn patch_leaf(type_: u32, size: usize, pod: &mut [u8])
+fn encode_choice(size: usize, pod: &mut [u8]) -> usize
+    requires { IsPodOf pod.old choice_type size }
+    ensures { EncodesPod pod.old pod.new result }
+{
+    if size < SECOND_HEADER {
+        return 0;
+    }
+    let all = size - SECOND_HEADER;
+    let shape = u32_at(pod, HEADER_LEN);
+    let len = taken_len(shape, u32_at(pod, SECOND_HEADER) as usize, all);
+    if len > all {
+        return 0;
+    }
+    let end = extent_of((SECOND_HEADER + len) as u32);
+    patch_values(shape, len, &mut pod[..end]);
+    end
+}
+
+/// Replaces a pod of this type and this size of a body, which holds no others and is no choice, by its encoding, if that is as long.
+#[inline(always)]
+fn patch_leaf(type_: u32, size: usize, pod: &mut [u8])
     requires pod { IsPodOf pod.old type_ size }
     requires no_struct { type_ ≢ struct_type }
     requires no_object { type_ ≢ object_type }
+    requires no_choice { type_ ≢ choice_type }
     ensures { IsPatched pod.old pod.new }
 {
     match SpaTypes(type_) {
         SpaTypes::Bool => patch_bool(size, pod),
         SpaTypes::Pointer => patch_pointer(size, pod),
         SpaTypes::Array => patch_array(size, pod),
-        SpaTypes::Choice => patch_choice(size, pod),
         _ => clear_padding(size, pod),
     }
 }
@@ -316,27 +235,9 @@ fn patch_array(size: usize, pod: &mut [u8])
     }
 }
 
-/// Replaces a choice by its encoding, if that is as long: what it holds beyond the values that it takes is padding, and the flags of a None
-/// choice are 0.
-pub(crate) fn patch_choice(size: usize, pod: &mut [u8])
-    requires { IsPodOf pod.old choice_type size }
-    ensures { IsPatched pod.old pod.new }
-{
-    if size < SECOND_HEADER {
-        return;
-    }
-    let all = size - SECOND_HEADER;
-    let shape = u32_at(pod, HEADER_LEN);
-    let len = taken_len(shape, u32_at(pod, SECOND_HEADER) as usize, all);
-    if len > all {
-        return;
-    }
-    patch_values(shape, len, pod);
-}
-
 /// Replaces a choice of this shape, which takes so many bytes of values, by its encoding, if that is as long. Its size word isn't read.
 #[inline(always)]
-pub(crate) fn patch_values(shape: u32, len: usize, pod: &mut [u8])
+fn patch_values(shape: u32, len: usize, pod: &mut [u8])
     requires room { 24 + len ≤ length pod.old }
     requires fits { 16 + len < size_limit }
     ensures { TakesValues shape len pod.old pod.new }
@@ -350,7 +251,7 @@ pub(crate) fn patch_values(shape: u32, len: usize, pod: &mut [u8])
 }
 
 /// How many bytes of values a choice of this shape takes, where one has this size, of all that it holds.
-pub(crate) fn taken_len(shape: u32, size: usize, all: usize) -> usize
+fn taken_len(shape: u32, size: usize, all: usize) -> usize
     requires { size < size_limit }
     ensures { (s : Shape) → shape ≡ shape_number s → result ≡ bytes_taken s size all }
 {
@@ -386,7 +287,7 @@ fn patch_truths(words: &mut [u8])
 
 /// Makes what follows a body of this size zeros.
 #[inline(always)]
-pub(crate) fn clear_padding(size: usize, pod: &mut [u8])
+fn clear_padding(size: usize, pod: &mut [u8])
     requires { header_size + size ≤ length pod.old }
     ensures { pod.new ≡ take (header_size + size) pod.old ++ replicate (length pod.old - (header_size + size)) 0 }
 {

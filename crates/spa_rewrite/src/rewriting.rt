@@ -1,8 +1,8 @@
 //! The rewriting of a pod is the encoding of its value.
 //!
-//! Pods are looked at first. Canonical ones are copied, those that are as long as their encodings patched in the copy, and those that get shorter
-//! written over it. What nests too deep for that is looked at and written by loops that keep the open containers in memory.
-ghost use Rattle.std.specs.Prelude.{◌≡◌, ◌<◌, ◌≤◌, ◌++◌, [], true, IfErr, IfOk, IfSome, IfNone, IsErrAnd, OnErr, OnOk, length};
+//! Pods are looked at first. Canonical ones are copied, and others replaced in a copy. What nests too deep for a look without memory is looked at with the
+//! open containers in memory.
+ghost use Rattle.std.specs.Prelude.{◌≡◌, ◌<◌, ◌≤◌, ◌++◌, [], true, ℕ, IfErr, IfOk, IfSome, IfNone, IsErrAnd, OnErr, OnOk, length};
 ghost use Rattle.spa_fixed_sized.specs.declared.fault.Refusal.TheVariants as refusal;
 ghost use Rattle.spa_format.specs.Faults.{Stands};
 ghost use Rattle.spa_format.specs.Front.{Begins, HasFront, IsRefused, rest_of};
@@ -10,28 +10,24 @@ ghost use Rattle.spa_format.specs.Pod.{AreMembers};
 ghost use Rattle.spa_format.specs.Tree.{Tree, Trees};
 ghost use Rattle.spa_bodies.specs.Reading.{BeginsWith, IsShortAt, Names, OnFault, OnMemory};
 ghost use Rattle.spa_bodies.specs.Refusing.{error_of};
-ghost use Rattle.spa_rewrite.specs.Look.{IsTooDeep};
 ghost use Rattle.spa_rewrite.specs.Memory.{FrontAsksMemory, IsRefusal};
-ghost use Rattle.spa_rewrite.specs.Rewriting.{AppendsEncodings, AppendsFirst, AppendsFront, AreRewritten, AreRewrittenInParts, IsLeft, IsLookedOver, IsRewriting, IsSection, RefusesFront, RefusesList};
-ghost use Rattle.spa_rewrite.specs.Shorter.{ArePodsWithin, AreShorter, BeginsShorter};
+ghost use Rattle.spa_rewrite.specs.Rewriting.{AppendsEncodings, AppendsFirst, AppendsFront, ArePassed, AreRewritten, AreRewrittenInParts, IsLeft, IsRewriting, RefusesFront, RefusesList};
+ghost use Rattle.spa_rewrite.specs.Shorter.{ArePodsWithin, BeginsShorter};
 ghost use Rattle.spa_scan.specs.Canonical.{AreCanonical, IsStretch};
-ghost use Rattle.spa_scan.specs.Depth.{depth_of, levels_looked_into};
+ghost use Rattle.spa_scan.specs.Depth.{NestsDeeper, levels_looked_into};
 
-use crate::deep::{behind_deep, deep_encodings};
+use crate::deep::behind_deep;
+use crate::emitting::emit;
 use crate::leading::canonical_stretch;
 use crate::look::{
-    DEEP_BODY, Found, Rejected, Waiting, few_frames, look_at_front, look_at_pods, look_into,
-    more_unasked, no_room,
+    Found, Rejected, Waiting, few_frames, look_at_front, look_at_pods, look_into, more_unasked,
+    no_room,
 };
-use crate::patch::patch_all;
-use crate::source::Apart;
 use crate::surplus::{leaf_surplus, short_front};
-use crate::write::write_pods;
 use spa_bodies::error_at;
 use spa_bytes::open;
 use spa_events::{Inside, inside_of};
 use spa_fixed_sized::{DeserializeError, Refusal};
-use spa_scan::{LEVELS, nests_within};
 use std::alloc::Global;
 
 /// The encoding of the value that the front of the input says, and what follows that front.
@@ -117,15 +113,14 @@ pub fn rewrite_in_parts(
 
 /// Tells whether `rewrite_all` would accept the input, and else refuses it as that call does.
 ///
-/// It takes memory only for a pod in which more than 1000 structs and objects stand in one another, not counting those in tail position: for its
-/// open containers.
+/// It takes memory only for a pod in which more than 1000 structs and objects stand in one another: for its open containers.
 pub fn accept_all(alloc: Global, input: &[u8]) -> Result<(), (&[u8], DeserializeError<&[u8]>)>
     ensures accepted { OnOk result ((vs : Trees) × AreMembers vs input.now) }
     ensures refused { IfErr result (λ refusal. RefusesList input.now refusal.0.now refusal.1) }
     // Pods that nest in 1000 levels at most are never refused,
     ensures missed { IfErr result (λ _. ¬ (ArePodsWithin levels_looked_into input.now)) }
     // and memory runs out only for a pod, malformed or not, in which more than 1000 structs and objects stand in one another.
-    ensures memory { IfErr result (λ refusal. OnMemory (IsTooDeep refusal.0.now) refusal.1) }
+    ensures memory { IfErr result (λ refusal. OnMemory (NestsDeeper levels_looked_into refusal.0.now) refusal.1) }
 {
     let mut left = input;
     loop {
@@ -212,17 +207,6 @@ fn append_canonical<'a>(left: &'a [u8], out: &mut Vec<u8>) -> Option<&'a [u8]>
     }
 }
 
-/// Accepted pods that are written together.
-#[derive(Clone, Copy)]
-struct Section<'a> {
-    /// The pods.
-    pods: &'a [u8],
-    /// By how many bytes their encodings are shorter.
-    surplus: usize,
-    /// What follows.
-    rest: &'a [u8],
-}
-
 /// Appends the encodings of pods the first of which isn't canonical, some `len` bytes, and answers what follows them. Refused is the first of them.
 fn append_others<'a>(
     len: usize,
@@ -235,84 +219,53 @@ fn append_others<'a>(
     ensures unchanged { OnErr result (out.new.items ≡ out.old.items) }
     ensures refused { IfErr result (λ refused. IsRefusal pods.now (error_of refused.place refused.why)) }
 {
-    let section = look_over(len, pods, frames);
-    if section.pods.is_empty() {
+    let left = look_over(len, pods, frames);
+    if left.len() == pods.len() {
         return append_front(pods, out);
     }
-    match append_pods(section.pods, section.surplus, out) {
-        Some(()) => Ok(section.rest),
+    let (accepted, rest) = pods.split_at(pods.len() - left.len());
+    match append_pods(accepted, out) {
+        Some(()) => Ok(rest),
         None => Err(lacking_memory(pods)),
     }
 }
 
-/// Looks at the first pods, as long as they are accepted and up to one that ends behind so many bytes. Pods that keep their length end before one that
-/// gets shorter, since they are patched; and all before one that would be written and in which more than `LEVELS` structs and objects stand in one another,
-/// wherever these end: what writes such a pod calls itself for each.
+/// What follows the first pods, as many as are accepted, up to one that ends behind so many bytes.
 #[inline(always)]
-fn look_over<'a>(len: usize, pods: &'a [u8], frames: &mut [Waiting<'a>]) -> Section<'a>
-    ensures { IsSection pods.now result }
+fn look_over<'a>(len: usize, pods: &'a [u8], frames: &mut [Waiting<'a>]) -> &'a [u8]
+    ensures { ArePassed pods.now result.now }
 {
     let mut left = pods;
-    let mut surplus = 0;
     while pods.len() - left.len() < len {
-        let Some((rest, more)) = behind_front(left, frames) else {
-            return cut_section(pods, left, surplus);
+        let Some(rest) = behind_front(left, frames) else {
+            return left;
         };
-        if surplus == 0 && more > 0 && left.len() < pods.len() {
-            return cut_section(pods, left, surplus);
-        }
-        let all = surplus + more;
-        if all > 0 && is_deep(left.len() - rest.len(), left) {
-            return cut_section(pods, left, surplus);
-        }
-        surplus = all;
         left = rest;
     }
-    cut_section(pods, left, surplus)
+    left
 }
 
-/// What follows the pod at the front, where a look accepts it, and by how many bytes its encoding is shorter. It isn't asked whether the pod is canonical.
+/// What follows the pod at the front, where a look accepts it. It isn't asked whether the pod is canonical.
 #[inline(always)]
-fn behind_front<'a>(input: &'a [u8], frames: &mut [Waiting<'a>]) -> Option<(&'a [u8], usize)>
-    ensures { IfSome result (λ passed. BeginsShorter input.now passed.0.now passed.1) }
+fn behind_front<'a>(input: &'a [u8], frames: &mut [Waiting<'a>]) -> Option<&'a [u8]>
+    ensures { IfSome result (λ rest. (n : ℕ) × BeginsShorter input.now rest.now n) }
 {
     if let Some(rest) = short_front(input) {
-        return Some((rest, 0));
+        return Some(rest);
     }
     let front = open(input)?;
     let Some(inside) = inside_of(front.type_, front.body) else {
-        let surplus = leaf_surplus(front.type_, front.body)?;
-        return Some((front.rest, surplus));
+        let _ = leaf_surplus(front.type_, front.body)?;
+        return Some(front.rest);
     };
     match look_into(inside.keyed, inside.pods, frames) {
-        Found::Fits(surplus) => Some((front.rest, surplus)),
+        Found::Fits(_) => Some(front.rest),
         _ => None,
     }
 }
 
-/// Whether more than `LEVELS` containers are nested in one another in the pod at the front, which has so many bytes.
-#[inline(always)]
-fn is_deep(len: usize, input: &[u8]) -> bool {
-    len >= DEEP_BODY && !nests_within(input, LEVELS)
-}
-
-/// The pods up to what is left of them, whose encodings are so many bytes shorter.
-#[inline(always)]
-fn cut_section<'a>(pods: &'a [u8], left: &'a [u8], surplus: usize) -> Section<'a>
-    requires { IsLookedOver pods.now left.now surplus }
-    ensures { IsSection pods.now result }
-{
-    let (first, rest) = pods.split_at(pods.len() - left.len());
-    Section {
-        pods: first,
-        surplus,
-        rest,
-    }
-}
-
-/// Appends the encodings of accepted pods, which are so many bytes shorter. `None`: memory ran out, and nothing was appended.
-fn append_pods(pods: &[u8], surplus: usize, out: &mut Vec<u8>) -> Option<()>
-    requires { AreShorter pods.now surplus }
+/// Appends the encodings of accepted pods. `None`: memory ran out, and nothing was appended.
+fn append_pods(pods: &[u8], out: &mut Vec<u8>) -> Option<()>
     ensures appended { IfSome result (λ _. AppendsEncodings pods.now out.old.items out.new.items) }
     ensures unchanged { IfNone result (out.new.items ≡ out.old.items) }
 {
@@ -320,12 +273,8 @@ fn append_pods(pods: &[u8], surplus: usize, out: &mut Vec<u8>) -> Option<()>
     let Ok(()) = out.extend_from_slice(pods) else {
         return None;
     };
-    if surplus > 0 {
-        let len = write_pods(false, Apart { bytes: pods }, &mut out[at..]);
-        out.truncate(at + len);
-    } else {
-        patch_all(&mut out[at..]);
-    }
+    let len = emit(&mut out[at..]);
+    out.truncate(at + len);
     Some(())
 }
 
@@ -338,7 +287,7 @@ fn append_front<'a>(input: &'a [u8], out: &mut Vec<u8>) -> Result<&'a [u8], Refu
     match look_at_front(true, input, &mut no_room(input)) {
         Ok(pod) => {
             let (front, _) = input.split_at(input.len() - pod.rest.len());
-            match append_pod(pod.canonical, front, pod.surplus, out) {
+            match append_pod(pod.canonical, front, out) {
                 Some(()) => Ok(pod.rest),
                 None => Err(lacking_memory(input)),
             }
@@ -350,19 +299,15 @@ fn append_front<'a>(input: &'a [u8], out: &mut Vec<u8>) -> Result<&'a [u8], Refu
     }
 }
 
-/// Appends the encoding of an accepted pod, which is so many bytes shorter. `None`: memory ran out, and nothing was appended.
+/// Appends the encoding of an accepted pod. `None`: memory ran out, and nothing was appended.
 #[inline(always)]
-fn append_pod(canonical: bool, pod: &[u8], surplus: usize, out: &mut Vec<u8>) -> Option<()>
-    requires shorter { AreShorter pod.now surplus }
-    requires canonical { canonical ≡ true → AreCanonical pod.now }
+fn append_pod(canonical: bool, pod: &[u8], out: &mut Vec<u8>) -> Option<()>
+    requires { canonical ≡ true → AreCanonical pod.now }
     ensures appended { IfSome result (λ _. AppendsEncodings pod.now out.old.items out.new.items) }
     ensures unchanged { IfNone result (out.new.items ≡ out.old.items) }
 {
     if !canonical {
-        if surplus > 0 && is_deep(pod.len(), pod) {
-            return append_by_loop(pod, out);
-        }
-        return append_pods(pod, surplus, out);
+        return append_pods(pod, out);
     }
     match out.extend_from_slice(pod) {
         Ok(()) => Some(()),
@@ -374,7 +319,7 @@ fn append_pod(canonical: bool, pod: &[u8], surplus: usize, out: &mut Vec<u8>) ->
 #[cold]
 #[inline(never)]
 fn append_deep<'a>(input: &'a [u8], out: &mut Vec<u8>) -> Result<&'a [u8], Refused<'a>>
-    requires { IsTooDeep input.now }
+    requires { NestsDeeper levels_looked_into input.now }
     ensures appended { IfOk result (λ rest. AppendsFront input.now rest.now out.old.items out.new.items) }
     ensures unchanged { OnErr result (out.new.items ≡ out.old.items) }
     ensures refused { IfErr result (λ refused. IsRefusal input.now (error_of refused.place refused.why)) }
@@ -384,20 +329,8 @@ fn append_deep<'a>(input: &'a [u8], out: &mut Vec<u8>) -> Result<&'a [u8], Refus
         Err(refused) => return Err(refused),
     };
     let (front, _) = input.split_at(input.len() - rest.len());
-    match append_by_loop(front, out) {
+    match append_pods(front, out) {
         Some(()) => Ok(rest),
         None => Err(lacking_memory(input)),
-    }
-}
-
-/// Appends the encodings of pods, any of which may be nested at any depth. `None`: memory ran out, and nothing was appended.
-fn append_by_loop(pods: &[u8], out: &mut Vec<u8>) -> Option<()>
-    ensures appended { IfSome result (λ _. AppendsEncodings pods.now out.old.items out.new.items) }
-    ensures unchanged { IfNone result (out.new.items ≡ out.old.items) }
-{
-    let encodings = deep_encodings(*out.allocator(), pods)?;
-    match out.extend_from_slice(encodings.as_slice()) {
-        Ok(()) => Some(()),
-        Err(_) => None,
     }
 }

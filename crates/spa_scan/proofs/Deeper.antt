@@ -8,7 +8,7 @@ use Rattle.spa_format.specs.Front.{HasFront, front_of, rest_of}
 use Rattle.spa_format.specs.Walk.{extent_behind, walk_behind}
 use Rattle.spa_format.proofs.Fronts.{body_of_front, type_of_front, size_of_front}
 use Rattle.spa_format.proofs.WalkLemmas.{walk_behind-end}
-use Rattle.spa_events.specs.Inside.{IsInside, OpensFirst, key_size}
+use Rattle.spa_events.specs.Inside.{IsContainer, IsInside, OpensFirst, key_size}
 use Rattle.spa_bytes.specs.Opening.{Opens}
 use Rattle.spa_events.proofs.Firsts.{pod_behind, walk_first}
 use Rattle.spa_scan.specs.Depth.{IsDeepBody, NestsDeeper, NestsDeeperInside, SomeOf}
@@ -151,6 +151,11 @@ some_weaker P Q f (b ∷ bs) s = elim s [
 pub container : (type : ℕ) (body inside : List ℕ) (keyed : Bool) → IsInside type body keyed inside → IsDeepBody zero type body
 container type body inside true i = inr i.0
 container type body inside false i = inl i.0
+
+pub its_container : (n : ℕ) (b : List ℕ) → NestsDeeper n b → IsContainer (word_at b 4)
+unfolding NestsDeeper
+its_container zero b d = d.1
+its_container (suc n) b d = container (word_at b 4) (body_of b) d.2 d.1 d.3
 
 pub deeper_than_fewer : (m n : ℕ) (b : List ℕ) → m ≤ n → NestsDeeper n b → NestsDeeper m b
 unfolding NestsDeeper

@@ -95,11 +95,15 @@ pub(crate) fn put_element(values: &mut ValueArray, element: Element) -> Result<(
     }
 }
 
+/// For how many values there is room at first: as many as most choices have.
+const FIRST_ROOM: usize = 4;
+
 fn push<T: Copy>(values: &mut Vec<T>, value: T) -> Result<(), Cause>
     ensures ok { OnOk result (values.new.items ≡ values.old.items ++ value ∷ []) }
     ensures memory { IfErr result (λ e. e ≡ Cause.OutOfMemory) }
 {
-    let Ok(()) = values.reserve(1) else {
+    let room = if values.is_empty() { FIRST_ROOM } else { 1 };
+    let Ok(()) = values.reserve(room) else {
         return Err(Cause::OutOfMemory);
     };
     values.push_reserved(value);

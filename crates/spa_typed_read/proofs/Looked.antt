@@ -3,14 +3,13 @@ use Rattle.std.proofs.Common.{◌≡◌, ℕ, ◌<◌, ◌≤◌, List, sym, ap,
 use Rattle.spa_format.specs.Tree.{Tree, Properties, join_properties, no_properties, property}
 use Rattle.spa_format.specs.Pod.{AreProperties}
 use Rattle.spa_format.proofs.Sequences.{props_left}
-use Rattle.spa_scan.specs.Depth.{depth_of, levels_looked_into, property_depth}
+use Rattle.spa_scan.specs.Depth.{NestsDeeper, depth_of, levels_looked_into, property_depth}
 use Rattle.std.specs.Borrow.{Bor}
 use Rattle.spa_format.specs.Faults.{Fault, Stands}
 use Rattle.spa_fixed_sized.specs.declared.fault.Refusal.{Refusal}
 use Rattle.spa_fixed_sized.specs.declared.fault.Refusal.TheVariants as refusal
 use Rattle.spa_bodies.specs.Reading.{MayLackMemory, OnMemory, RefusesInput}
 use Rattle.spa_bodies.specs.Refusing.{Says, error_of}
-use Rattle.spa_rewrite.specs.Look.{IsTooDeep}
 use Rattle.spa_rewrite.proofs.Accepted.{fault_front}
 use Rattle.spa_scan.proofs.Depths.{deep_begun}
 use Rattle.spa_typed_read.specs.Lookup.{HoldsDeep}
@@ -23,7 +22,7 @@ fault_memory stands fact place _ s = tt
 
 -- the refusal of a fault, which is none for lack of memory
 pub fault_refused : (input : List ℕ) (place : Bor (List ℕ)) (why : Refusal) → Says (λ k. Stands k place.now input) ⊥ why →
-    RefusesInput input (error_of place why) × OnMemory (IsTooDeep input) (error_of place why)
+    RefusesInput input (error_of place why) × OnMemory (NestsDeeper levels_looked_into input) (error_of place why)
 fault_refused input place why s =
     let r = fault_front input place why s in (
       record {
@@ -32,7 +31,7 @@ fault_refused input place why s =
         short_first = r.short_first;
         named = r.named;
       },
-      fault_memory (λ k. Stands k place.now input) (IsTooDeep input) place why s,
+      fault_memory (λ k. Stands k place.now input) (NestsDeeper levels_looked_into input) place why s,
     )
 
 -- a property nests no deeper than they all
@@ -45,7 +44,7 @@ pub deep_nests : (b : List ℕ) (ps : Properties) → HoldsDeep b → ArePropert
 deep_nests b ps d m =
     let k = props_left d.properties ps d.first d.left d.are (subst (AreProperties ps) d.parts m) in
     let f = first_of_all d.left k.0 (some_long d.left d.header) k.2 in
-    let deep = deep_begun levels_looked_into _ f.value d.deep.nests f.begins in
+    let deep = deep_begun levels_looked_into _ f.value d.deep f.begins in
     let all : ps ≡ join_properties d.properties (property f.key f.flags f.value f.others) = k.1 ∙ ap (join_properties d.properties) f.is in
     let among = depth_among d.properties f.others f.key f.flags f.value in
     subst (λ qs. levels_looked_into < property_depth qs) (sym all) (omega (arith, deep, among))

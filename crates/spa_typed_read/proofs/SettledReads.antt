@@ -1,5 +1,5 @@
 -- Values that are read through None choices.
-use Rattle.std.proofs.Common.{◌≡◌, Bool, true, false, List, ℕ, inl, ap, ◌∙◌, subst, arith}
+use Rattle.std.proofs.Common.{◌≡◌, List, ℕ, inl, inr, subst, arith}
 use Rattle.std.specs.Borrow.{Bor}
 use Rattle.spa_format.specs.Words.{word_at}
 use Rattle.spa_format.specs.Kind.{Kind}
@@ -9,7 +9,8 @@ use Rattle.spa_format.specs.Tree.{Tree}
 use Rattle.spa_format.specs.Pod.{IsPod}
 use Rattle.spa_format.specs.Front.{Begins, front_of}
 use Rattle.spa_format.proofs.Conveyed.{one_value, pod_conveys}
-use Rattle.spa_rewrite.specs.Look.{IsTooDeep, OpensInside}
+use Rattle.spa_scan.specs.Depth.{NestsDeeper, levels_looked_into}
+use Rattle.spa_scan.proofs.Deeper.{its_container}
 use Rattle.spa_bodies.specs.Refusing as refusing
 use Rattle.spa_bodies.specs.Refusing.{error_of}
 use Rattle.spa_typed_read.specs.Exactly.{BeginsChoice, RefusesSettled, malformed}
@@ -31,22 +32,15 @@ settled_says b v w g h =
     pod_says w (settled_bytes (front_of b)) (subst (IsPod (settled_bytes (front_of b))) h (settled_pod v (front_of b) g.pod))
 
 -- no choice nests
-pub choices_are_flat : (b : List ℕ) → BeginsChoice b → ¬ (IsTooDeep b)
-choices_are_flat b c d = by_inside d.inner d.opens
-  where
-    by_inside : (inner : Bool) → OpensInside false b inner d.inside d.rest → ⊥
-    by_inside true o =
-        let its_type = o.opens.its_type ∙ ap (λ l. word_at l 4) o.its_key ∙ c.1 in
-        let other = o.its_inside.0 in
-        omega (arith, its_type, other)
-    by_inside false o =
-        let its_type = o.opens.its_type ∙ ap (λ l. word_at l 4) o.its_key ∙ c.1 in
-        let other = o.its_inside.0 in
-        omega (arith, its_type, other)
+pub choices_are_flat : (b : List ℕ) → BeginsChoice b → ¬ (NestsDeeper levels_looked_into b)
+choices_are_flat b c d = elim (its_container levels_looked_into b d) [
+  | inl s ↦ omega (arith, c.1, s)
+  | inr o ↦ omega (arith, c.1, o)
+]
 
 -- a choice in which a fault stands is refused for it
 pub fault_settled : {X : Type 0} (k : Kind) (reads : Tree → X → Type 0) (b : List ℕ) (place : Bor (List ℕ)) (why : Refusal) → BeginsChoice b →
     refusing.Says (λ j. Stands j place.now b) ⊥ why → RefusesSettled k reads b (error_of place why)
 fault_settled k reads b place why c s =
     let r = fault_refused b place why s in
-    malformed c r.0 (memory_to (IsTooDeep b) ⊥ (error_of place why) (choices_are_flat b c) r.1)
+    malformed c r.0 (memory_to (NestsDeeper levels_looked_into b) ⊥ (error_of place why) (choices_are_flat b c) r.1)

@@ -16,7 +16,7 @@ use Rattle.spa_format.specs.Faults.{Stands}
 use Rattle.spa_fixed_sized.specs.declared.fault.DeserializeError.TheVariants as error
 use Rattle.spa_bodies.specs.Refusing.{StandsInMembers, StandsInProperties}
 use Rattle.spa_typed_read.specs.Exactly.{AreNoMembers, RefusesMembers}
-use Rattle.spa_rewrite.specs.Look.{IsTooDeep}
+use Rattle.spa_scan.specs.Depth.{NestsDeeper, levels_looked_into}
 use Rattle.spa_typed_read.specs.Lookup.{HoldsDeep, RefusesProperties}
 use Rattle.spa_typed_read.specs.ExactlyLaws.{fault_to, memory_there, memory_to}
 use Rattle.spa_typed_read.proofs.Causes.{names_to, short_named, short_no_memory}
@@ -393,13 +393,13 @@ properties_refused a b e f good some short refuses =
 -- where memory runs out for one that is passed
 pub deep_further : (a b : ObjectReader) (e : DeserializeError (Bor (List ℕ))) → FurtherIn a b → b.reader.failed ≡ false →
     (length b.reader.left < header_size → IsShortAt b.reader.left e) →
-    (header_size ≤ length b.reader.left → OnMemory (IsTooDeep (drop header_size b.reader.left)) e) →
+    (header_size ≤ length b.reader.left → OnMemory (NestsDeeper levels_looked_into (drop header_size b.reader.left)) e) →
     OnMemory (HoldsDeep a.reader.left) e
 deep_further a b e f good short deep =
     let h = f.ahead good in
     ⊎_elim (λ cut. short_no_memory (HoldsDeep a.reader.left) b.reader.left e (short cut))
     (λ long.
-    memory_to (IsTooDeep (drop header_size b.reader.left)) (HoldsDeep a.reader.left) e
+    memory_to (NestsDeeper levels_looked_into (drop header_size b.reader.left)) (HoldsDeep a.reader.left) e
     (λ d. record { properties = h.properties; first = h.seen; left = b.reader.left; parts = h.left; are = h.are; header = long; deep = d })
     (deep long)) (cases_lt (length b.reader.left) header_size)
 

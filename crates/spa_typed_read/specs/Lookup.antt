@@ -8,7 +8,7 @@ use Rattle.spa_format.specs.Front.{HasFront, rest_of}
 use Rattle.spa_fixed_sized.specs.declared.fault.DeserializeError.{DeserializeError}
 use Rattle.spa_bodies.specs.Reading.{IsRead, IsShortAt, Names, OnFault, OnMemory}
 use Rattle.spa_bodies.specs.Refusing.{StandsInProperties}
-use Rattle.spa_rewrite.specs.Look.{IsTooDeep}
+use Rattle.spa_scan.specs.Depth.{NestsDeeper, levels_looked_into}
 use Rattle.spa_fixed_sized.specs.declared.fault.DeserializeError.TheVariants as error
 use Rattle.spa_typed_read.specs.Asking.{LacksObject}
 use Rattle.spa_typed_read.specs.Members.{ObjectReader, OpensObject}
@@ -50,7 +50,7 @@ pub record HoldsDeep (b : List ℕ) : Type 0 where
   pub parts : b ≡ first ++ left
   pub are : AreProperties properties first
   pub header : header_size ≤ length left
-  pub deep : IsTooDeep (drop header_size left)
+  pub deep : NestsDeeper levels_looked_into (drop header_size left)
 
 -- these bytes are zero or more whole properties with other keys, of whatever pods, and `left` behind them
 pub data LeadsTo (key : ℕ) (left : List ℕ) : List ℕ → Type 0 where

@@ -1,7 +1,7 @@
 //! Values that are checked in the input and skipped.
 ghost use Rattle.std.specs.Prelude.{⊤};
 ghost use Rattle.spa_bodies.specs.Reading.{OnMemory, RefusesInput};
-ghost use Rattle.spa_rewrite.specs.Look.{IsTooDeep};
+ghost use Rattle.spa_scan.specs.Depth.{NestsDeeper, levels_looked_into};
 ghost use Rattle.spa_typed_read.specs.ExactlyLaws.{passed_exactly};
 
 use crate::deserializer::{DeserializeSuccess, PodDeserialize, PodDeserializer};
@@ -19,7 +19,7 @@ pub struct Skipped;
 impl<'de> PodDeserialize<'de> for Skipped {
     ghost reads = { λ _ _. ⊤ };
 
-    ghost refuses = { λ input e. RefusesInput input e × OnMemory (IsTooDeep input) e };
+    ghost refuses = { λ input e. RefusesInput input e × OnMemory (NestsDeeper levels_looked_into input) e };
 
     fn deserialize(
         deserializer: PodDeserializer<'de>,
@@ -39,7 +39,7 @@ impl<'de> PodDeserialize<'de> for Skipped {
 }
 
 impl<'de> ExactDeserialize<'de> for Skipped {
-    ghost takes_memory = { IsTooDeep };
+    ghost takes_memory = { NestsDeeper levels_looked_into };
 
     ghost exactly = { λ b e r. passed_exactly _ _ b e r.0 r.1 };
 }

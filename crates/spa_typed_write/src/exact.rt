@@ -4,6 +4,7 @@ ghost use Rattle.spa_fixed_sized.specs.Choices.{choice_tree};
 ghost use Rattle.spa_format.specs.Tree as tree;
 ghost use Rattle.spa_format.specs.Tree.{Tree};
 ghost use Rattle.spa_value.specs.View.{view};
+ghost use Rattle.spa_typed_write.specs.Parts.{IsPart};
 ghost use Rattle.spa_typed_write.specs.Complete.{IsWritten, KeepsBytes, RefusesValue, Unwritable};
 
 use crate::serializer::{PodSerialize, PodSerializer, SerializeSuccess};
@@ -22,25 +23,28 @@ use spa_write::write_sized;
 /// The members and the properties that `write_struct` and `write_object` write have to be of such types. A `SerializeAs` is one, and so is each
 /// built-in type.
 pub trait ExactSerialize: PodSerialize {
-    /// Appends the value's encoding. After a refusal the output holds the bytes that it held before, and zero or more behind them.
+    /// Appends the value's encoding. After a refusal the output holds the bytes that it held before, and behind
+    /// them a beginning of the encoding, in which the size words of the structs and objects that aren't closed are 0.
     fn write_exactly<O: PodOutput>(&self, out: &mut O) -> Result<(), GenError>
         ensures written { OnOk result (IsWritten O.content O.refuses out.old (Self.value self.now) out.new) }
         ensures refused { IfErr result (RefusesValue O.refuses out.old (Self.value self.now)) }
-        ensures keeps { OnErr result (KeepsBytes O.content out.old out.new) };
+        ensures keeps { OnErr result (KeepsBytes O.content out.old (IsPart (Self.value self.now)) out.new) };
 }
 
 /// A type that is written as another value: each built-in type, and a type of a program's own, by `write_struct` of its members or by
 /// `write_object` of its properties. Refused only as `NulInText` where a text in the value holds NUL, as `TooLarge` where a size word would be
-/// 4294967296 or more, and with the output's error where that refuses the encoding.
+/// 4294967296 or more, as `OutOfMemory` where a `Value` in it nests in more than 512 levels, and with the output's error where that refuses the
+/// encoding.
 pub trait SerializeAs {
     /// The tree of the value that is written.
     ghost says: { Self → Tree };
 
-    /// Appends the encoding of that value. After a refusal the output holds the bytes that it held before, and zero or more behind them.
+    /// Appends the encoding of that value. After a refusal the output holds the bytes that it held before, and behind
+    /// them a beginning of the encoding, in which the size words of the structs and objects that aren't closed are 0.
     fn write_as<O: PodOutput>(&self, out: &mut O) -> Result<(), GenError>
         ensures written { OnOk result (IsWritten O.content O.refuses out.old (says self.now) out.new) }
         ensures refused { IfErr result (RefusesValue O.refuses out.old (says self.now)) }
-        ensures keeps { OnErr result (KeepsBytes O.content out.old out.new) };
+        ensures keeps { OnErr result (KeepsBytes O.content out.old (IsPart (says self.now)) out.new) };
 }
 
 impl<T: SerializeAs> PodSerialize for T {
@@ -88,7 +92,7 @@ pub(crate) fn write_number<T: CanonicalFixedSizedPod, O: PodOutput>(
 ) -> Result<(), GenError>
     ensures written { OnOk result (IsWritten O.content O.refuses out.old (tree.fixed (T.fixed value.now)) out.new) }
     ensures refused { IfErr result (RefusesValue O.refuses out.old (tree.fixed (T.fixed value.now))) }
-    ensures keeps { OnErr result (KeepsBytes O.content out.old out.new) }
+    ensures keeps { OnErr result (KeepsBytes O.content out.old (IsPart (tree.fixed (T.fixed value.now))) out.new) }
 {
     put_number(out, value)
 }
@@ -101,7 +105,8 @@ pub(crate) fn write_elements<T: CanonicalFixedSizedPod, O: PodOutput>(
     ensures written { OnOk result (IsWritten O.content O.refuses out.old
         (tree.array T.kind (map T.fixed values.now)) out.new) }
     ensures refused { IfErr result (RefusesValue O.refuses out.old (tree.array T.kind (map T.fixed values.now))) }
-    ensures keeps { OnErr result (KeepsBytes O.content out.old out.new) }
+    ensures keeps { OnErr result (KeepsBytes O.content out.old
+        (IsPart (tree.array T.kind (map T.fixed values.now))) out.new) }
 {
     put_elements(out, values)
 }
@@ -114,7 +119,8 @@ pub(crate) fn write_alternatives<T: ChoiceElement, O: PodOutput>(
     ensures written { OnOk result (IsWritten O.content O.refuses out.old
         (choice_tree T.kind T.fixed choice.now) out.new) }
     ensures refused { IfErr result (RefusesValue O.refuses out.old (choice_tree T.kind T.fixed choice.now)) }
-    ensures keeps { OnErr result (KeepsBytes O.content out.old out.new) }
+    ensures keeps { OnErr result (KeepsBytes O.content out.old
+        (IsPart (choice_tree T.kind T.fixed choice.now)) out.new) }
 {
     put_alternatives(out, choice)
 }
@@ -123,7 +129,7 @@ pub(crate) fn write_alternatives<T: ChoiceElement, O: PodOutput>(
 pub(crate) fn write_text<O: PodOutput>(out: &mut O, text: &str) -> Result<(), GenError>
     ensures written { OnOk result (IsWritten O.content O.refuses out.old (tree.string text.now) out.new) }
     ensures refused { IfErr result (RefusesValue O.refuses out.old (tree.string text.now)) }
-    ensures keeps { OnErr result (KeepsBytes O.content out.old out.new) }
+    ensures keeps { OnErr result (KeepsBytes O.content out.old (IsPart (tree.string text.now)) out.new) }
 {
     put_text(out, text)
 }
@@ -132,7 +138,7 @@ pub(crate) fn write_text<O: PodOutput>(out: &mut O, text: &str) -> Result<(), Ge
 pub(crate) fn write_bytes<O: PodOutput>(out: &mut O, bytes: &[u8]) -> Result<(), GenError>
     ensures written { OnOk result (IsWritten O.content O.refuses out.old (tree.bytes bytes.now) out.new) }
     ensures refused { IfErr result (RefusesValue O.refuses out.old (tree.bytes bytes.now)) }
-    ensures keeps { OnErr result (KeepsBytes O.content out.old out.new) }
+    ensures keeps { OnErr result (KeepsBytes O.content out.old (IsPart (tree.bytes bytes.now)) out.new) }
 {
     put_bytes(out, bytes)
 }
@@ -141,7 +147,7 @@ pub(crate) fn write_bytes<O: PodOutput>(out: &mut O, bytes: &[u8]) -> Result<(),
 pub(crate) fn write_bitmap<O: PodOutput>(out: &mut O, bytes: &[u8]) -> Result<(), GenError>
     ensures written { OnOk result (IsWritten O.content O.refuses out.old (tree.bitmap bytes.now) out.new) }
     ensures refused { IfErr result (RefusesValue O.refuses out.old (tree.bitmap bytes.now)) }
-    ensures keeps { OnErr result (KeepsBytes O.content out.old out.new) }
+    ensures keeps { OnErr result (KeepsBytes O.content out.old (IsPart (tree.bitmap bytes.now)) out.new) }
 {
     put_bitmap(out, bytes)
 }
@@ -154,7 +160,7 @@ pub(crate) fn write_pointer<O: PodOutput>(
 ) -> Result<(), GenError>
     ensures written { OnOk result (IsWritten O.content O.refuses out.old (tree.pointer type_ address) out.new) }
     ensures refused { IfErr result (RefusesValue O.refuses out.old (tree.pointer type_ address)) }
-    ensures keeps { OnErr result (KeepsBytes O.content out.old out.new) }
+    ensures keeps { OnErr result (KeepsBytes O.content out.old (IsPart (tree.pointer type_ address)) out.new) }
 {
     put_pointer(out, type_, address)
 }

@@ -6,7 +6,9 @@ ghost use Rattle.spa_sink.specs.declared.gen_error.GenError.TheVariants.{Full, O
 ghost use Rattle.spa_format.specs.Encoding.{encoding_of};
 ghost use Rattle.spa_format.specs.Typed.{IsTyped};
 ghost use Rattle.spa_format.specs.Writable.{HasNul, IsTooLarge, IsWritable};
+ghost use Rattle.spa_scan.specs.Depth.{depth_of};
 ghost use Rattle.spa_value.specs.View.{view};
+ghost use Rattle.spa_write.specs.DeepValues.{levels_without_memory};
 ghost use Rattle.spa_typed_write.specs.Complete.{RefusesAtLimit};
 
 use crate::exact::SerializeAs;
@@ -15,9 +17,10 @@ use arrayvec::ArrayVec;
 use spa_sink::GenError;
 use spa_value::Value;
 
-/// To an output of fixed size each value that can be written is written where its encoding fits, and no other value is ever
-/// written. It is refused as `NulInText` only where a text in it holds NUL, as `TooLarge` only where a size word would be 4294967296
-/// or more, as `Full` only where its encoding doesn't fit, and never otherwise.
+/// To an output of fixed size each value that can be written and nests in at most 512 levels is written where its encoding fits, and no value
+/// that can't be written ever is. It is refused as `NulInText` only where a text in it holds NUL, as `TooLarge` only where a size word would be
+/// 4294967296 or more, as `OutOfMemory` only where it nests in more than 512 levels, as `Full` only where its encoding doesn't fit, and never
+/// otherwise.
 pub fn values_are_written_where_they_fit<const N: usize>(
     out: ArrayVec<u8, N>,
     value: &Value,
@@ -25,10 +28,9 @@ pub fn values_are_written_where_they_fit<const N: usize>(
     ensures encoding { IfOk result (λ done. done.0.items ≡ out.entry.items ++ encoding_of (view value.now)) }
     ensures count { IfOk result (λ done. done.1 ≡ length (encoding_of (view value.now))) }
     ensures writable { IsOk result → IsWritable (view value.now) }
-    ensures room { IsWritable (view value.now) → length out.entry.items + length (encoding_of (view value.now)) ≤ N
-        → IsOk result }
-    ensures cause { IfErr result (RefusedFor (HasNul (view value.now)) (IsTooLarge (view value.now))
-        (λ e. (e ≡ Full) × (N < length out.entry.items + length (encoding_of (view value.now))))) }
+    ensures room { IsWritable (view value.now) → depth_of (view value.now) ≤ levels_without_memory
+        → length out.entry.items + length (encoding_of (view value.now)) ≤ N → IsOk result }
+    ensures cause { IfErr result (RefusesAtLimit (length out.entry.items) N (view value.now)) }
 {
     PodSerializer::serialize(out, value)
 }
@@ -63,9 +65,10 @@ pub fn pods_are_written_where_they_fit<P: PodSerialize, const N: usize>(
     PodSerializer::serialize(out, pod)
 }
 
-/// To an output of fixed size a `SerializeAs`, such as a type of a program's own, is written exactly where its value can be written and the
-/// encoding fits. It is refused as `NulInText` only where a text in the value holds NUL, as `TooLarge` only where a size word would be
-/// 4294967296 or more, as `Full` only where the encoding doesn't fit, and never otherwise.
+/// To an output of fixed size a `SerializeAs` that nests in at most 512 levels, such as a type of a program's own, is written exactly where its
+/// value can be written and the encoding fits. It is refused as `NulInText` only where a text in the value holds NUL, as `TooLarge` only where a
+/// size word would be 4294967296 or more, as `OutOfMemory` only where it nests in more than 512 levels, as `Full` only where the encoding doesn't
+/// fit, and never otherwise.
 pub fn declared_pods_are_written_where_they_fit<P: SerializeAs, const N: usize>(
     out: ArrayVec<u8, N>,
     pod: &P,
@@ -74,8 +77,8 @@ pub fn declared_pods_are_written_where_they_fit<P: SerializeAs, const N: usize>(
     ensures count { IfOk result (λ done. done.1 ≡ length (encoding_of (P.says pod.now))) }
     ensures typed { IsOk result → IsTyped (P.says pod.now) }
     ensures writable { IsOk result → IsWritable (P.says pod.now) }
-    ensures room { IsWritable (P.says pod.now) → length out.entry.items + length (encoding_of (P.says pod.now)) ≤ N
-        → IsOk result }
+    ensures room { IsWritable (P.says pod.now) → depth_of (P.says pod.now) ≤ levels_without_memory
+        → length out.entry.items + length (encoding_of (P.says pod.now)) ≤ N → IsOk result }
     ensures cause { IfErr result (RefusesAtLimit (length out.entry.items) N (P.says pod.now)) }
 {
     PodSerializer::serialize(out, pod)

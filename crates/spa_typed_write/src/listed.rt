@@ -5,6 +5,7 @@ ghost use Rattle.spa_format.specs.Encoding.{encoding_of};
 ghost use Rattle.spa_format.specs.Tree.{Properties, Trees, member, no_properties, no_trees, object, property, struct};
 ghost use Rattle.spa_format.specs.Typed.{IsTyped};
 ghost use Rattle.spa_format.specs.Writable.{IsWritable};
+ghost use Rattle.spa_typed_write.specs.Parts.{ArePropertyParts, AreParts, IsPart};
 ghost use Rattle.spa_typed_write.specs.Complete.{ArePropertiesWritten, AreWritten, IsWritten, KeepsBytes, RefusesMembers, RefusesProperties, RefusesValue, Unwritable};
 ghost use Rattle.spa_typed_write.specs.Listed.{optional_property};
 
@@ -26,7 +27,7 @@ pub trait SerializeMembers {
     fn write_members<O: PodOutput>(&self, out: &mut O) -> Result<(), GenError>
         ensures written { OnOk result (AreWritten O.content O.refuses out.old (members self.now) out.new) }
         ensures refused { IfErr result (RefusesMembers O.refuses out.old (members self.now)) }
-        ensures keeps { OnErr result (KeepsBytes O.content out.old out.new) };
+        ensures keeps { OnErr result (KeepsBytes O.content out.old (AreParts (members self.now)) out.new) };
 }
 
 impl SerializeMembers for () {
@@ -63,7 +64,7 @@ pub trait SerializeProperties {
     fn write_properties<O: PodOutput>(&self, out: &mut O) -> Result<(), GenError>
         ensures written { OnOk result (ArePropertiesWritten O.content O.refuses out.old (properties self.now) out.new) }
         ensures refused { IfErr result (RefusesProperties O.refuses out.old (properties self.now)) }
-        ensures keeps { OnErr result (KeepsBytes O.content out.old out.new) };
+        ensures keeps { OnErr result (KeepsBytes O.content out.old (ArePropertyParts (properties self.now)) out.new) };
 }
 
 impl SerializeProperties for () {
@@ -87,7 +88,8 @@ fn write_property<A: ExactSerialize, R: SerializeProperties, O: PodOutput>(
         (property key flags (A.value value.now) (R.properties others.now)) out.new) }
     ensures refused { IfErr result (RefusesProperties O.refuses out.old
         (property key flags (A.value value.now) (R.properties others.now))) }
-    ensures keeps { OnErr result (KeepsBytes O.content out.old out.new) }
+    ensures keeps { OnErr result (KeepsBytes O.content out.old
+        (ArePropertyParts (property key flags (A.value value.now) (R.properties others.now))) out.new) }
 {
     if let Err(e) = put_two(out, key, flags) {
         return Err(e);
@@ -127,14 +129,16 @@ impl<A: ExactSerialize, R: SerializeProperties> SerializeProperties for ((u32, M
 }
 
 /// Appends the encoding of a struct of these members. Refused as `NulInText` only where a text in them holds NUL, as `TooLarge` only where a size
-/// word, the struct's own among them, would be 4294967296 or more, and else only with the output's error where that refuses the encoding.
+/// word, the struct's own among them, would be 4294967296 or more, as `OutOfMemory` where a `Value` in them nests in more than 512 levels, and else
+/// only with the output's error where that refuses the encoding. After a refusal the output holds the bytes that it held before, and behind them a
+/// beginning of the encoding, in which the size words of the structs and objects that aren't closed are 0.
 pub fn write_struct<M: SerializeMembers, O: PodOutput>(
     out: &mut O,
     members: &M,
 ) -> Result<(), GenError>
     ensures written { OnOk result (IsWritten O.content O.refuses out.old (struct (M.members members.now)) out.new) }
     ensures refused { IfErr result (RefusesValue O.refuses out.old (struct (M.members members.now))) }
-    ensures keeps { OnErr result (KeepsBytes O.content out.old out.new) }
+    ensures keeps { OnErr result (KeepsBytes O.content out.old (IsPart (struct (M.members members.now))) out.new) }
 {
     let start = match begin(out, SpaTypes::Struct.0) {
         Ok(start) => start,
@@ -147,8 +151,9 @@ pub fn write_struct<M: SerializeMembers, O: PodOutput>(
 }
 
 /// Appends the encoding of an object of this type and id with these properties. Refused as `NulInText` only where a text in them holds NUL, as
-/// `TooLarge` only where a size word, the object's own among them, would be 4294967296 or more, and else only with the output's error where that
-/// refuses the encoding.
+/// `TooLarge` only where a size word, the object's own among them, would be 4294967296 or more, as `OutOfMemory` where a `Value` in them nests in
+/// more than 512 levels, and else only with the output's error where that refuses the encoding. After a refusal the output holds what it holds
+/// after one of `write_struct`.
 pub fn write_object<P: SerializeProperties, O: PodOutput>(
     out: &mut O,
     type_: u32,
@@ -158,7 +163,8 @@ pub fn write_object<P: SerializeProperties, O: PodOutput>(
     ensures written { OnOk result (IsWritten O.content O.refuses out.old
         (object type_ id (P.properties properties.now)) out.new) }
     ensures refused { IfErr result (RefusesValue O.refuses out.old (object type_ id (P.properties properties.now))) }
-    ensures keeps { OnErr result (KeepsBytes O.content out.old out.new) }
+    ensures keeps { OnErr result (KeepsBytes O.content out.old
+        (IsPart (object type_ id (P.properties properties.now))) out.new) }
 {
     let start = match begin(out, SpaTypes::Object.0) {
         Ok(start) => start,

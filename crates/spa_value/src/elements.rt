@@ -1,4 +1,4 @@
-//! Compares lists of elements in blocks.
+//! Compares lists of elements.
 ghost use Rattle.std.specs.Prelude.{◌≡◌, length};
 ghost use Rattle.std.specs.Cmp.Lexicographic.{pointwise};
 
@@ -11,6 +11,15 @@ pub(crate) fn same_elements<T: PartialEq>(elements: &Vec<T>, others: &Vec<T>) ->
     ensures { result ≡ pointwise T.eq elements.now.items others.now.items }
 {
     same_slices(elements.as_slice(), others.as_slice())
+}
+
+/// Whether two lists of truth values, or of integers, are of one length and equal element by element.
+// Plain Rust compares slices of these by their bytes, and slices of structs, such as ids, element by element.
+#[inline(always)]
+pub(crate) fn same_numbers<T: PartialEq>(numbers: &Vec<T>, others: &Vec<T>) -> bool
+    ensures { result ≡ pointwise T.eq numbers.now.items others.now.items }
+{
+    numbers.as_slice() == others.as_slice()
 }
 
 /// Whether two slices are of one length and equal element by element, by `==` of the elements.

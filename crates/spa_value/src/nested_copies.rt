@@ -284,32 +284,38 @@ impl<'a> Copies<'a> {
     }
 }
 
-/// Copies a container. Refused only for want of memory.
+/// How many levels of containers in one another are copied by calls, which is faster; what is nested deeper is copied by a loop.
+pub(crate) const CALL_LEVELS: usize = 64;
+
+/// Copies a container, and this many levels in it by calls. Refused only for want of memory, as those below are.
+#[cycle(levels)]
 #[inline(always)]
-pub(crate) fn copy_nested(nested: Nested<'_>) -> Result<Value, AllocError>
+pub(crate) fn copy_nested(nested: Nested<'_>, levels: usize) -> Result<Value, AllocError>
     ensures { IfOk result (λ copy. view copy ≡ nested_view nested.entry) }
 {
     match nested {
-        Nested::Struct(members) => struct_copy(members),
-        Nested::Object(object) => object_copy(object),
+        Nested::Struct(members) => struct_copy(members, levels),
+        Nested::Object(object) => object_copy(object, levels),
     }
 }
 
-/// Copies a struct, without a stack where it has no container in it. Refused only for want of memory.
+/// Copies a struct.
+#[cycle(levels)]
 #[inline(never)]
-pub(crate) fn struct_copy(members: &Vec<Value>) -> Result<Value, AllocError>
+pub(crate) fn struct_copy(members: &Vec<Value>, levels: usize) -> Result<Value, AllocError>
     ensures { IfOk result (λ copy. view copy ≡ struct (views members.now.items)) }
 {
     let mut begun = begin_struct(members)?;
     match begun.copy_on()? {
         None => Ok(Value::Struct(begun.copies)),
-        Some(nested) => copy_within(Copying::Struct(begun), nested),
+        Some(nested) => copy_rest(Copying::Struct(begun), nested, levels),
     }
 }
 
-/// Copies an object, without a stack where it has no container in it. Refused only for want of memory.
+/// Copies an object.
+#[cycle(levels)]
 #[inline(never)]
-pub(crate) fn object_copy(object: &Object) -> Result<Value, AllocError>
+pub(crate) fn object_copy(object: &Object, levels: usize) -> Result<Value, AllocError>
     ensures { IfOk result (λ copy. view copy ≡ object_view object.now) }
 {
     let mut begun = begin_object(object)?;
@@ -319,8 +325,48 @@ pub(crate) fn object_copy(object: &Object) -> Result<Value, AllocError>
             id: begun.id,
             properties: begun.copies,
         })),
-        Some(nested) => copy_within(Copying::Object(begun), nested),
+        Some(nested) => copy_rest(Copying::Object(begun), nested, levels),
     }
+}
+
+/// Copies the container `first` and what is left behind it of the one whose copy is begun.
+#[cycle(levels)]
+#[inline(never)]
+fn copy_rest<'a>(outer: Copying<'a>, first: Nested<'a>, levels: usize) -> Result<Value, AllocError>
+    ensures { IfOk result (λ copy. view copy ≡ completed outer.entry (nested_view first.entry)) }
+{
+    if levels == 0 {
+        return copy_within(outer, first);
+    }
+    let mut begun = outer;
+    let mut nested = first;
+    loop {
+        if let Err(error) = put_copy(&mut begun, nested, levels - 1) {
+            discard(begun.into_value());
+            return Err(error);
+        }
+        match begun.copy_on() {
+            Ok(None) => return Ok(begun.into_value()),
+            Ok(Some(next)) => nested = next,
+            Err(error) => {
+                discard(begun.into_value());
+                return Err(error);
+            }
+        }
+    }
+}
+
+/// Puts the copy of the container at which copying stopped into the one around it.
+#[cycle(levels)]
+#[inline(always)]
+fn put_copy(begun: &mut Copying<'_>, nested: Nested<'_>, levels: usize) -> Result<(), AllocError>
+    ensures same { OnOk result (whole begun.new ≡ completed begun.old (nested_view nested.entry)) }
+    ensures left { OnOk result (values_left begun.new ≡ values_left begun.old) }
+{
+    begun.reserve()?;
+    let copy = copy_nested(nested, levels)?;
+    begun.put(copy);
+    Ok(())
 }
 
 /// Copies the container `nested` and what is left behind it of the one whose copy is begun, by a loop. Refused only for want of memory.

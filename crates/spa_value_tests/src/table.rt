@@ -450,17 +450,17 @@ pub(crate) fn objects(alloc: Global) -> Result<Vec<Object>, AllocError> {
     single(alloc, object)
 }
 
-/// This many structs, each nested in the one before.
+/// This many structs, each nested in the one before, with a None behind it.
 fn nested_structs(alloc: Global, count: usize) -> Result<Value, AllocError> {
     let mut value = Value::Struct(Vec::new(alloc));
     for _ in 1..count {
-        value = Value::Struct(single(alloc, value)?);
+        value = Value::Struct(pair(alloc, value, Value::None)?);
     }
     Ok(value)
 }
 
-/// How many structs are nested in one another, and one alone.
-const DEPTHS: &[usize] = &[301, 1];
+/// How many structs are nested in one another: one alone, as many as are copied by calls, one more, and far more.
+const DEPTHS: &[usize] = &[301, 66, 65, 1];
 
 /// Structs nested deep, and one struct.
 pub(crate) fn deep_values(alloc: Global) -> Result<Vec<Value>, AllocError> {

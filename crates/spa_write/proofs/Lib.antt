@@ -6,4 +6,5 @@ pub mod Shorts
 pub mod Stopping
 pub mod Nesting
 pub mod Counting
+pub mod Levels
 pub mod Made

@@ -4,6 +4,7 @@ use Rattle.spa_sink.specs.declared.gen_error.GenError.{GenError}
 use Rattle.spa_sink.specs.declared.gen_error.GenError.TheVariants.{Full, TooLarge, NulInText, WrongCount, Failed, Io, OutOfMemory}
 use Rattle.spa_sink.specs.Writing.{Begun, RefusesWrite, none_sent}
 use Rattle.spa_bodies.specs.Written.{Appending, Refusing}
+use Rattle.spa_write.specs.DeepValues.{LacksMemory, levels_without_memory}
 
 pub on_err : {T E P : Type 0} (r : Result T E) → P → OnErr r P
 on_err (Ok x) p = tt
@@ -57,6 +58,15 @@ by_own_memory {nul = nul} {large = large} {S = S} refuses a b n law e r =
     let own : (d : GenError) → ((d ≡ OutOfMemory) × (b ≡ a) ⊎ refuses a n b d) → refuses a n b d =
     λ d x. ⊎_elim (λ y. subst (λ c. refuses a n b c) (sym y.0) (subst (λ s. refuses a n s OutOfMemory) (sym y.1) (law n))) (λ z. z) x in
     by_map own e r
+
+-- Memory lacks for a value that nests deeper than is written without.
+pub deep_refused : {nul large : Type 0} {S : Type 0} {other : GenError → Type 0} (a b : S) (depth : ℕ) → levels_without_memory < depth →
+    (e : GenError) → RefusesWrite nul large (λ d. (d ≡ OutOfMemory) × (b ≡ a) ⊎ other d) e →
+    RefusesWrite nul large (λ d. LacksMemory depth d × (b ≡ a) ⊎ other d) e
+deep_refused {S = S} {other = other} a b depth deep e r =
+    let deeper : (d : GenError) → ((d ≡ OutOfMemory) × (b ≡ a) ⊎ other d) → LacksMemory depth d × (b ≡ a) ⊎ other d =
+    λ d x. ⊎_elim (λ y. inl ((y.0, deep), y.1)) (λ z. inr z) x in
+    by_map deeper e r
 
 -- There is less room than it takes.
 pub full_beyond : (room : Option ℕ) (P : ℕ → Type 0) (m : ℕ) → IfSome room (λ k. (n : ℕ) → k < n → P n) →

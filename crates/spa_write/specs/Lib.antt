@@ -1,2 +1,3 @@
 pub mod Measured
 pub mod Nesting
+pub mod DeepValues

@@ -1,8 +1,9 @@
 //! How many values a value consists of, counted no further than to a number.
-ghost use Rattle.std.specs.Prelude.{◌≡◌, ◌+◌, ◌<◌, ◌≤◌, IfNone, IfSome, IsSomeAnd, length, true};
+ghost use Rattle.std.specs.Prelude.{◌≡◌, ◌+◌, ◌<◌, ◌≤◌, IfNone, IfSome, IsSomeAnd, false, length, true};
 ghost use Rattle.spa_format.specs.Encoding.{encoding_of};
 ghost use Rattle.spa_format.specs.Tree as tree;
 ghost use Rattle.spa_format.specs.Tree.{member_node_count, node_count, property_node_count};
+ghost use Rattle.spa_scan.specs.Depth.{depth_of, member_depth, property_depth};
 ghost use Rattle.spa_value.specs.View.{view};
 ghost use Rattle.spa_value.specs.Views.{property_views, views};
 
@@ -76,7 +77,8 @@ fn few_left_of_properties(properties: &[Property], number: usize) -> usize {
 /// The members of the innermost of structs of which each is the only member of the one around it.
 #[inline(always)]
 fn innermost(members: &[Value]) -> &[Value]
-    ensures { member_node_count (views result.now) ≤ member_node_count (views members.now) }
+    ensures fewer { member_node_count (views result.now) ≤ member_node_count (views members.now) }
+    ensures depth { member_depth (views result.now) ≤ member_depth (views members.now) }
 {
     let mut left = members;
     while let Some(inner) = only_struct(left) {
@@ -102,17 +104,19 @@ pub(crate) fn only_struct(members: &[Value]) -> Option<&[Value]>
 /// How deep what is in a value may nest that is written by calls into a sink without an allocator.
 pub(crate) const INNER_LEVELS: usize = 511;
 
-/// Whether a value may nest deeper than calls write it into a sink without an allocator: it isn't small, and there may be room for so many.
+/// Whether a value may nest deeper than calls write it into a sink without an allocator: it isn't small, and there may be room for more levels.
 pub(crate) fn may_be_deep(room: Option<usize>, value: &Value) -> bool {
     let most = room.unwrap_or(usize::MAX) / HEADER_LEN;
-    most > INNER_LEVELS && !is_small(value)
+    most > INNER_LEVELS + 1 && !is_small(value)
 }
 
 /// Whether at most so many structs and objects stand in one another in a value. A struct that is the only member of another one isn't counted. No
 /// call is nested deeper than `levels`.
 #[cycle(levels)]
 #[inline(always)]
-fn nests_within(value: &Value, levels: usize) -> bool {
+fn nests_within(value: &Value, levels: usize) -> bool
+    ensures { result ≡ false → levels < depth_of (view value.now) }
+{
     match value {
         Value::Struct(members) => levels != 0
             && members_nest_within(members.as_slice(), levels - 1),
@@ -125,7 +129,9 @@ fn nests_within(value: &Value, levels: usize) -> bool {
 
 /// Whether at most so many stand in one another in each of these members of one struct.
 #[cycle(levels)]
-pub(crate) fn members_nest_within(members: &[Value], levels: usize) -> bool {
+pub(crate) fn members_nest_within(members: &[Value], levels: usize) -> bool
+    ensures { result ≡ false → levels < member_depth (views members.now) }
+{
     for member in innermost(members) {
         if is_nested(member) && !nests_within(member, levels) {
             return false;
@@ -136,7 +142,9 @@ pub(crate) fn members_nest_within(members: &[Value], levels: usize) -> bool {
 
 /// Whether at most so many stand in one another in each value of these properties.
 #[cycle(levels)]
-pub(crate) fn properties_nest_within(properties: &[Property], levels: usize) -> bool {
+pub(crate) fn properties_nest_within(properties: &[Property], levels: usize) -> bool
+    ensures { result ≡ false → levels < property_depth (property_views properties.now) }
+{
     for property in properties {
         if is_nested(&property.value) && !nests_within(&property.value, levels) {
             return false;
@@ -172,9 +180,28 @@ pub(crate) fn left_of(value: &Value, number: usize) -> Option<usize>
     }
 }
 
-/// What is left of the number once all values in these members are counted off; `None` where it is too small.
+/// What is left of the number once all values in these members are counted off; `None` where it is too small. A struct that is the only member
+/// of another one takes no call.
 #[cycle(count)]
 fn left_of_members(members: &[Value], number: usize) -> Option<usize>
+    ensures left { IfSome result (λ left. number ≡ left + member_node_count (views members.now)) }
+    ensures more { IfNone result (number < member_node_count (views members.now)) }
+{
+    let mut left = number;
+    let mut inner = members;
+    while let Some(lone) = only_struct(inner) {
+        let Some(behind) = left.checked_sub(1) else {
+            return None;
+        };
+        left = behind;
+        inner = lone;
+    }
+    left_of_all(inner, left)
+}
+
+/// What is left of the number once all values in these members are counted off, one by one; `None` where it is too small.
+#[cycle(count)]
+fn left_of_all(members: &[Value], number: usize) -> Option<usize>
     ensures left { IfSome result (λ left. number ≡ left + member_node_count (views members.now)) }
     ensures more { IfNone result (number < member_node_count (views members.now)) }
 {

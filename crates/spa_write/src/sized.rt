@@ -5,9 +5,11 @@ ghost use Rattle.spa_sink.specs.declared.gen_error.GenError.TheVariants.{OutOfMe
 ghost use Rattle.spa_format.specs.Encoding.{encoding_of, member_encodings, property_encodings};
 ghost use Rattle.spa_format.specs.Tree as tree;
 ghost use Rattle.spa_format.specs.Writable.{HasNul, IsTooLarge, IsWritable};
+ghost use Rattle.spa_scan.specs.Depth.{depth_of};
 ghost use Rattle.spa_value.specs.View.{view};
 ghost use Rattle.spa_value.specs.Views.{property_views, views};
 ghost use Rattle.spa_write.specs.Measured.{ArePropertiesPut, ArePut, PropertiesAreWritable};
+ghost use Rattle.spa_write.specs.DeepValues.{LacksMemory};
 ghost use Rattle.spa_bodies.specs.Written.{IsLeaf, IsPut, Stops};
 ghost use Rattle.spa_format.specs.Words.{header_size, size_limit, word_bytes};
 
@@ -43,14 +45,15 @@ const KEYED_LEN: usize = 24;
 /// memory. Where a sink without an allocator knows how many bytes it has room for, calls nest no deeper than an eighth of that number: a struct
 /// or an object that consists of more values than that is refused as `Full`.
 ///
-/// Calls nest no deeper than 512 levels. What nests deeper is put together by the loop for any sink: where the sink names no allocator, that of the
-/// value's own vectors is asked for memory, and only where it refuses is the value written by calls, one for each level.
+/// Calls nest no deeper than 512 levels. What nests deeper is put together by the loop for any sink: where the sink names no allocator, in memory
+/// of that of the value's own vectors. Where that memory is refused, the answer is `OutOfMemory`, and the sink is as it was.
 pub fn write_sized<S: PodSink>(sink: &mut S, value: &Value) -> Result<u64, GenError>
     ensures put { OnOk result (IsPut S.appends sink.old (view value.now) sink.new) }
     ensures count { IfOk result (λ n. n ≡ length (encoding_of (view value.now))) }
     ensures begun { OnErr result (Begun S.appends sink.old (encoding_of (view value.now)) sink.new) }
     ensures refused { IfErr result (RefusesPiece (HasNul (view value.now)) (IsTooLarge (view value.now))
-        (S.refuses sink.old (length (encoding_of (view value.now))) sink.new) sink.old sink.new) }
+        (λ e. LacksMemory (depth_of (view value.now)) e × (sink.new ≡ sink.old)
+        ⊎ S.refuses sink.old (length (encoding_of (view value.now))) sink.new e) sink.old sink.new) }
 {
     if !is_nested(value) {
         return write_measured(sink, value);
@@ -70,44 +73,25 @@ fn write_without_allocator<S: PodSink>(sink: &mut S, value: &Value) -> Result<u6
     ensures count { IfOk result (λ n. n ≡ length (encoding_of (view value.now))) }
     ensures begun { OnErr result (Begun S.appends sink.old (encoding_of (view value.now)) sink.new) }
     ensures refused { IfErr result (RefusesPiece (HasNul (view value.now)) (IsTooLarge (view value.now))
-        (S.refuses sink.old (length (encoding_of (view value.now))) sink.new) sink.old sink.new) }
+        (λ e. LacksMemory (depth_of (view value.now)) e × (sink.new ≡ sink.old)
+        ⊎ S.refuses sink.old (length (encoding_of (view value.now))) sink.new e) sink.old sink.new) }
 {
     if may_be_deep(sink.room(), value) {
         match value {
             Value::Struct(members) => {
                 if !members_nest_within(members.as_slice(), INNER_LEVELS) {
-                    return write_deep(*members.allocator(), sink, value);
+                    return write_value(*members.allocator(), sink, value);
                 }
             }
             Value::Object(object) => {
                 if !properties_nest_within(object.properties.as_slice(), INNER_LEVELS) {
-                    return write_deep(*object.properties.allocator(), sink, value);
+                    return write_value(*object.properties.allocator(), sink, value);
                 }
             }
             _ => {}
         }
     }
     write_by_calls(sink, value)
-}
-
-/// Appends the encoding of a value that is put together by a loop, in memory, and answers its length in bytes. Where that memory
-/// lacks, it is written by calls.
-fn write_deep<S: PodSink>(alloc: Global, sink: &mut S, value: &Value) -> Result<u64, GenError>
-    ensures put { OnOk result (IsPut S.appends sink.old (view value.now) sink.new) }
-    ensures count { IfOk result (λ n. n ≡ length (encoding_of (view value.now))) }
-    ensures begun { OnErr result (Begun S.appends sink.old (encoding_of (view value.now)) sink.new) }
-    ensures refused { IfErr result (RefusesPiece (HasNul (view value.now)) (IsTooLarge (view value.now))
-        (S.refuses sink.old (length (encoding_of (view value.now))) sink.new) sink.old sink.new) }
-{
-    match write_by_loop(alloc, value) {
-        Ok(made) => {
-            sink.append(made.as_slice())?;
-            Ok(made.len() as u64)
-        }
-        Err(GenError::NulInText) => Err(GenError::NulInText),
-        Err(GenError::TooLarge) => Err(GenError::TooLarge),
-        Err(_) => write_by_calls(sink, value),
-    }
 }
 
 /// Appends the encoding of a value by calls into a sink that may know how many bytes it has room for, and answers its length in bytes.

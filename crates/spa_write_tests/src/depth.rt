@@ -50,30 +50,68 @@ fn is_sent(alloc: Global, input: &[u8]) -> Result<bool, Fail> {
     }
 }
 
-/// Whether it is written so to a device by a call that is given no allocator.
-fn is_sent_without_memory(alloc: Global, input: &[u8]) -> Result<bool, Fail> {
-    let value = Held::from(read(alloc, input)?);
-    let mut sink = IoSink::new(Vec::new(alloc));
-    let answer = write_sized(&mut sink, &*value);
-    let taken = sink.into_inner();
-    match answer {
-        Ok(len) => Ok(len == input.len() as u64 && taken.as_slice() == input),
-        // The vector, which is the device, has no memory.
-        Err(GenError::Io) => Err(Fail::from(AllocError)),
-        Err(error) => Err(failed(error)),
+/// Whether these are the byte that a device had, and behind it the others.
+fn are_behind(taken: &[u8], others: &[u8]) -> bool {
+    match taken.split_first() {
+        Some((first, behind)) => *first == 7 && behind == others,
+        None => false,
     }
 }
 
-/// Few levels, the most that are written by calls, one more, and as many as calls write where memory lacks.
+/// Whether it is written so to a device, behind a byte that the device has, by a call that is given no allocator. Where memory ran out for a value
+/// of more than 512 levels, the device has that byte alone.
+fn is_sent_without_memory(alloc: Global, depth: u32, input: &[u8]) -> Result<bool, Fail> {
+    let value = Held::from(read(alloc, input)?);
+    let mut sink = IoSink::new(vec![in alloc; 7]?);
+    let answer = write_sized(&mut sink, &*value);
+    let (written, failures) = (sink.written(), sink.failures());
+    let taken = sink.into_inner();
+    match answer {
+        Ok(len) => Ok(len == input.len() as u64 && are_behind(taken.as_slice(), input)),
+        // The vector, which is the device, has no memory.
+        Err(GenError::Io) => Err(Fail::from(AllocError)),
+        Err(GenError::OutOfMemory) => {
+            if depth <= 512 || written != 0 || failures != 0 || !are_behind(taken.as_slice(), &[]) {
+                return Ok(false);
+            }
+            Err(Fail::from(AllocError))
+        }
+        Err(_) => Ok(false),
+    }
+}
+
+/// Few levels, the most that are written by calls, one more, and many.
 const DEVICE_DEPTHS: &[u32] = &[1, 512, 513, 20_000];
 
 #[test]
 fn any_depth_is_sent_to_a_device(rt: HostRuntime) -> Result<(), Fail> {
     for depth in DEVICE_DEPTHS {
         let objects = nested_objects(rt.alloc(), *depth, &INNERMOST)?;
-        let is_sent = is_sent_without_memory(rt.alloc(), objects.as_slice())?;
+        let is_sent = is_sent_without_memory(rt.alloc(), *depth, objects.as_slice())?;
         assert_holds(&rt, is_sent, "written without an allocator");
     }
+    Ok(())
+}
+
+/// The bytes of a struct of two members, which are both this pod.
+fn struct_of_two(alloc: Global, pod: &[u8]) -> Result<Vec<u8>, AllocError> {
+    let size = (pod.len() as u64).saturating_mul(2);
+    let mut bytes = Vec::new(alloc);
+    bytes.extend_from_slice(&size.to_le_bytes()[..4])?;
+    bytes.extend_from_slice(&14u32.to_le_bytes())?;
+    bytes.extend_from_slice(pod)?;
+    bytes.extend_from_slice(pod)?;
+    Ok(bytes)
+}
+
+#[test]
+fn deep_structs_beside_one_another_end_no_write(rt: HostRuntime) -> Result<(), Fail> {
+    let deep = nested_structs(rt.alloc(), 100_000, &INNERMOST)?;
+    let input = struct_of_two(rt.alloc(), deep.as_slice())?;
+    let is_written = is_written_back(rt.alloc(), input.as_slice())?;
+    assert_holds(&rt, is_written, "written to a vector");
+    let is_sent = is_sent_without_memory(rt.alloc(), 100_001, input.as_slice())?;
+    assert_holds(&rt, is_sent, "written to a device without an allocator");
     Ok(())
 }
 
@@ -106,7 +144,7 @@ fn depth_ends_no_write(rt: HostRuntime) -> Result<(), Fail> {
     Ok(())
 }
 
-/// What 4096 bytes of room answer to the value, and whether they hold the beginning of these bytes then, all that fits.
+/// What 4096 bytes of room answer to the value, and whether they hold the beginning of these bytes then, all that fits. It takes no memory.
 fn fixed(alloc: Global, input: &[u8]) -> Result<(Result<u64, GenError>, bool), Fail> {
     let value = Held::from(read(alloc, input)?);
     let mut out: ArrayVec<u8, 4096> = ArrayVec::new();

@@ -4,8 +4,8 @@ use crate::nested::read;
 use arrayvec::ArrayVec;
 use bitflags::Flags;
 use spa_bodies::{put_bitmap, put_bytes, put_pointer, put_text};
-use spa_sink::GenError;
-use spa_typed_write::{PodSerializer, laws};
+use spa_sink::{GenError, PodSink};
+use spa_typed_write::{PodSerializer, laws, write_struct};
 use spa_utils::{Choice, ChoiceEnum, ChoiceFlags};
 use spa_value::{ChoiceValue, Value, ValueArray};
 use spa_write::{put_leaf, write_sized};
@@ -237,6 +237,26 @@ fn a_fixed_output_takes_what_fits(rt: HostRuntime) -> Result<(), Fail> {
     assert_bytes(&rt, out.as_slice(), wanted.as_slice(), "its end");
     assert_holds(&rt, count == 16, "its end");
     assert_refused(&rt, three_behind(out).err(), GenError::Full);
+    Ok(())
+}
+
+/// The words of what stands in an output of 36 bytes that had two, once a struct of an Int and a text is refused: the struct isn't closed, so its size
+/// word is 0, and of the text nothing fits.
+const UNCLOSED: &str = "1 2 0 14 4 4 5 0";
+
+#[test]
+fn a_refused_struct_keeps_what_was_there(rt: HostRuntime) -> Result<(), Fail> {
+    let wanted = bytes_spelled(rt.alloc(), UNCLOSED)?;
+    let mut out: ArrayVec<u8, 36> = ArrayVec::new();
+    PodSink::append(&mut out, &[1, 0, 0, 0, 2, 0, 0, 0])?;
+    let refused = write_struct(&mut out, &(&5i32, (&"a text of some length", ())));
+    assert_refused(&rt, refused.err(), GenError::Full);
+    assert_bytes(
+        &rt,
+        out.as_slice(),
+        wanted.as_slice(),
+        "what was there, and behind it",
+    );
     Ok(())
 }
 

@@ -4,3 +4,4 @@ mod Runs
 mod Written
 mod FirstFaults
 mod ItemsRead
+mod Placed

@@ -1,14 +1,14 @@
 -- A list of calls of a builder, one call longer.
-use Rattle.std.proofs.Common.{◌≡◌, ◌≢◌, ℕ, ◌+◌, ◌*◌, ◌^◌, ◌<◌, ◌≤◌, inl, inr, List, [], ◌∷◌, ◌++◌, length, length-take, length-drop, drop, take, get_or, refl, sym, ap, ◌∙◌, subst, arith, Bool, true, false, Ok, Err}
+use Rattle.std.proofs.Common.{◌≡◌, ◌≢◌, ℕ, ◌+◌, ◌*◌, ◌<◌, ◌≤◌, inl, inr, List, [], ◌∷◌, ◌++◌, length, length-take, length-drop, drop, take, get_or, refl, sym, ap, ◌∙◌, subst, arith, Bool, true, false, Ok, Err}
 use Rattle.std.specs.Prelude.{if◌then◌else◌, IsUtf8, Option, Some, None, Result}
 use Rattle.std.specs.Option.{option_map}
 use Rattle.std.specs.Str.{is_utf8}
 use Rattle.std.proofs.lemmas.Bool.Decides.{leb_tells}
 use Rattle.std.proofs.lemmas.List.{take_all, take_more}
 use Rattle.std.proofs.lemmas.Str.{IsUtf8-from_is_utf8}
-use Rattle.spa_format.specs.Kind.{Fixed, Kind, body_size, none_kind, bool_kind, id_kind, int_kind, long_kind, float_kind, double_kind, rectangle_kind, fraction_kind, fd_kind}
+use Rattle.spa_format.specs.Kind.{Fixed, Kind, body_size}
 use Rattle.spa_format.specs.Pod.{AreElements}
-use Rattle.spa_format.specs.Tree.{Tree, array, string, string_type}
+use Rattle.spa_format.specs.Tree.{array, string, string_type}
 use Rattle.spa_builder.specs.State.{State, start}
 use Rattle.spa_builder.specs.Step as builder
 use Rattle.spa_builder.specs.Step.{Outcome, Accepts, Inval, Nospc, add, step}
@@ -28,41 +28,41 @@ added_text (Some t) = refl
 
 -- what a call of a text says, by the part of the texts
 pub text_made : {A : Type 0} (texts : List ℕ) (c : Call) (s : State) (p : Option (List ℕ)) (old new : BuilderFields) (r : Result A Errno) →
-    part_of texts c.bits c.second ≡ p → Makes (outcome_of s (option_map (λ t. add (string t)) (text_of p))) old new r →
+    part_of texts c.bits c.len ≡ p → Makes (outcome_of s (option_map (λ t. add (string t)) (text_of p))) old new r →
     Makes (outcome_of s (said_by s string_type texts c)) old new r
 text_made texts c s p old new r e m =
-    subst (λ q. Makes (outcome_of s q) old new r) (sym (added_text (text_of (part_of texts c.bits c.second))))
+    subst (λ q. Makes (outcome_of s q) old new r) (sym (added_text (text_of (part_of texts c.bits c.len))))
     (subst (λ q. Makes (outcome_of s (option_map (λ t. add (string t)) (text_of q))) old new r) (sym e) m)
 
 -- no part of the texts, no array
-pub no_part_made : {A : Type 0} (k : Kind) (texts : List ℕ) (c : Call) (s : State) (len : ℕ) (old new : BuilderFields) (r : Result A Errno) → len ≡ c.second * body_size k →
+pub no_part_made : {A : Type 0} (k : Kind) (texts : List ℕ) (c : Call) (s : State) (len : ℕ) (old new : BuilderFields) (r : Result A Errno) → len ≡ c.len * body_size k →
     part_of texts c.bits len ≡ None → Makes Inval old new r → Makes (outcome_of s (adds (array_in k texts c) None)) old new r
 no_part_made k texts c s len old new r e p m =
     let same = ap (part_of texts c.bits) (sym e) ∙ p in
-    subst (λ q. Makes (outcome_of s (adds (option_map (λ x. array k (elements_in k c.second x)) q) None)) old new r) (sym same) m
+    subst (λ q. Makes (outcome_of s (adds (option_map (λ x. array k (elements_in k c.len x)) q) None)) old new r) (sym same) m
 
--- how many bytes so many elements have
-pub small_product : (k : Kind) (n : ℕ) → n < 2 ^ 32 → n * body_size k < 2 ^ 64
-small_product none_kind n l = omega arith
-small_product bool_kind n l = omega arith
-small_product id_kind n l = omega arith
-small_product int_kind n l = omega arith
-small_product long_kind n l = omega arith
-small_product float_kind n l = omega arith
-small_product double_kind n l = omega arith
-small_product rectangle_kind n l = omega arith
-small_product fraction_kind n l = omega arith
-small_product fd_kind n l = omega arith
+-- more elements than 64 bits can count the bytes of, no array
+pub too_many_made : {A : Type 0} (k : Kind) (texts : List ℕ) (c : Call) (s : State) (old new : BuilderFields) (r : Result A Errno) → length texts < c.len * body_size k →
+    Makes Inval old new r → Makes (outcome_of s (adds (array_in k texts c) None)) old new r
+too_many_made k texts c s old new r l m =
+    no_part_made k texts c s (c.len * body_size k) old new r refl (no_part texts c.bits (c.len * body_size k) l) m
+  where
+    no_part : (t : List ℕ) (from n : ℕ) → length t < n → part_of t from n ≡ None
+    no_part t from n h =
+        elim (leb_tells (from + n) (length t)) [
+          | inl y ↦ let w = y.1 in absurd (omega arith)
+          | inr y ↦ ap (λ i. if i then Some (take n (drop from t)) else None) y.0
+        ]
 
 -- the array of a part of the texts
-pub part_made : {A : Type 0} (k : Kind) (texts : List ℕ) (c : Call) (s : State) (len : ℕ) (b : List ℕ) (old new : BuilderFields) (r : Result A Errno) → len ≡ c.second * body_size k →
+pub part_made : {A : Type 0} (k : Kind) (texts : List ℕ) (c : Call) (s : State) (len : ℕ) (b : List ℕ) (old new : BuilderFields) (r : Result A Errno) → len ≡ c.len * body_size k →
     part_of texts c.bits len ≡ Some b → ((xs : List Fixed) → AreElements k xs b → Makes (step s (add (array k xs))) old new r) →
     Makes (outcome_of s (adds (array_in k texts c) None)) old new r
 part_made k texts c s len b old new r e p f =
     let same = ap (part_of texts c.bits) (sym e) ∙ p in
     let long = length_of_part texts c.bits len b p in
-    subst (λ q. Makes (outcome_of s (adds (option_map (λ x. array k (elements_in k c.second x)) q) None)) old new r) (sym same)
-    (f (elements_in k c.second b) (elements_of_bodies k c.second b (long ∙ e)))
+    subst (λ q. Makes (outcome_of s (adds (option_map (λ x. array k (elements_in k c.len x)) q) None)) old new r) (sym same)
+    (f (elements_in k c.len b) (elements_of_bodies k c.len b (long ∙ e)))
   where
     length_of_part : (t : List ℕ) (from n : ℕ) (x : List ℕ) → part_of t from n ≡ Some x → length x ≡ n
     length_of_part t from n x q =

@@ -1,43 +1,31 @@
--- A list of pods whose rewritings stand where the pods lay.
-use Rattle.std.proofs.Common.{◌≡◌, ℕ, ◌<◌, ◌≤◌, List, [], ◌++◌, length, take, drop, sym, ap, subst, ◌∙◌, arith, length-take}
-use Rattle.std.proofs.lemmas.List.{take-append-drop}
+-- Encodings at the front of an output, and what the output is behind them.
+use Rattle.std.proofs.Common.{◌≡◌, ℕ, ◌<◌, ◌≤◌, inl, inr, List, [], ◌++◌, length, take, drop, refl, sym, ap, subst, ◌∙◌, arith, length-take}
+use Rattle.std.proofs.Math.IntN.{pos-ne-negsuc}
+use Rattle.std.proofs.lemmas.Slice.{drop-append-drop}
+use Rattle.std.specs.Prelude.{ℤ}
 use Rattle.spa_format.specs.Encoding.{member_encodings}
 use Rattle.spa_format.proofs.Short.{short_members}
 use Rattle.spa_rewrite.specs.Rewriting.{AreRewritten}
-use Rattle.spa_rewrite.specs.Shorter.{AreRewrittenAs}
 use Rattle.spa_lenient.specs.Rewriting.{AreRewrittenLeniently}
+use Rattle.spav.specs.Answers.{IsDone, IsPut}
 use Rattle.spav.specs.Lenient.{ConveyedIsWritten}
-use Rattle.spav.specs.Lists.{IsWritten, ListIsWritten}
+use Rattle.spav.specs.Lists.{BeginsAs, IsWritten, ListIsWritten}
 
--- bytes that became the front of an output
-is_written : (bytes old new : List ℕ) (len : ℕ) → take len new ≡ bytes → len ≤ length old → length new ≡ length old → drop len new ≡ drop len old →
-    IsWritten bytes len old new
-is_written bytes old new len e within same behind =
-    let l = length-take len new in
+begins_as : (bytes out : List ℕ) (count : ℕ) → take count out ≡ bytes → count ≤ length out → BeginsAs bytes count out
+begins_as bytes out count e within =
+    let l = length-take count out in
     let n = ap length e in
-    record {
-      counted = omega arith;
-      front = sym (take-append-drop len new) ∙ ap (λ z. z ++ drop len new) e ∙ ap (λ z. bytes ++ z) behind;
-    }
+    record { counted = omega arith; front = e }
 
-pub list_written : (old new : List ℕ) (len : ℕ) → AreRewritten old [] (take len new) → len ≤ length old → length new ≡ length old →
-    drop len new ≡ drop len old → ListIsWritten old len old new
-list_written old new len r within same behind =
-    record { values = r.0; members = r.1; written = is_written (member_encodings r.0) old new len r.2 within same behind }
-
--- a list that is rewritten into an output at least as long as it
-pub into_written : (input old new : List ℕ) (len : ℕ) → AreRewrittenAs input len → AreRewritten input [] (take len new) → length input ≤ length old →
-    length new ≡ length old → drop len new ≡ drop len old → ListIsWritten input len old new
-into_written input old new len t r room same behind =
-    let many = t.long in
-    let short = short_members t.values input t.members in
-    record { values = r.0; members = r.1; written = is_written (member_encodings r.0) old new len r.2 (omega arith) same behind }
+pub list_written : (input out : List ℕ) (count : ℕ) → AreRewritten input [] (take count out) → count ≤ length out → ListIsWritten input count out
+list_written input out count r within =
+    record { values = r.0; members = r.1; written = begins_as (member_encodings r.0) out count r.2 within }
 
 -- and of what conveys values
-pub conveyed_written : (input old new : List ℕ) (len : ℕ) → AreRewrittenLeniently input [] (take len new) → len ≤ length old →
-    length new ≡ length old → drop len new ≡ drop len old → ConveyedIsWritten input len old new
-conveyed_written input old new len r within same behind =
-    record { values = r.0; conveyed = r.1; written = is_written (member_encodings r.0) old new len r.2 within same behind }
+pub conveyed_written : (input out : List ℕ) (count : ℕ) → AreRewrittenLeniently input [] (take count out) → count ≤ length out →
+    ConveyedIsWritten input count out
+conveyed_written input out count r within =
+    record { values = r.0; conveyed = r.1; written = begins_as (member_encodings r.0) out count r.2 within }
 
 -- what is put at the front of an output is written there
 pub put_written : (bytes put old new : List ℕ) (count : ℕ) → put ≡ bytes → new ≡ put ++ drop (length put) old → count ≡ length put →
@@ -51,3 +39,16 @@ put_written bytes put old new count e n k =
 
 pub put_short : (bytes put old : List ℕ) → put ≡ bytes → length old < length put → length old < length bytes
 put_short bytes put old e l = subst (λ z. length old < length z) e l
+
+-- an input's rewriting is no longer than the input
+pub rewritten_short : (input begun made put : List ℕ) → begun ≡ [] → AreRewritten input begun made → put ≡ made → length put ≤ length input
+rewritten_short input begun made put b r p =
+    let s = short_members r.0 input r.1 in
+    let e = ap length (p ∙ r.2 ∙ ap (λ z. z ++ member_encodings r.0) b) in
+    omega arith
+
+-- whatever is answered, what is behind what was to be put at the front is unchanged
+pub put_keeps : (put old new : List ℕ) (answer : ℤ) (at : ℕ) → IsPut answer → (IsDone answer → new ≡ put ++ drop (length put) old) →
+    (¬ (IsDone answer) → new ≡ old) → length put ≤ at → drop at new ≡ drop at old
+put_keeps put old new answer at (inl d) w k h = ap (drop at) (w d) ∙ drop-append-drop (length put) old put at h refl
+put_keeps put old new answer at (inr n) w k h = ap (drop at) (k (λ d. pos-ne-negsuc 0 27 (sym d ∙ n)))

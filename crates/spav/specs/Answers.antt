@@ -1,13 +1,9 @@
 -- The numbers that the calls answer: docs/CAPI.md, "Answers".
 use Rattle.std.specs.Prelude.{◌≡◌, ◌⊎◌, ℕ, ℤ, pos, neg_ℤ}
 
--- 0: done, or no
+-- 0: done
 abbrev pub IsDone : ℤ → Type 0
 IsDone answer = answer ≡ pos 0
-
--- 1: yes
-abbrev pub IsYes : ℤ → Type 0
-IsYes answer = answer ≡ pos 1
 
 -- the error of this number, negated
 abbrev pub IsFailure : ℕ → ℤ → Type 0
@@ -33,21 +29,17 @@ IsRewritten answer = IsDone answer ⊎ IsNoMemory answer ⊎ IsInvalid answer �
 abbrev pub IsChecked : ℤ → Type 0
 IsChecked answer = IsDone answer ⊎ IsNoMemory answer ⊎ IsInvalid answer
 
--- the answers of a question that takes no memory
-abbrev pub IsNoOrYes : ℤ → Type 0
-IsNoOrYes answer = IsDone answer ⊎ IsYes answer
-
 -- -ELOOP
 abbrev pub IsTooDeep : ℤ → Type 0
 IsTooDeep answer = IsFailure 40 answer
 
--- the answers of the question of the nesting depth
+-- the answers of a call that looks into so many levels
 abbrev pub IsNested : ℤ → Type 0
-IsNested answer = IsNoOrYes answer ⊎ IsTooDeep answer
+IsNested answer = IsDone answer ⊎ IsTooDeep answer
 
 -- the answers of a question that may take memory
-abbrev pub IsDecided : ℤ → Type 0
-IsDecided answer = IsNoOrYes answer ⊎ IsNoMemory answer
+abbrev pub IsAsked : ℤ → Type 0
+IsAsked answer = IsDone answer ⊎ IsNoMemory answer
 
 -- the answers of a change in place
 abbrev pub IsChanged : ℤ → Type 0
@@ -80,6 +72,10 @@ IsListRead answer = IsPut answer ⊎ IsInvalid answer ⊎ IsTooDeep answer
 -- the answers of a read of a property
 abbrev pub IsRead : ℤ → Type 0
 IsRead answer = IsDone answer ⊎ IsOther answer ⊎ IsUnfound answer
+
+-- the answers of a search for the body of a value
+abbrev pub IsUnset : ℤ → Type 0
+IsUnset answer = IsOther answer ⊎ IsUnfound answer
 
 -- the answers of a read of a text
 abbrev pub IsTextRead : ℤ → Type 0

@@ -39,7 +39,7 @@ elements_in k count b = kept_elements k (map (content k) (first_chunks (body_siz
 
 -- the array of a call's elements; None where the texts are shorter
 abbrev pub array_in : Kind → List ℕ → Call → Option Tree
-array_in k texts c = option_map (λ b. array k (elements_in k c.second b)) (part_of texts c.bits (c.second * body_size k))
+array_in k texts c = option_map (λ b. array k (elements_in k c.len b)) (part_of texts c.bits (c.len * body_size k))
 
 -- the array of a call whose elements are of the type of this number; None where that has no fixed size or the texts are shorter
 abbrev pub array_of : ℕ → List ℕ → Call → Option Tree
@@ -69,8 +69,8 @@ added_by number texts c =
     else (if nat_eq number (type_number rectangle_kind) then Some (fixed (rectangle c.first c.second))
     else (if nat_eq number (type_number fraction_kind) then Some (fixed (fraction c.first c.second))
     else (if nat_eq number (type_number fd_kind) then Some (fixed (fd c.wide))
-    else (if nat_eq number string_type then option_map string (text_of (part_of texts c.bits c.second))
-    else (if nat_eq number bytes_type then option_map bytes (part_of texts c.bits c.second)
+    else (if nat_eq number string_type then option_map string (text_of (part_of texts c.bits c.len))
+    else (if nat_eq number bytes_type then option_map bytes (part_of texts c.bits c.len)
     else (if nat_eq number pointer_type then Some (pointer c.first c.bits)
     else (if nat_eq number array_number then array_of c.first texts c
     else None)))))))))))))
@@ -103,9 +103,9 @@ abbrev pub outcome_of : State → Option builder.Call → Outcome
 outcome_of s None = Inval
 outcome_of s (Some call) = step s call
 
--- the outcome of a call over these texts
+-- the outcome of a call over these texts; one whose reserved field isn't 0 is none
 abbrev pub outcome_in : List ℕ → State → Call → Outcome
-outcome_in texts s c = outcome_of s (said_by s c.what texts c)
+outcome_in texts s c = if nat_eq c.reserved 0 then outcome_of s (said_by s c.what texts c) else Inval
 
 -- the state after these calls; None where one isn't accepted
 abbrev pub state_from : List ℕ → State → List Call → Option State

@@ -1,9 +1,11 @@
 -- The items of the caller's pods, and the offsets of values: docs/CAPI.md, "Reading".
-use Rattle.std.specs.Prelude.{◌≡◌, ◌⊎◌, ℕ, ◌+◌, ◌<◌, List, ◌++◌, length, take, drop, false, if◌then◌else◌, Option, Some, None}
+use Rattle.std.specs.Prelude.{◌≡◌, ◌⊎◌, ℕ, ◌+◌, ◌<◌, ◌≤◌, List, ◌++◌, length, take, drop, false, if◌then◌else◌, Option, Some, None}
 use Rattle.spa_format.specs.Front.{HasFront, front_of}
 use Rattle.spa_format.specs.Tree.{array_type, choice_type}
 use Rattle.spa_format.specs.Walk.{properties_of, property_walk, walk}
 use Rattle.spa_format.specs.Words.{body_of, header_size, word_at}
+use Rattle.spa_items.specs.Contents as contents
+use Rattle.spa_items.specs.Contents.{element_at}
 use Rattle.spa_items.specs.Items.{head, items_of}
 use Rattle.spa_items.specs.Places.{place_of_key, place_of_number}
 use Rattle.spa_items.specs.declared.item.Item.{Item}
@@ -27,6 +29,11 @@ pub record ArePast (input : List ℕ) (count : ℕ) (new : List Item) : Type 0 w
 -- the offset at which the value of the None choice at the front begins; 0 where the front is another pod
 abbrev pub settled_at : List ℕ → ℕ
 settled_at input = if holds_value (front_of input) then child_place else 0
+
+-- the front is there, and this is its item
+pub record SaysFront (input : List ℕ) (item : Item) : Type 0 where
+  pub front : HasFront input
+  pub its_item : item ≡ head false 0 0 (front_of input)
 
 -- the front is there, and this is its item, or that of the value of the None choice there
 pub record SaysItem (input : List ℕ) (item : Item) : Type 0 where
@@ -83,6 +90,7 @@ pub record AreOfArray (pod : List ℕ) (e : Elements) : Type 0 where
   pub type : e.type_ ≡ array_type
   pub shape : e.shape ≡ 0
   pub flags : e.flags ≡ 0
+  pub reserved : e.reserved ≡ 0
   pub headed : AreHeaded (body_of pod) e
   pub begins : e.at ≡ header_size + header_size
 
@@ -92,6 +100,7 @@ pub record AreOfChoice (pod : List ℕ) (e : Elements) : Type 0 where
   pub type : e.type_ ≡ choice_type
   pub shape : e.shape ≡ word_at (body_of pod) 0
   pub flags : e.flags ≡ word_at (body_of pod) 4
+  pub reserved : e.reserved ≡ 0
   pub headed : AreHeaded (choice_values (body_of pod)) e
   pub begins : e.at ≡ header_size + header_size + header_size
 
@@ -111,3 +120,23 @@ pub record SaysElements (input : List ℕ) (e : Elements) : Type 0 where
 -- neither an array nor a choice is at the front
 abbrev pub BeginsNoElements : List ℕ → Type 0
 BeginsNoElements input = HasFront input → HasNoElements (front_of input)
+
+-- how many elements the array at the front has, or how many values the choice there takes
+abbrev pub elements_at_front : List ℕ → ℕ
+elements_at_front input = contents.element_count (word_at (front_of input) 4) (body_of (front_of input))
+
+-- an array or a choice is at the front
+pub record BeginsElements (input : List ℕ) : Type 0 where
+  pub front : HasFront input
+  pub elements : IsArrayPod (front_of input) ⊎ IsChoicePod (front_of input)
+
+-- an array or a choice is at the front, and this is the item of its element or value of this number
+pub record SaysElement (number : ℕ) (input : List ℕ) (item : Item) : Type 0 where
+  pub begins : BeginsElements input
+  pub there : number < elements_at_front input
+  pub its_item : item ≡ element_at (word_at (front_of input) 4) 1 header_size number (body_of (front_of input))
+
+-- an array or a choice is at the front, and has no element or value of this number
+pub record HasFewerElements (number : ℕ) (input : List ℕ) : Type 0 where
+  pub begins : BeginsElements input
+  pub fewer : elements_at_front input ≤ number

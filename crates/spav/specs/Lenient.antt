@@ -4,13 +4,13 @@ use Rattle.spa_format.specs.Encoding.{member_encodings}
 use Rattle.spa_format.specs.Lenient.{ConveyMembers}
 use Rattle.spa_format.specs.Tree.{Trees}
 use Rattle.spa_read.specs.Reading.{ConveysNothing}
-use Rattle.spav.specs.Lists.{IsWritten}
+use Rattle.spav.specs.Lists.{BeginsAs}
 
--- the input conveys values one after another, and the front of the output became their encodings
-pub record ConveyedIsWritten (input : List ℕ) (count : ℕ) (old new : List ℕ) : Type 0 where
+-- the input conveys values one after another, and the output begins with their encodings, which have `count` bytes
+pub record ConveyedIsWritten (input : List ℕ) (count : ℕ) (out : List ℕ) : Type 0 where
   pub values : Trees
   pub conveyed : ConveyMembers values input
-  pub written : IsWritten (member_encodings values) count old new
+  pub written : BeginsAs (member_encodings values) count out
 
 -- the input conveys values one after another, whose encodings have `count` bytes, and the output has fewer
 pub record ConveyedLacksRoom (input : List ℕ) (count : ℕ) (out : List ℕ) : Type 0 where

@@ -5,4 +5,5 @@ pub mod Items
 pub mod Lenient
 pub mod Lists
 pub mod Reading
+pub mod Setting
 pub mod Sides

@@ -7,16 +7,21 @@ use Rattle.spa_format.specs.Tree.{Trees}
 use Rattle.spa_fixed_sized.specs.declared.fault.DeserializeError.{DeserializeError}
 use Rattle.spa_fixed_sized.specs.declared.fault.DeserializeError.TheVariants.{OutOfMemory}
 
+-- these are `count` bytes, and the output begins with them
+pub record BeginsAs (bytes : List ℕ) (count : ℕ) (out : List ℕ) : Type 0 where
+  pub counted : count ≡ length bytes
+  pub front : take count out ≡ bytes
+
 -- these are `count` bytes, the front of the output became them, and the output is unchanged behind them
 pub record IsWritten (bytes : List ℕ) (count : ℕ) (old new : List ℕ) : Type 0 where
   pub counted : count ≡ length bytes
   pub front : new ≡ bytes ++ drop count old
 
--- the input is pods one after another, and the front of the output became their encodings
-pub record ListIsWritten (input : List ℕ) (count : ℕ) (old new : List ℕ) : Type 0 where
+-- the input is pods one after another, and the output begins with their encodings, which have `count` bytes
+pub record ListIsWritten (input : List ℕ) (count : ℕ) (out : List ℕ) : Type 0 where
   pub values : Trees
   pub members : AreMembers values input
-  pub written : IsWritten (member_encodings values) count old new
+  pub written : BeginsAs (member_encodings values) count out
 
 -- the input is pods one after another, whose encodings have `count` bytes, and the output has fewer
 pub record ListLacksRoom (input : List ℕ) (count : ℕ) (out : List ℕ) : Type 0 where

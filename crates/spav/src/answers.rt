@@ -1,10 +1,7 @@
 //! The numbers that the calls answer.
 
-/// Done, or no.
+/// Done.
 pub(crate) const DONE: i32 = 0;
-
-/// Yes.
-pub(crate) const YES: i32 = 1;
 
 /// There is no memory left: `-ENOMEM`.
 pub(crate) const NO_MEMORY: i32 = -12;

@@ -37,7 +37,7 @@ pub struct Call {
     /// An Id, a truth value (0 is false), the bits of a Float, a width, a numerator, a pointer's type, an object's type, a choice's shape, a key, or
     /// the type of an array's elements.
     pub first: u32,
-    /// A height, a denominator, an object's id, a choice's flags, a property's flags, how many bytes a text has, or how many elements an array has.
+    /// A height, a denominator, an object's id, a choice's flags, or a property's flags.
     pub second: u32,
     /// An Int.
     pub number: i32,
@@ -46,6 +46,10 @@ pub struct Call {
     /// The bits of a Double, a pointer's address, the byte of the texts at which a text or the elements of an array begin, the frame of the pod that
     /// is closed, or 0 for the innermost.
     pub bits: u64,
+    /// How many bytes a text has, or how many elements an array has.
+    pub len: u64,
+    /// 0.
+    pub reserved: u64,
 }
 
 /// Writes the pods that a list of calls builds, one after another, to the front of `out`. The texts of strings, bytes, and the elements of whole
@@ -124,10 +128,21 @@ fn run(builder: &mut Builder, texts: &[u8], calls: &[Call]) -> Result<(), (usize
     Ok(())
 }
 
-/// Makes one call.
+/// Makes one call. One whose reserved field isn't 0 is none.
 fn make(builder: &mut Builder, texts: &[u8], call: &Call) -> Result<(), Errno>
     ensures { (s : State) → IsAt builder.old s
         → Makes (outcome_in texts.now s call.now) builder.old builder.new result }
+{
+    if call.reserved != 0 {
+        return Err(Errno::INVAL);
+    }
+    make_known(builder, texts, call)
+}
+
+/// Makes a call of the header's words.
+fn make_known(builder: &mut Builder, texts: &[u8], call: &Call) -> Result<(), Errno>
+    ensures { (s : State) → IsAt builder.old s
+        → Makes (outcome_of s (said_by s call.now.what texts.now call.now)) builder.old builder.new result }
 {
     match SpaTypes(call.what) {
         SpaTypes::None => builder.add_none(),
@@ -208,7 +223,7 @@ fn add_part(builder: &mut Builder, texts: &[u8], call: &Call) -> Result<(), Errn
     ensures { (s : State) → IsAt builder.old s
         → Makes (outcome_of s (said_by s bytes_type texts.now call.now)) builder.old builder.new result }
 {
-    match part(texts, call.bits as usize, call.second as usize) {
+    match part(texts, call.bits as usize, call.len as usize) {
         Some(bytes) => builder.add_bytes(bytes),
         None => Err(Errno::INVAL),
     }
@@ -243,7 +258,9 @@ fn add_array_of<T: CanonicalFixedSizedPod>(
     ensures { (s : State) → IsAt builder.old s
         → Makes (outcome_of s (adds (array_in T.kind texts.now call.now) None)) builder.old builder.new result }
 {
-    let len = (call.second as usize).saturating_mul(T::SIZE);
+    let Some(len) = (call.len as usize).checked_mul(T::SIZE) else {
+        return Err(Errno::INVAL);
+    };
     match part(texts, call.bits as usize, len) {
         Some(bodies) => builder.add_array_in::<T>(bodies),
         None => Err(Errno::INVAL),
@@ -255,7 +272,7 @@ fn add_text(builder: &mut Builder, texts: &[u8], call: &Call) -> Result<(), Errn
     ensures { (s : State) → IsAt builder.old s
         → Makes (outcome_of s (said_by s string_type texts.now call.now)) builder.old builder.new result }
 {
-    let Some(bytes) = part(texts, call.bits as usize, call.second as usize) else {
+    let Some(bytes) = part(texts, call.bits as usize, call.len as usize) else {
         return Err(Errno::INVAL);
     };
     match str::from_utf8(bytes) {

@@ -14,9 +14,9 @@ use std::alloc::Global;
 
 /// Canonicalizes all pods that the bytes consist of, in place: their canonical encodings, one after another, are then the front of the bytes.
 ///
-/// 0: `written` is the length of the encodings, never more than the pods had, and the bytes behind are unchanged. -EINVAL: the bytes aren't pods one
-/// after another; the pod that begins at the byte `at` is refused. -ENOMEM: memory was asked for and refused; it isn't asked for where the bytes
-/// are pods with a nesting depth of at most 1000. Where the answer isn't 0, nothing is changed.
+/// 0: `written` is the length of the encodings, never more than the pods had; what the bytes behind them are isn't said. -EINVAL: the bytes aren't
+/// pods one after another; the pod that begins at the byte `at` is refused. -ENOMEM: memory was asked for and refused; it isn't asked for where the
+/// bytes are pods with a nesting depth of at most 1000. Where the answer isn't 0, nothing is changed.
 #[unsafe(no_mangle)]
 pub extern "C" fn spav_rewrite_in_place(
     alloc: Global,
@@ -24,7 +24,7 @@ pub extern "C" fn spav_rewrite_in_place(
     written: &mut usize,
     at: &mut usize,
 ) -> i32
-    ensures done { IsDone result → ListIsWritten bytes.old written.new bytes.old bytes.new }
+    ensures done { IsDone result → ListIsWritten bytes.old written.new bytes.new }
     ensures refused { IsInvalid result → ListIsRefused bytes.old at.new }
     ensures memory { IsNoMemory result → (place : ℕ) × RefusesListAt bytes.old place refused.OutOfMemory }
     ensures shallow { IsNoMemory result → ¬ (ArePodsWithin levels_looked_into bytes.old) }
@@ -47,7 +47,7 @@ pub extern "C" fn spav_rewrite_in_place(
 }
 
 /// Whether a refusal is for a fault of the bytes, and not for want of memory.
-fn is_for_bytes<I>(error: &DeserializeError<I>) -> bool
+pub(crate) fn is_for_bytes<I>(error: &DeserializeError<I>) -> bool
     ensures bytes { result ≡ true → IsForBytes error.now }
     ensures memory { result ≡ false → error.now ≡ refused.OutOfMemory }
 {

@@ -7,13 +7,13 @@ ghost use Rattle.spa_scan.specs.Depth.{levels_looked_into, member_depth};
 ghost use Rattle.spa_view.specs.View.{pod_bytes};
 ghost use Rattle.spav.specs.Answers.{IsChanged, IsDone, IsFound, IsInvalid, IsListRead, IsMissing, IsNoRoom, IsPut, IsTooDeep};
 ghost use Rattle.spav.specs.Faults.{FaultStands, NestsTooDeep};
-ghost use Rattle.spav.specs.Items.{ArePast, AreRead, BeginsNoElements, BeginsStruct, HasElements, HasMemberAt, HasNoElements, HasNoMember, HasNoValue, HasValueAt, SaysElements, SaysItem};
+ghost use Rattle.spav.specs.Items.{ArePast, AreRead, BeginsNoElements, BeginsStruct, HasElements, HasFewerElements, HasMemberAt, HasNoElements, HasNoMember, HasNoValue, HasValueAt, SaysElement, SaysElements, SaysFront, SaysItem};
 ghost use Rattle.spav.specs.Reading.{BeginsObject};
 
-use crate::answers::{DONE, INVALID, MISSING, NO_ROOM, TOO_DEEP, YES};
-use crate::faults::spav_fault;
+use crate::answers::{DONE, INVALID, MISSING, NO_ROOM, TOO_DEEP};
+use crate::faults::{NO_FAULT, spav_fault};
 use spa_bytes::{HEADER_LEN, SECOND_WORD, u32_at};
-use spa_items::{Item, front_item, list_items, place_of_key, place_of_number};
+use spa_items::{Item, element_item, front_item, list_items, place_of_key, place_of_number};
 use spa_utils::SpaTypes;
 use spa_view::{Pod, body_bytes, whole_bytes};
 
@@ -31,6 +31,8 @@ pub struct Elements {
     pub element_type: u32,
     /// The size of one element, in bytes.
     pub element_size: u32,
+    /// 0.
+    pub reserved: u32,
     /// How many elements there are.
     pub count: usize,
     /// The offset in the pod at which the elements begin.
@@ -38,7 +40,7 @@ pub struct Elements {
 }
 
 /// The offset in a None choice's pod at which the pod of its value begins.
-const NONE_VALUE_AT: usize = 16;
+pub(crate) const NONE_VALUE_AT: usize = 16;
 
 /// The offset in an array's pod at which the elements begin, and that in a choice's pod at which the values begin.
 const ARRAY_ELEMENTS_AT: usize = 16;
@@ -72,13 +74,14 @@ pub extern "C" fn spav_read(
     ensures unchanged { IsInvalid result → out.new ≡ out.old }
     ensures kept { IsTooDeep result → out.new ≡ out.old }
 {
+    let mut found = NO_FAULT;
     let mut top = 0;
-    let answer = spav_fault(input, kind, &mut top, at);
-    if answer == YES {
-        return INVALID;
-    }
-    if answer != DONE {
+    if spav_fault(input, &mut found, &mut top, at) != DONE {
         return TOO_DEEP;
+    }
+    if found != NO_FAULT {
+        *kind = found;
+        return INVALID;
     }
     let Some(listed) = list_items(input, out) else {
         return TOO_DEEP;
@@ -90,11 +93,56 @@ pub extern "C" fn spav_read(
     DONE
 }
 
+/// Reads the item of the pod at the front, also where it is a None choice.
+///
+/// 0: done. -EINVAL: no pod is at the front, and nothing is written.
+#[unsafe(no_mangle)]
+pub extern "C" fn spav_front_item(input: &[u8], item: &mut Item) -> i32
+    ensures said { IsDone result → SaysFront input.now item.new }
+    ensures refused { IsInvalid result → ¬ (HasFront input.now) }
+    ensures answers { IsChanged result }
+    ensures unchanged { IsInvalid result → item.new ≡ item.old }
+{
+    match front_item(input, 0) {
+        Some(found) => {
+            *item = found;
+            DONE
+        }
+        None => INVALID,
+    }
+}
+
+/// Reads the item of the element of a number, counted from 0, of the array at the front, or of the value of that number of the choice there.
+///
+/// 0: done. -EINVAL: neither is at the front. -ENOENT: there are no more elements or values. Where the answer isn't 0, nothing is written.
+#[unsafe(no_mangle)]
+pub extern "C" fn spav_element(input: &[u8], number: usize, item: &mut Item) -> i32
+    ensures said { IsDone result → SaysElement number input.now item.new }
+    ensures missing { IsMissing result → HasFewerElements number input.now }
+    ensures refused { IsInvalid result → BeginsNoElements input.now }
+    ensures answers { IsFound result }
+    ensures unchanged { ¬ (IsDone result) → item.new ≡ item.old }
+{
+    let Some(pod) = Pod::from_bytes(input) else {
+        return INVALID;
+    };
+    if !pod.is_array() && !pod.is_choice() {
+        return INVALID;
+    }
+    match element_item(pod.type_().0, 1, HEADER_LEN, body_bytes(&pod), number) {
+        Some(found) => {
+            *item = found;
+            DONE
+        }
+        None => MISSING,
+    }
+}
+
 /// Reads the item of the pod at the front, or of the value of the None choice there.
 ///
 /// 0: done. -EINVAL: no pod is at the front, and nothing is written.
 #[unsafe(no_mangle)]
-pub extern "C" fn spav_item(input: &[u8], item: &mut Item) -> i32
+pub extern "C" fn spav_settled_item(input: &[u8], item: &mut Item) -> i32
     ensures said { IsDone result → SaysItem input.now item.new }
     ensures refused { IsInvalid result → ¬ (HasFront input.now) }
     ensures answers { IsChanged result }
@@ -175,7 +223,7 @@ pub extern "C" fn spav_member(input: &[u8], number: usize, at: &mut usize) -> i3
 ///
 /// 0: done. -EINVAL: neither is at the front, and nothing is written.
 #[unsafe(no_mangle)]
-pub extern "C" fn spav_elements(input: &[u8], elements: &mut Elements) -> i32
+pub extern "C" fn spav_front_elements(input: &[u8], elements: &mut Elements) -> i32
     ensures said { IsDone result → SaysElements input.now elements.new }
     ensures refused { IsInvalid result → BeginsNoElements input.now }
     ensures answers { IsChanged result }
@@ -205,6 +253,7 @@ fn elements_of(pod: &Pod<'_>) -> Option<Elements>
             flags: 0,
             element_type: array.element_type().0,
             element_size: array.element_size(),
+            reserved: 0,
             count: array.len(),
             at: ARRAY_ELEMENTS_AT,
         });
@@ -219,6 +268,7 @@ fn elements_of(pod: &Pod<'_>) -> Option<Elements>
         flags: u32_at(body_bytes(pod), SECOND_WORD),
         element_type: values.element_type().0,
         element_size: values.element_size(),
+        reserved: 0,
         count: values.len(),
         at: CHOICE_VALUES_AT,
     })

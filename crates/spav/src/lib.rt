@@ -7,7 +7,6 @@ ghost use Rattle.std.specs.Prelude.{◌≡◌};
 
 mod answers;
 mod building;
-mod events;
 mod faults;
 mod filtering;
 mod fixation;
@@ -18,12 +17,13 @@ mod lists;
 mod negotiation;
 mod questions;
 mod reading;
+mod setting;
 mod sides;
 
-/// The number of the interface that the header of the same number describes, as in the name of the shared library.
+/// The version of the interface: 65536 times the number in the shared library's name, and how often calls were added under that number.
 #[unsafe(no_mangle)]
 pub extern "C" fn spav_abi() -> u32
-    ensures { result ≡ 0 }
+    ensures { result ≡ 0x10000 }
 {
-    0
+    0x10000
 }

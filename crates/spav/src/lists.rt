@@ -15,10 +15,10 @@ use std::alloc::Global;
 
 /// Writes the canonical encodings of all pods that the input consists of, one after another, to the front of `out`.
 ///
-/// 0: `written` is the length of the encodings in bytes, and `out` is unchanged behind them. -EINVAL: the input isn't pods one after another; the pod
-/// that begins at the byte `at` is refused. -ENOSPC: it is, and the length, `written`, is more than `out` has. -ENOMEM: memory was asked for and
-/// refused; it isn't asked for where the input is pods with a nesting depth of at most 1000 and is canonical, or `out` is as long as it. Where the
-/// answer isn't 0, `out` is unchanged.
+/// 0: `written` is the length of the encodings in bytes. `out` is unchanged behind as many bytes as the input has, and where it is shorter than the
+/// input, behind the encodings. -EINVAL: the input isn't pods one after another; the pod that begins at the byte `at` is refused. -ENOSPC: it is, and
+/// the length, `written`, is more than `out` has. -ENOMEM: memory was asked for and refused; it isn't asked for where the input is pods with a nesting
+/// depth of at most 1000 and is canonical, or `out` is as long as it. Where the answer isn't 0, `out` is unchanged.
 #[unsafe(no_mangle)]
 pub extern "C" fn spav_rewrite(
     alloc: Global,
@@ -27,13 +27,16 @@ pub extern "C" fn spav_rewrite(
     written: &mut usize,
     at: &mut usize,
 ) -> i32
-    ensures done { IsDone result → ListIsWritten input.now written.new out.old out.new }
+    ensures done { IsDone result → ListIsWritten input.now written.new out.new }
     ensures refused { IsInvalid result → ListIsRefused input.now at.new }
     ensures room { IsNoRoom result → ListLacksRoom input.now written.new out.old }
     ensures memory { IsNoMemory result → ¬ (AreShallow levels_looked_into input.now) }
     ensures across { IsNoMemory result → length input.now ≤ length out.old
         → ¬ (ArePodsWithin levels_looked_into input.now) }
     ensures answers { IsRewritten result }
+    ensures behind { drop (length input.now) out.new ≡ drop (length input.now) out.old }
+    ensures short { IsDone result → length out.old < length input.now
+        → drop written.new out.new ≡ drop written.new out.old }
     ensures unchanged { ¬ (IsDone result) → out.new ≡ out.old }
 {
     if let Some(answer) = put_into(input, out, written) {
@@ -56,9 +59,11 @@ pub extern "C" fn spav_rewrite(
 
 /// The answer where no memory is needed: the output is as long as the input, or shorter than the encodings. None: memory is needed.
 fn put_into(input: &[u8], out: &mut [u8], written: &mut usize) -> Option<i32>
-    ensures done { IfSome result (λ answer. IsDone answer → ListIsWritten input.now written.new out.old out.new) }
+    ensures done { IfSome result (λ answer. IsDone answer → ListIsWritten input.now written.new out.new) }
     ensures room { IfSome result (λ answer. IsNoRoom answer → ListLacksRoom input.now written.new out.old) }
     ensures answers { IfSome result (λ answer. IsPut answer) }
+    ensures behind { drop (length input.now) out.new ≡ drop (length input.now) out.old }
+    ensures room_for_all { IfSome result (λ answer. IsDone answer → length input.now ≤ length out.old) }
     ensures unchanged { IfSome result (λ answer. ¬ (IsDone answer) → out.new ≡ out.old) }
     ensures nothing { IfNone result (out.new ≡ out.old) }
     ensures missed { IfNone result (length input.now ≤ length out.old

@@ -6,16 +6,17 @@ ghost use Rattle.spa_format.specs.Front.{HasFront};
 ghost use Rattle.spa_format.specs.Kind as k;
 ghost use Rattle.spa_format.specs.Words.{extent, word_at};
 ghost use Rattle.spa_view.specs.View.{pod_bytes};
-ghost use Rattle.spav.specs.Answers.{IsChanged, IsDone, IsInvalid, IsMissing, IsNoRoom, IsOther, IsPut, IsRead, IsTextRead, IsNoOrYes, IsUnfound, IsYes};
+ghost use Rattle.spav.specs.Answers.{IsChanged, IsDone, IsInvalid, IsMissing, IsNoRoom, IsOther, IsPut, IsRead, IsTextRead, IsUnfound};
 ghost use Rattle.spav.specs.Reading.{BeginsObject, HasNoTextUnder, HasNoneUnder, HasOtherUnder, HasTextUnder, IsUnder, SaysObject, SaysUnder};
 
-use crate::answers::{DONE, INVALID, MISSING, NO_ROOM, OTHER, YES};
+use crate::answers::{DONE, INVALID, MISSING, NO_ROOM, OTHER};
 use spa_bytes::{extent_of, open, u32_at};
 use spa_utils::Id;
 use spa_view::Pod;
 
-/// Whether a whole pod is at the front of the input: 1 or 0, and where it is, its type, the size of its body, and how many bytes it
-/// takes with header and padding. Where it isn't, these are unchanged.
+/// Reads the type of the pod at the front of the input, the size of its body, and how many bytes it takes with header and padding.
+///
+/// 0: done. -EINVAL: no whole pod is at the front, and nothing is written.
 #[unsafe(no_mangle)]
 pub extern "C" fn spav_front(
     input: &[u8],
@@ -23,21 +24,21 @@ pub extern "C" fn spav_front(
     size: &mut u32,
     whole: &mut usize,
 ) -> i32
-    ensures there { IsYes result ↔ HasFront input.now }
-    ensures type_of { IsYes result → type_.new ≡ word_at input.now 4 }
-    ensures size_of { IsYes result → size.new ≡ word_at input.now 0 }
-    ensures whole_of { IsYes result → whole.new ≡ extent (word_at input.now 0) }
-    ensures answers { IsNoOrYes result }
-    ensures unchanged { IsDone result → (type_.new ≡ type_.old) × (size.new ≡ size.old) × (whole.new ≡ whole.old) }
+    ensures there { IsDone result ↔ HasFront input.now }
+    ensures type_of { IsDone result → type_.new ≡ word_at input.now 4 }
+    ensures size_of { IsDone result → size.new ≡ word_at input.now 0 }
+    ensures whole_of { IsDone result → whole.new ≡ extent (word_at input.now 0) }
+    ensures answers { IsChanged result }
+    ensures unchanged { ¬ (IsDone result) → (type_.new ≡ type_.old) × (size.new ≡ size.old) × (whole.new ≡ whole.old) }
 {
     let Some(front) = open(input) else {
-        return DONE;
+        return INVALID;
     };
     let body_len = u32_at(input, 0);
     *type_ = front.type_;
     *size = body_len;
     *whole = extent_of(body_len);
-    YES
+    DONE
 }
 
 /// Reads the type and the id of the object at the front.

@@ -10,8 +10,8 @@ mod raw {
         pub fn spav_rewrite_in_place_leniently(bytes: *mut u8, n: usize, written: *mut usize, at: *mut usize) -> i32;
         pub fn spav_check(input: *const u8, n: usize, at: *mut usize) -> i32;
         pub fn spav_fault(input: *const u8, n: usize, kind: *mut u32, top: *mut usize, at: *mut usize) -> i32;
-        pub fn spav_is_canonical(input: *const u8, n: usize) -> i32;
-        pub fn spav_nests_within(input: *const u8, n: usize, levels: u32) -> i32;
+        pub fn spav_is_canonical(input: *const u8, n: usize, canonical: *mut bool) -> i32;
+        pub fn spav_nests_within(input: *const u8, n: usize, levels: u32, within: *mut bool) -> i32;
         pub fn spav_fixate(pod: *mut u8, n: usize) -> i32;
         pub fn spav_front(input: *const u8, n: usize, type_: *mut u32, size: *mut u32, whole: *mut usize) -> i32;
         pub fn spav_object(input: *const u8, n: usize, type_: *mut u32, id: *mut u32) -> i32;
@@ -24,7 +24,6 @@ mod raw {
         pub fn spav_double(input: *const u8, n: usize, key: u32, value: *mut f64) -> i32;
         pub fn spav_rectangle(input: *const u8, n: usize, key: u32, width: *mut u32, height: *mut u32) -> i32;
         pub fn spav_fraction(input: *const u8, n: usize, key: u32, num: *mut u32, denom: *mut u32) -> i32;
-        pub fn spav_events(input: *const u8, n: usize, out: *mut super::Event, room: usize, count: *mut usize) -> i32;
         pub fn spav_string(input: *const u8, n: usize, key: u32, out: *mut u8, cap: usize, len: *mut usize) -> i32;
         pub fn spav_negotiate(a: *const u8, n: usize, b: *const u8, m: usize, out: *mut u8, cap: usize, written: *mut usize, key_or_side: *mut u32) -> i32;
         pub fn spav_filter(a: *const u8, n: usize, b: *const u8, m: usize, out: *mut u8, cap: usize, written: *mut usize, key_or_side: *mut u32) -> i32;
@@ -42,12 +41,12 @@ mod raw {
 }
 
 /// The number of the interface that this crate is written for, as SPAV_ABI of the header.
-pub const ABI: u32 = 0;
+pub const ABI: u32 = 1;
 
 /// Whether the library that is linked has this interface.
 pub fn is_fitting() -> bool {
     // It takes nothing and touches no memory.
-    unsafe { raw::spav_abi() == ABI }
+    unsafe { raw::spav_abi() >> 16 == ABI }
 }
 
 /// Why a call isn't done.
@@ -174,26 +173,26 @@ pub fn fault(input: &[u8]) -> Result<Option<Fault>, Error> {
     let (mut kind, mut top, mut at) = (0, 0, 0);
     let kinds = [FaultKind::Short, FaultKind::Text, FaultKind::Type, FaultKind::Shape, FaultKind::Values, FaultKind::Size];
     match unsafe { raw::spav_fault(input.as_ptr(), input.len(), &mut kind, &mut top, &mut at) } {
-        0 => Ok(None),
-        1 => Ok(Some(Fault { kind: kinds[kind as usize - 1], top, at })),
+        0 if kind == 0 => Ok(None),
+        0 => Ok(Some(Fault { kind: kinds[kind as usize - 1], top, at })),
         _ => Err(Error::TooDeep),
     }
 }
 
 /// Whether the pod at the front is canonical.
 pub fn is_canonical(input: &[u8]) -> Result<bool, Error> {
-    match unsafe { raw::spav_is_canonical(input.as_ptr(), input.len()) } {
-        0 => Ok(false),
-        1 => Ok(true),
+    let mut canonical = false;
+    match unsafe { raw::spav_is_canonical(input.as_ptr(), input.len(), &mut canonical) } {
+        0 => Ok(canonical),
         _ => Err(Error::OutOfMemory),
     }
 }
 
 /// Whether at most so many structs and objects stand in one another in the pod at the front. Of 1000 more aren't looked into.
 pub fn nests_within(input: &[u8], levels: u32) -> Result<bool, Error> {
-    match unsafe { raw::spav_nests_within(input.as_ptr(), input.len(), levels) } {
-        0 => Ok(false),
-        1 => Ok(true),
+    let mut within = false;
+    match unsafe { raw::spav_nests_within(input.as_ptr(), input.len(), levels, &mut within) } {
+        0 => Ok(within),
         _ => Err(Error::TooDeep),
     }
 }
@@ -404,6 +403,8 @@ struct RawCall {
     number: i32,
     wide: i64,
     bits: u64,
+    len: u64,
+    reserved: u64,
 }
 
 /// The call, whose text is put behind the others.
@@ -412,10 +413,7 @@ fn raw_call(call: &Call, texts: &mut Vec<u8>) -> RawCall {
     let mut text = |what, bytes: &[u8]| {
         let from = texts.len();
         texts.extend_from_slice(bytes);
-        match u32::try_from(bytes.len()) {
-            Ok(len) => words(what, 0, len, from as u64),
-            Err(_) => words(what, 0, 1, u64::MAX), // past the texts: refused
-        }
+        RawCall { what, bits: from as u64, len: bytes.len() as u64, ..RawCall::default() }
     };
     match *call {
         Call::None => words(1, 0, 0, 0),
@@ -523,57 +521,29 @@ impl<'a> Pod<'a> {
     }
 }
 
-/// The parent of a pod that stands in no other.
-pub const NO_PARENT: usize = usize::MAX;
-
-/// A pod inside bytes: its type, its size and where it is.
-#[repr(C)]
-#[derive(Clone, Copy, PartialEq, Eq, Debug, Default)]
-pub struct Event {
-    /// The number of its type.
-    pub type_: u32,
-    /// The size of its body.
-    pub size: u32,
-    /// How many structs and objects it stands in.
-    pub depth: usize,
-    /// The byte at which its header begins.
-    pub at: usize,
-    /// The index of the event of the innermost of these, or NO_PARENT.
-    pub parent: usize,
-}
-
-/// Writes an event for each pod of the input, and for each inside it, to the front of `out`, and gives these events. An eighth of the input's
-/// length is room enough.
-pub fn events_into<'a>(input: &[u8], out: &'a mut [Event]) -> Result<&'a mut [Event], Error> {
-    let mut count = 0;
-    match unsafe { raw::spav_events(input.as_ptr(), input.len(), out.as_mut_ptr(), out.len(), &mut count) } {
-        0 => Ok(&mut out[..count]),
-        _ => Err(Error::NoRoom(count)),
-    }
-}
-
-/// All that lies inside an input: each pod, then those inside it, then what follows it.
+/// All that lies inside an input: each pod with the number of structs and objects it stands in, then those inside it, then what follows it.
 #[derive(Clone, Debug)]
 pub struct Events<'a> {
-    input: &'a [u8],
-    events: std::vec::IntoIter<Event>,
+    open: Vec<Walk<'a>>,
 }
 
-/// The events of an input, each with the pod's body.
+/// The pods of an input and those inside them, by types and sizes alone.
 pub fn events(input: &[u8]) -> Events<'_> {
-    let mut events = vec![Event::default(); input.len() / TWO_WORDS];
-    let count = events_into(input, &mut events).map_or(0, |events| events.len());
-    events.truncate(count);
-    Events { input, events: events.into_iter() }
+    Events { open: vec![walk(input)] }
 }
 
 impl<'a> Iterator for Events<'a> {
-    type Item = (Event, &'a [u8]);
+    type Item = (usize, Pod<'a>);
 
-    fn next(&mut self) -> Option<(Event, &'a [u8])> {
-        let event = self.events.next()?;
-        let start = event.at + TWO_WORDS;
-        Some((event, &self.input[start..start + event.size as usize]))
+    fn next(&mut self) -> Option<(usize, Pod<'a>)> {
+        loop {
+            if let Some(pod) = self.open.last_mut()?.next() {
+                let depth = self.open.len() - 1;
+                self.open.push(pod.inside());
+                return Some((depth, pod));
+            }
+            self.open.pop();
+        }
     }
 }
 
@@ -588,7 +558,7 @@ impl<'a> Iterator for Walk<'a> {
         let before = if self.keyed { TWO_WORDS } else { 0 };
         let input = self.left.get(before..)?;
         let (mut type_, mut size, mut whole) = (0, 0, 0);
-        if unsafe { raw::spav_front(input.as_ptr(), input.len(), &mut type_, &mut size, &mut whole) } == 0 {
+        if unsafe { raw::spav_front(input.as_ptr(), input.len(), &mut type_, &mut size, &mut whole) } != 0 {
             return None;
         }
         let property = self.keyed.then(|| (word(self.left), word(&self.left[4..])));
@@ -839,10 +809,8 @@ mod tests {
     #[test]
     fn events_come_in_order() {
         let pod = object();
-        let found: Vec<_> = events(&pod).map(|(it, body)| (it.type_, it.depth, it.at, it.parent, body.len())).collect();
-        assert_eq!(found, [(15, 0, 0, NO_PARENT, 104), (4, 1, 24, 0, 4), (19, 1, 48, 0, 28), (8, 1, 96, 0, 3)]);
-        assert_eq!(events_into(&pod, &mut [Event::default(); 3]), Err(Error::NoRoom(14)));
-        assert_eq!(events_into(&pod, &mut [Event::default(); 4]).map(|it| it.len()), Ok(4));
+        let found: Vec<_> = events(&pod).map(|(depth, it)| (depth, it.type_, it.property.map(|(key, _)| key), it.body.len())).collect();
+        assert_eq!(found, [(0, 15, None, 104), (1, 4, Some(1), 4), (1, 19, Some(2), 28), (1, 8, Some(3), 3)]);
         assert_eq!(events(&pod[..111]).count(), 0);
         assert_eq!(Pods::new(&pod).unwrap().events().count(), 4);
     }

@@ -5,8 +5,8 @@ use std::process::ExitCode;
 
 /// A line for each pod: depth, type, size.
 fn show(input: &[u8], to: &mut impl Write) -> io::Result<()> {
-    for (event, _body) in spav::events(input) {
-        writeln!(to, "{} {} {}", event.depth, event.type_, event.size)?;
+    for (depth, pod) in spav::events(input) {
+        writeln!(to, "{} {} {}", depth, pod.type_, pod.body.len())?;
     }
     Ok(())
 }

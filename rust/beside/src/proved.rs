@@ -1,5 +1,4 @@
 //! The proved library on the same bytes.
-use spa_pod::events::{Event, NO_PARENT, list_events};
 use spa_pod::filtering::{FilterError, filter_pods};
 use spa_pod::negotiation::{NegotiateError, negotiate_pods};
 use spa_pod::pod::{Pod, PodObject, is_canonical, nests_within};
@@ -8,10 +7,9 @@ const EINVAL: i32 = -22;
 
 unsafe extern "C" {
     fn spav_rewrite(input: *const u8, n: usize, out: *mut u8, cap: usize, written: *mut usize, at: *mut usize) -> i32;
-    fn spav_is_canonical(input: *const u8, n: usize) -> i32;
-    fn spav_nests_within(input: *const u8, n: usize, levels: u32) -> i32;
+    fn spav_is_canonical(input: *const u8, n: usize, canonical: *mut bool) -> i32;
+    fn spav_nests_within(input: *const u8, n: usize, levels: u32, within: *mut bool) -> i32;
     fn spav_fixate(pod: *mut u8, n: usize) -> i32;
-    fn spav_events(input: *const u8, n: usize, out: *mut Event, room: usize, count: *mut usize) -> i32;
     fn spav_negotiate(a: *const u8, n: usize, b: *const u8, m: usize, out: *mut u8, cap: usize, written: *mut usize, told: *mut u32) -> i32;
     fn spav_filter(a: *const u8, n: usize, b: *const u8, m: usize, out: *mut u8, cap: usize, written: *mut usize, told: *mut u32) -> i32;
 }
@@ -61,29 +59,21 @@ pub fn compare(input: &[u8], wanted: &Option<Vec<u8>>) {
         Some(wanted) => assert_eq!((answer, &out[..written]), (0, &wanted[..])),
         None => assert_eq!(answer, EINVAL),
     }
-    let own = unsafe { spav_is_canonical(input.as_ptr(), input.len()) };
-    assert_eq!(is_canonical(input), Ok(own == 1));
+    let mut own = false;
+    assert_eq!(unsafe { spav_is_canonical(input.as_ptr(), input.len(), &mut own) }, 0);
+    assert_eq!(is_canonical(input), Ok(own));
     for levels in [0, 1, 2, 5, 50] {
-        let within = unsafe { spav_nests_within(input.as_ptr(), input.len(), levels) };
-        assert_eq!(nests_within(input, levels), within == 1);
+        let mut within = false;
+        assert_eq!(unsafe { spav_nests_within(input.as_ptr(), input.len(), levels, &mut within) }, 0);
+        assert_eq!(nests_within(input, levels), within);
     }
     let (mut ours, mut theirs) = (input.to_vec(), input.to_vec());
     let answer = unsafe { spav_fixate(theirs.as_mut_ptr(), theirs.len()) };
     assert_eq!((PodObject::fixate(&mut ours).is_ok(), ours), (answer == 0, theirs));
-    events(input);
     let whole = Pod::from_bytes(input).map_or(0, |pod| 8 + (pod.size() as usize).next_multiple_of(8));
     let behind = if whole < input.len() { &input[whole..] } else { input };
     for (a, b) in [(input, behind), (behind, input)] {
         assert_eq!(negotiate_pods(a, b).map_err(said), joined(spav_negotiate, a, b));
         assert_eq!(filter_pods(a, b).map_err(said_of_filter), joined(spav_filter, a, b));
     }
-}
-
-fn events(input: &[u8]) {
-    let none = Event { type_: 0, size: 0, depth: 0, at: 0, parent: NO_PARENT };
-    let (mut ours, mut theirs) = (vec![none; input.len() / 8 + 1], vec![none; input.len() / 8 + 1]);
-    let mut count = 0;
-    let answer = unsafe { spav_events(input.as_ptr(), input.len(), theirs.as_mut_ptr(), theirs.len(), &mut count) };
-    assert_eq!((list_events(input, &mut ours), answer), (Some(count), 0));
-    assert_eq!(ours, theirs);
 }

@@ -24,8 +24,9 @@ fn bytes_of(spelt: &str) -> io::Result<Vec<u8>> {
 
 /// Bytes as words with a space before each, and those of no whole word in hexadecimal.
 fn words_of(bytes: &[u8]) -> String {
-    let (words, rest) = bytes.as_chunks();
-    let mut text: String = words.iter().map(|word| format!(" {}", u32::from_le_bytes(*word))).collect();
+    let words = bytes.chunks_exact(4);
+    let rest = words.remainder();
+    let mut text: String = words.map(|word| format!(" {}", u32::from_le_bytes(word.try_into().unwrap()))).collect();
     text += if rest.is_empty() { "" } else { " x" };
     rest.iter().fold(text, |text, byte| text + &format!("{byte:02x}"))
 }

@@ -158,7 +158,7 @@ pub mod text {
 /// What the exported macros name. It is no part of the interface.
 #[doc(hidden)]
 pub mod macros {
-    pub use crate::api::declared::{Flagged, PodField};
+    pub use crate::api::declared::{Flagged, PodField, Trailing};
     pub use crate::pod::PropertyFlags;
     pub use crate::pod::deserialize::{DeserializeAs, ObjectOf, Optional, Required, StructOf};
     pub use crate::pod::serialize::{GenError, Maybe, PodOutput, SerializeAs, write_object, write_struct};

@@ -1,6 +1,7 @@
 //! Types that are declared by their fields: each is read from, and written as, words that were made by hand.
 use spa_pod::names::{ids, keys, types};
 use spa_pod::pod::deserialize::PodDeserializer;
+use spa_pod::pod::serialize::GenError;
 use spa_pod::pod::{Bitmap, PropertyFlags, Value};
 use spa_pod::utils::{Choice, ChoiceEnum, ChoiceFlags, Fd, Fraction, Id, Rectangle};
 use spa_pod::{ReadErrorKind, pod_object, pod_struct, read_as, write_as};
@@ -54,7 +55,7 @@ fn a_refusal_names_the_key() {
     assert_eq!((error.kind, error.at), (ReadErrorKind::OtherObject { type_: 262_146, id: 2 }, 0));
 }
 
-#[derive(Debug, PartialEq)]
+#[derive(Clone, Debug, PartialEq)]
 struct Point { x: f32, y: f64 }
 pod_struct!(impl Point = { x: f32, y: f64 });
 
@@ -133,4 +134,34 @@ fn a_field_is_of_any_type_that_pods_have() {
     let (again, taken) = read_as::<Every>(&written).unwrap();
     assert_eq!(taken, written.len());
     assert_eq!(format!("{again:?}"), format!("{every:?}"));
+}
+
+#[derive(Clone, Debug, PartialEq)]
+struct Clock<'a> { name: &'a str, ticks: i64, rate: Option<Fraction>, point: Option<Point> }
+pod_struct!(impl<'a> Clock<'a> = { name: &'a str, ticks: i64, rate?: Fraction, point?: Point });
+
+#[test]
+fn the_last_members_may_be_missing() {
+    let two = [2, 8, 0x61, 0, 8, 5, 9, 0];
+    let three = [two.as_slice(), &[8, 11, 1, 25]].concat();
+    let four = [three.as_slice(), &[32, 14, 4, 6, 0x3f80_0000, 0, 8, 7, 0, 1022 << 20]].concat();
+    let clock = Clock { name: "a", ticks: 9, rate: None, point: None };
+    let rated = Clock { rate: Some(Fraction { num: 1, denom: 25 }), ..clock.clone() };
+    let whole = Clock { point: Some(Point { x: 1.0, y: 0.5 }), ..rated.clone() };
+    for (body, clock) in [(two.as_slice(), clock.clone()), (&three, rated), (&four, whole.clone())] {
+        let input = bytes(&[&[body.len() as u32 * 4, 14], body].concat());
+        assert_eq!(write_as(&clock), Ok(input.clone()));
+        assert_eq!(read_as(&input), Ok((clock, input.len())));
+    }
+    // A later one without an earlier.
+    assert_eq!(write_as(&Clock { rate: None, ..whole }), Err(GenError::WrongCount));
+    // The second is missing; the third is of another type, at byte 40; there is a fifth, at byte 96.
+    for (body, kind, at) in [
+        ([2, 8, 0x61, 0].as_slice(), ReadErrorKind::MissingMember(1), 0),
+        (&[two.as_slice(), &[4, 4, 25, 0]].concat(), ReadErrorKind::OtherType, 40),
+        (&[four.as_slice(), &[4, 4, 1, 0]].concat(), ReadErrorKind::UnreadMembers, 96),
+    ] {
+        let error = read_as::<Clock>(&bytes(&[&[body.len() as u32 * 4, 14], body].concat())).unwrap_err();
+        assert_eq!((error.kind, error.at), (kind, at));
+    }
 }

@@ -1,4 +1,4 @@
-//! libspav, the library for C over pods of PipeWire: capi/spav.h declares what `exports` exports.
+//! What is behind libspav, the library for C over pods of PipeWire: capi/exports.c calls what `exports` exports.
 #![cfg_attr(all(feature = "alone", not(test)), no_std)]
 
 #[cfg(all(feature = "alone", not(test)))]

@@ -1,5 +1,6 @@
 //! A choice that gets shorter, in tail position deep in structs or objects, rewritten in place.
 use crate::deep::bytes::{DEPTHS, assert_holds};
+use libspa::pod::deserialize::DeserializeError;
 use libspa::pod::rewrite_in_place;
 use std::alloc::{AllocError, Global};
 use std::test::Fail;
@@ -43,6 +44,7 @@ fn inside(alloc: Global, depth: u32, header: &[u32], pod: &[u32]) -> Result<Vec<
 fn is_rewritten(alloc: Global, bytes: &mut [u8], wanted: &[u8]) -> Result<bool, Fail> {
     match rewrite_in_place(alloc, bytes) {
         Ok(len) => Ok(bytes.get(..len) == Some(wanted)),
+        Err((_, DeserializeError::OutOfMemory)) => Err(Fail::from(AllocError)),
         Err(_) => Err(Fail::from("it isn't rewritten")),
     }
 }

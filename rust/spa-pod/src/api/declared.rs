@@ -1,7 +1,7 @@
 //! Types of a program's own as objects and structs, declared by their fields.
 use crate::parts::spa_sink::put_two;
-use crate::pod::deserialize::{DeserializeAs, Settled};
-use crate::pod::serialize::{ExactSerialize, GenError, PodOutput, SerializeAs, SerializeProperties};
+use crate::pod::deserialize::{DeserializeAs, DeserializeError, DeserializeMembers, ExactDeserialize, Settled, StructPodDeserializer};
+use crate::pod::serialize::{ExactSerialize, GenError, PodOutput, SerializeAs, SerializeMembers, SerializeProperties};
 use crate::pod::{Bitmap, Held, PropertyFlags, Value};
 use crate::utils::{Choice, Fd, Float32, Float64, Fraction, Id, Rectangle};
 use alloc::string::String;
@@ -102,20 +102,34 @@ macro_rules! pod_object {
 /// assert_eq!(spa_pod::read_as::<Song>(&bytes)?.0, song);
 /// # Ok::<(), Box<dyn std::error::Error>>(())
 /// ```
+///
+/// The last members may be missing, as where a newer version wrote more of them: `name?: T`, and the field is an `Option<T>`. One that is there behind a
+/// missing one is refused as `WrongCount` when it is written.
+///
+/// ```
+/// #[derive(Debug, PartialEq)]
+/// struct Version { major: i32, minor: i32, patch: Option<i32> }
+/// spa_pod::pod_struct!(impl Version = { major: i32, minor: i32, patch?: i32 });
+///
+/// let version = Version { major: 0, minor: 2, patch: None };
+/// let bytes = spa_pod::write_as(&version)?;
+/// assert_eq!((bytes.len(), spa_pod::read_as::<Version>(&bytes)?.0), (40, version));
+/// # Ok::<(), Box<dyn std::error::Error>>(())
+/// ```
 #[macro_export]
 macro_rules! pod_struct {
-    (impl<$life:lifetime> $name:ty = { $($field:ident: $type_:ty),* $(,)? }) => {
-        $crate::pod_struct!(@declared [$life] $name, $($field: $type_),*);
+    (impl<$life:lifetime> $name:ty = { $($fields:tt)* }) => {
+        $crate::pod_struct!(@declared [$life] $name, $($fields)* ,);
     };
-    (impl $name:ty = { $($field:ident: $type_:ty),* $(,)? }) => {
-        $crate::pod_struct!(@declared [] $name, $($field: $type_),*);
+    (impl $name:ty = { $($fields:tt)* }) => {
+        $crate::pod_struct!(@declared [] $name, $($fields)* ,);
     };
-    (@declared [$($life:lifetime)?] $name:ty, $($field:ident: $type_:ty),*) => {
+    (@declared [$($life:lifetime)?] $name:ty, $($fields:tt)*) => {
         impl $(<$life>)? $crate::macros::DeserializeAs for $name {
-            type Content = $crate::macros::StructOf<$crate::pod_fields!(@members $($type_),*)>;
+            type Content = $crate::macros::StructOf<$crate::pod_fields!(@members $($fields)*)>;
 
             fn of_content($crate::macros::StructOf(content): Self::Content) -> Self {
-                $crate::pod_fields!(@unpacked content, [] $($field: $type_),*)
+                $crate::pod_fields!(@unpacked content, [] $($fields)*)
             }
         }
 
@@ -123,7 +137,7 @@ macro_rules! pod_struct {
 
         impl $(<$life>)? $crate::macros::SerializeAs for $name {
             fn write_as<O: $crate::macros::PodOutput>(&self, out: &mut O) -> ::core::result::Result<(), $crate::macros::GenError> {
-                $crate::macros::write_struct(out, &$crate::pod_fields!(@packed self $($field),*))
+                $crate::macros::write_struct(out, &$crate::pod_fields!(@packed self $($fields)*))
             }
         }
     };
@@ -185,18 +199,31 @@ macro_rules! pod_fields {
         (($key, &$self.$field), $crate::pod_fields!(@written $self $($more)*))
     };
 
-    (@members) => { () };
-    (@members $type_:ty $(, $more:ty)*) => { (<$type_ as $crate::macros::PodField>::Read, $crate::pod_fields!(@members $($more),*)) };
+    (@members $(,)?) => { () };
+    (@members $field:ident ?: $type_:ty, $($more:tt)*) => {
+        ($crate::macros::Trailing<<$type_ as $crate::macros::PodField>::Read>, $crate::pod_fields!(@trailing $($more)*))
+    };
+    (@members $field:ident: $type_:ty, $($more:tt)*) => { (<$type_ as $crate::macros::PodField>::Read, $crate::pod_fields!(@members $($more)*)) };
+    (@trailing $field:ident: $($more:tt)*) => { ::core::compile_error!("behind a member that may be missing each may be: `name?: T`") };
+    (@trailing $($more:tt)*) => { $crate::pod_fields!(@members $($more)*) };
 
-    (@unpacked $content:ident, [$($done:tt)*]) => {{ let () = $content; Self { $($done)* } }};
-    (@unpacked $content:ident, [$($done:tt)*] $field:ident: $type_:ty $(, $more:ident: $more_type:ty)*) => {{
+    (@unpacked $content:ident, [$($done:tt)*] $(,)?) => {{ let () = $content; Self { $($done)* } }};
+    (@unpacked $content:ident, [$($done:tt)*] $field:ident ?: $type_:ty, $($more:tt)*) => {{
+        let (found, more) = $content;
+        let $field = found.0.map(<$type_ as $crate::macros::PodField>::of_read);
+        $crate::pod_fields!(@unpacked more, [$($done)* $field,] $($more)*)
+    }};
+    (@unpacked $content:ident, [$($done:tt)*] $field:ident: $type_:ty, $($more:tt)*) => {{
         let (found, more) = $content;
         let $field = <$type_ as $crate::macros::PodField>::of_read(found);
-        $crate::pod_fields!(@unpacked more, [$($done)* $field,] $($more: $more_type),*)
+        $crate::pod_fields!(@unpacked more, [$($done)* $field,] $($more)*)
     }};
 
-    (@packed $self:ident) => { () };
-    (@packed $self:ident $field:ident $(, $more:ident)*) => { (&$self.$field, $crate::pod_fields!(@packed $self $($more),*)) };
+    (@packed $self:ident $(,)?) => { () };
+    (@packed $self:ident $field:ident ?: $type_:ty, $($more:tt)*) => {
+        ($crate::macros::Trailing($self.$field.as_ref()), $crate::pod_fields!(@packed $self $($more)*))
+    };
+    (@packed $self:ident $field:ident: $type_:ty, $($more:tt)*) => { (&$self.$field, $crate::pod_fields!(@packed $self $($more)*)) };
 }
 
 /// A type that a field of [`pod_object`](crate::pod_object) or [`pod_struct`](crate::pod_struct) may have: those that are named there, and each
@@ -280,5 +307,45 @@ impl<P: ExactSerialize, R: SerializeProperties> SerializeProperties for (Flagged
             value.write_exactly(out)?;
         }
         others.write_properties(out)
+    }
+}
+
+/// A member of a struct that may be missing, with all behind it.
+#[derive(Debug)]
+pub struct Trailing<P>(pub Option<P>);
+
+/// Members that may be missing, up to `()`.
+pub trait MayEnd {
+    /// Whether all are missing.
+    fn is_ended(&self) -> bool;
+}
+
+impl MayEnd for () {
+    fn is_ended(&self) -> bool {
+        true
+    }
+}
+
+impl<P, R: MayEnd> MayEnd for (Trailing<P>, R) {
+    fn is_ended(&self) -> bool {
+        self.0.0.is_none() && self.1.is_ended()
+    }
+}
+
+impl<'de, P: ExactDeserialize<'de>, R: DeserializeMembers<'de>> DeserializeMembers<'de> for (Trailing<P>, R) {
+    fn read_members(reader: &mut StructPodDeserializer<'de>) -> Result<Self, DeserializeError<&'de [u8]>> {
+        let found = reader.deserialize_field()?;
+        Ok((Trailing(found), R::read_members(reader)?))
+    }
+}
+
+impl<P: ExactSerialize, R: SerializeMembers + MayEnd> SerializeMembers for (Trailing<&P>, R) {
+    fn write_members<O: PodOutput>(&self, out: &mut O) -> Result<(), GenError> {
+        match &self.0.0 {
+            Some(member) => member.write_exactly(out)?,
+            None if self.1.is_ended() => return Ok(()),
+            None => return Err(GenError::WrongCount),
+        }
+        self.1.write_members(out)
     }
 }

@@ -47,7 +47,7 @@ impl Error for FoundFault {}
 /// ```
 ///
 /// # Errors
-/// The first fault; or [`TooDeep`](FoundFault::TooDeep), where that isn't looked for. Structs and objects in tail position don't count for it.
+/// The first fault; or [`TooDeep`](FoundFault::TooDeep), where that isn't looked for.
 pub fn find_fault(pods: &[u8]) -> Result<(), FoundFault> {
     match look_at_pods(pods) {
         Ok(_) => Ok(()),

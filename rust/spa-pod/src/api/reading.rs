@@ -1,4 +1,5 @@
 //! Reading and writing at once, with errors that outlive the bytes and say where they stand.
+use super::declared::Trailing;
 use super::errors::offset_in;
 use super::levels::{MOST_LEVELS, Unbounded, within};
 use crate::parts::spa_bodies::error_at;
@@ -333,6 +334,17 @@ where
             return Some(refusal);
         }
         R::refusal_in(container, &left[Pod::from_bytes(left)?.extent()..], index + 1)
+    }
+}
+
+impl<'de, A, R: ReadMembers<'de>> ReadMembers<'de> for (Trailing<A>, R)
+where
+    A: ReadAs<'de>,
+    (Trailing<A>, R): DeserializeMembers<'de>,
+    (A, R): ReadMembers<'de>,
+{
+    fn refusal_in(container: &'de [u8], left: &'de [u8], index: usize) -> Option<(ReadErrorKind, &'de [u8])> {
+        if left.is_empty() { None } else { <(A, R)>::refusal_in(container, left, index) }
     }
 }
 

@@ -2,8 +2,8 @@
 //!
 //! This is written by hand. It is trusted where those calls were proved.
 
-// What the proved text calls for each number is put in line, and a search without branches is.
-#![allow(clippy::inline_always, clippy::needless_bitwise_bool)]
+// What the proved text calls for each number is put in line, and a search without branches is. Numbers are cast by their bits, and digits fit a byte.
+#![allow(clippy::inline_always, clippy::needless_bitwise_bool, clippy::cast_possible_wrap, clippy::cast_sign_loss, clippy::cast_possible_truncation)]
 #![cfg_attr(feature = "parts", allow(missing_debug_implementations, clippy::new_without_default))]
 
 pub mod array;
@@ -22,7 +22,7 @@ pub mod prelude {
     #[cfg(any(feature = "text", feature = "parts"))]
     #[allow(unused_imports)]
     pub use super::memory::more::{Copies, Exactly, SliceToVec, SplitOff, StringRoom};
-    pub use super::bytes::Bytes;
+    pub use super::bytes::{Bytes, Chunks, Signs};
     pub use super::memory::{Text, ToVec, TryClone, VecRoom};
     pub use alloc::string::String;
     pub use alloc::vec::Vec;

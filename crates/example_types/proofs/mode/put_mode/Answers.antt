@@ -1,11 +1,14 @@
-use Rattle.std.proofs.Common.{◌≡◌, ℕ, ◌+◌, ◌<◌, ◌≤◌, Result, Ok, Err, length, refl, sym, subst}
+use Rattle.std.proofs.Common.{◌≡◌, ℕ, ◌+◌, ◌<◌, ◌≤◌, ◌⊎◌, ⊎_elim, Result, Ok, Err, length, refl, sym, subst, arith}
 use Rattle.std.specs.Prelude.{IsOk, OnOk}
 use Rattle.std.proofs.lemmas.Result.{IfErr-weaker}
 use Rattle.libspa.specs.GenError.{GenError}
 use Rattle.libspa.specs.GenErrors as error
 use Rattle.example_types.specs.declared.mode.Mode.{Mode}
 use Rattle.libspa.specs.Complete.{RefusesAtLimit}
-use Rattle.example_types.proofs.Modes.{mode_length, mode_value, mode_writable}
+use Rattle.libspa.specs.DeepValues.{LacksMemory}
+use Rattle.libspa.specs.Depth.{depth_of}
+use Rattle.libspa.specs.Encoding.{encoding_of}
+use Rattle.example_types.proofs.Modes.{mode_length, mode_shallow, mode_value, mode_writable}
 use Rattle.example_types.proofs.mode.put_mode.Goals as goal
 
 -- what follows from two facts, where both hold of a success
@@ -13,15 +16,22 @@ on_ok_both : {T E A B C : Type 0} (r : Result T E) → (A → B → C) → (IsOk
 on_ok_both (Ok x) f a b = f (a refl) (b refl)
 on_ok_both (Err e) f a b = tt
 
+-- a mode doesn't nest so deep that memory is asked for
+room_lacks : (held : ℕ) (m : Mode) (e : GenError) →
+    LacksMemory (depth_of (mode_value m)) e ⊎ (e ≡ error.Full) × (128 < held + length (encoding_of (mode_value m))) →
+    (e ≡ error.Full) × (128 < held + 64)
+room_lacks held m e r =
+    ⊎_elim (λ deep. absurd (omega (arith, deep.1, mode_shallow m))) (λ full. (full.0, subst (λ n. 128 < held + n) (mode_length m) full.1)) r
+
 -- it is refused only where it doesn't fit
 no_room : (held : ℕ) (m : Mode) (e : GenError) → RefusesAtLimit held 128 (mode_value m) e → (e ≡ error.Full) × (128 < held + 64)
-no_room held m error.Full r = (r.0, subst (λ n. 128 < held + n) (mode_length m) r.1)
+no_room held m error.Full r = room_lacks held m error.Full r
 no_room held m error.TooLarge r = absurd ((mode_writable m).fits r)
 no_room held m error.NulInText r = absurd ((mode_writable m).no_nul r)
-no_room held m error.WrongCount r = absurd (cc r.0)
-no_room held m error.Failed r = absurd (cc r.0)
-no_room held m error.Io r = absurd (cc r.0)
-no_room held m error.OutOfMemory r = absurd (cc r.0)
+no_room held m error.WrongCount r = room_lacks held m error.WrongCount r
+no_room held m error.Failed r = room_lacks held m error.Failed r
+no_room held m error.Io r = room_lacks held m error.Io r
+no_room held m error.OutOfMemory r = room_lacks held m error.OutOfMemory r
 
 pub returns-clause-back : goal.returns-clause-back
 returns-clause-back c =
@@ -31,7 +41,7 @@ returns-clause-back c =
 pub returns-clause-room : goal.returns-clause-room
 returns-clause-room c =
     let m = c.args.mode.now in
-    λ fits. c.declared_pods_are_written_where_they_fit.ensures.room (mode_writable m)
+    λ fits. c.declared_pods_are_written_where_they_fit.ensures.room (mode_writable m) (mode_shallow m)
     (subst (λ n. length c.args.out.items + n ≤ 128) (sym (mode_length m)) fits)
 
 pub returns-clause-full : goal.returns-clause-full

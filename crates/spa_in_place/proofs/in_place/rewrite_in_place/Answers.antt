@@ -1,10 +1,9 @@
-use Rattle.std.proofs.Common.{◌≡◌, ◌+◌, ◌-◌, ◌∙◌, ap, arith, length, length-append, refl, rules, subst, sym}
+use Rattle.std.proofs.Common.{◌≡◌, ◌+◌, ◌-◌, ◌∙◌, ap, arith, drop, length, length-append, refl, rules, subst, sym, take}
 use Rattle.std.specs.Prelude.{[], Some, vec_len}
-use Rattle.std.proofs.lemmas.List.{take_rest}
+use Rattle.std.proofs.lemmas.List.{take_at, take_rest}
 use Rattle.spa_scan.specs.Depth.{levels_looked_into}
-use Rattle.spa_rewrite.specs.Memory.{AreUnwritten}
 use Rattle.spa_rewrite.specs.Rewriting.{AreRewritten, RefusesFront}
-use Rattle.spa_rewrite.specs.Look.{AreChanged}
+use Rattle.spa_rewrite.specs.Look.{AreChanged, IsRejected}
 use Rattle.spa_rewrite.specs.Shorter.{ArePodsWithin}
 use Rattle.spa_bodies.specs.Refusing.{error_of}
 use Rattle.spa_rewrite.proofs.Accepted.{fault_front}
@@ -12,12 +11,12 @@ use Rattle.spa_rewrite.proofs.Changed.{changed_shorter}
 use Rattle.spa_rewrite.proofs.ShorterLemmas.{within_behind}
 use Rattle.spa_rewrite.proofs.Stretches.{list_refused}
 use Rattle.spa_in_place.specs.InPlace.{RefusesListAt, moved}
-use Rattle.spa_in_place.proofs.ChangedPods.{behind_canonical}
-use Rattle.spa_in_place.proofs.InPlaceLemmas.{asks_behind, copied_behind, deep_memory, left_behind, offset_known, offset_unknown, others_left, refused_behind, rewritten_room}
+use Rattle.spa_in_place.proofs.ChangedPods.{behind_first}
+use Rattle.spa_in_place.proofs.InPlaceLemmas.{asks_behind, deep_memory, left_behind, offset_known, offset_unknown, others_left, refused_behind, rewritten_room}
 use Rattle.spa_in_place.proofs.in_place.rewrite_in_place.Goals as goal
 
-pub place_rest-requires : goal.place_rest-requires
-place_rest-requires c =
+pub replace_pods-requires : goal.replace_pods-requires
+replace_pods-requires c =
     let bytes = c.args.bytes.now in
     let first = c.canonical_stretch.result.0.now in
     subst (λ x. AreChanged x c.in-Ok.changed)
@@ -27,28 +26,28 @@ pub returns-in-Ok-clause-rewritten : goal.returns-in-Ok-clause-rewritten
 returns-in-Ok-clause-rewritten c =
     let bytes = c.args.bytes.now in
     let first = c.canonical_stretch.result.0.now in
-    let stretch = c.canonical_stretch.ensures in
-    let all = behind_canonical bytes first _ _ c.place_rest.new.pods (length bytes - length first) c.in-Ok.changed.surplus stretch.parts
-    stretch.canonical refl (take_rest bytes (length first)) (changed_shorter _ _ c.in-Ok.ensures.there) c.place_rest.ensures in
-    all.rewritten
-
-pub returns-in-Ok-clause-behind : goal.returns-in-Ok-clause-behind
-returns-in-Ok-clause-behind c =
-    let bytes = c.args.bytes.now in
-    let first = c.canonical_stretch.result.0.now in
-    let stretch = c.canonical_stretch.ensures in
-    let all = behind_canonical bytes first _ _ c.place_rest.new.pods (length bytes - length first) c.in-Ok.changed.surplus stretch.parts
-    stretch.canonical refl (take_rest bytes (length first)) (changed_shorter _ _ c.in-Ok.ensures.there) c.place_rest.ensures in
-    all.behind
+    let others = c.canonical_stretch.result.1.now in
+    let parts = c.canonical_stretch.ensures.parts in
+    let is = take_rest bytes (length first) ∙ others_left bytes first others parts in
+    let long = ap length is in
+    let all = ap length parts ∙ length-append first others in
+    let shorter = (changed_shorter _ _ c.in-Ok.ensures.there).long in
+    let n = c.in-Ok.changed.surplus in
+    let sub = c.replace_pods.new.pods in
+    let same = c.replace_pods.auto.pods in
+    let out = take (length (take (length bytes - length first) (drop (length first) bytes)) - n) sub in
+    behind_first bytes first others bytes sub out (length bytes - length first) _ _ parts c.canonical_stretch.ensures.canonical
+    (ap (take (length first)) parts ∙ take_at first others (length first) refl) (omega arith)
+    (subst (λ x. AreRewritten x [] out) is c.replace_pods.ensures) refl (omega arith) (omega arith)
 
 pub overflow_add-top : goal.overflow_add-top
 overflow_add-top c =
     let pod = c.in-Err.pod.now in
     let others = c.canonical_stretch.result.1.now in
     let first = c.canonical_stretch.result.0.now in
-    let h = subst (AreUnwritten others pod) c.in-Fault.is c.in-Err.ensures.rejected in
-    let within = h.1.within in
-    let left = ap length h.0.2 ∙ length-append h.0.1 pod in
+    let h = c.in-Err.ensures.left in
+    let within = (subst (IsRejected pod) c.in-Fault.is c.in-Err.ensures.rejected).within in
+    let left = ap length h.2 ∙ length-append h.1 pod in
     let all = ap length c.canonical_stretch.ensures.parts ∙ length-append first others in
     omega arith
 
@@ -56,16 +55,17 @@ pub returns-in-Fault-clause-refused : goal.returns-in-Fault-clause-refused
 returns-in-Fault-clause-refused c =
     let pod = c.in-Err.pod.now in
     let others = c.canonical_stretch.result.1.now in
-    let h = subst (AreUnwritten others pod) c.in-Fault.is c.in-Err.ensures.rejected in
+    let h = c.in-Err.ensures.left in
+    let fault = subst (IsRejected pod) c.in-Fault.is c.in-Err.ensures.rejected in
     let bytes = c.args.bytes.now in
     let parts = c.canonical_stretch.ensures.parts in
     let first = c.canonical_stretch.ensures.canonical in
     let placed = error_of c.in-Fault.place c.in-Fault.why in
-    let front = fault_front pod c.in-Fault.place c.in-Fault.why h.1.stands in
+    let front = fault_front pod c.in-Fault.place c.in-Fault.why fault.stands in
     let top = length bytes - length pod in
-    let offset = offset_known bytes pod top c.in-Fault.at c.in-Fault.place c.in-Fault.why (left_behind _ _ _ _ top parts first h.0 refl) h.1 in
+    let offset = offset_known bytes pod top c.in-Fault.at c.in-Fault.place c.in-Fault.why (left_behind _ _ _ _ top parts first h refl) fault in
     let is = c.with_offset.ensures ∙ ap (moved (Some (top + c.in-Fault.at))) c.error_at.ensures in
-    subst (RefusesListAt bytes top) (sym is) (refused_behind _ _ _ _ top _ placed parts first (list_refused others pod _ h.0 front) refl offset)
+    subst (RefusesListAt bytes top) (sym is) (refused_behind _ _ _ _ top _ placed parts first (list_refused others pod _ h front) refl offset)
 
 pub returns-in-Fault-clause-missed : goal.returns-in-Fault-clause-missed
 returns-in-Fault-clause-missed c = λ w.
@@ -81,7 +81,8 @@ returns-in-Err-rewrite_all-clause-refused c =
     record { refused = e.front; named = e.named; short_first = e.short_first; memory = e.memory } in
     let parts = c.canonical_stretch.ensures.parts in
     let first = c.canonical_stretch.ensures.canonical in
-    let asks = asks_behind _ _ _ parts first (subst (AreUnwritten c.canonical_stretch.result.1.now c.in-Err.pod.now) c.in-TooDeep.is c.in-Err.ensures.rejected) in
+    let pod = c.in-Err.pod.now in
+    let asks = asks_behind _ _ _ parts first (pod, c.in-Err.ensures.left, subst (IsRejected pod) c.in-TooDeep.is c.in-Err.ensures.rejected) in
     subst (RefusesListAt c.args.bytes.now _) (sym c.with_offset-in-Err-rewrite_all.ensures)
     (refused_behind _ _ _ _ _ _ _ parts first (list_refused c.canonical_stretch.result.1.now left _ e.left front) refl (offset_unknown _ _ _ asks))
 
@@ -93,8 +94,9 @@ returns-in-Err-rewrite_all-clause-missed c = λ w.
 
 pub returns-in-Err-rewrite_all-clause-memory : goal.returns-in-Err-rewrite_all-clause-memory
 returns-in-Err-rewrite_all-clause-memory c =
+    let pod = c.in-Err.pod.now in
     deep_memory _ _ (asks_behind _ _ _ c.canonical_stretch.ensures.parts c.canonical_stretch.ensures.canonical
-    (subst (AreUnwritten c.canonical_stretch.result.1.now c.in-Err.pod.now) c.in-TooDeep.is c.in-Err.ensures.rejected))
+    (pod, c.in-Err.ensures.left, subst (IsRejected pod) c.in-TooDeep.is c.in-Err.ensures.rejected))
 
 pub put_first-requires : goal.put_first-requires
 put_first-requires c =
@@ -112,29 +114,18 @@ returns-in_default-clause-rewritten c =
     let bytes = c.args.bytes.now in
     let first = c.canonical_stretch.result.0.now in
     let others = c.canonical_stretch.result.1.now in
+    let parts = c.canonical_stretch.ensures.parts in
     let out = c.rewrite_all.new.out.items in
     let written = c.as_slice.result.now in
     let is : written ≡ out = c.as_slice.ensures.value in
     let w : AreRewritten others [] written =
     subst (AreRewritten others []) (sym is) (subst (λ x. AreRewritten others x out) c.new-written.ensures.items c.in_default.ensures.rewritten) in
     let same : vec_len c.rewrite_all.new.out ≡ length out = search rules in
-    let all = copied_behind bytes first others written _ c.put_first.new.out (length bytes - length first) c.len.result
-    c.canonical_stretch.ensures.parts c.canonical_stretch.ensures.canonical w (c.len.ensures ∙ same ∙ ap length (sym is)) refl
-    (take_rest bytes (length first)) c.put_first.ensures in
-    all.rewritten
-
-pub returns-in_default-clause-behind : goal.returns-in_default-clause-behind
-returns-in_default-clause-behind c =
-    let bytes = c.args.bytes.now in
-    let first = c.canonical_stretch.result.0.now in
-    let others = c.canonical_stretch.result.1.now in
-    let out = c.rewrite_all.new.out.items in
-    let written = c.as_slice.result.now in
-    let is : written ≡ out = c.as_slice.ensures.value in
-    let w : AreRewritten others [] written =
-    subst (AreRewritten others []) (sym is) (subst (λ x. AreRewritten others x out) c.new-written.ensures.items c.in_default.ensures.rewritten) in
-    let same : vec_len c.rewrite_all.new.out ≡ length out = search rules in
-    let all = copied_behind bytes first others written _ c.put_first.new.out (length bytes - length first) c.len.result
-    c.canonical_stretch.ensures.parts c.canonical_stretch.ensures.canonical w (c.len.ensures ∙ same ∙ ap length (sym is)) refl
-    (take_rest bytes (length first)) c.put_first.ensures in
-    all.behind
+    let sub = c.put_first.new.out in
+    let put = c.put_first.ensures in
+    let all = ap length parts ∙ length-append first others in
+    let sub_long = ap length put ∙ length-append written (drop (length written) (take (length bytes - length first) (drop (length first) bytes))) in
+    behind_first bytes first others bytes sub written (length bytes - length first) (length written) _ parts c.canonical_stretch.ensures.canonical
+    (ap (take (length first)) parts ∙ take_at first others (length first) refl) (omega arith) w
+    (sym (ap (take (length written)) put ∙ take_at written _ (length written) refl)) (omega arith)
+    (ap (λ n. length first + n) (c.len.ensures ∙ same ∙ ap length (sym is)))

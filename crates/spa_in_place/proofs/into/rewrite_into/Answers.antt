@@ -1,11 +1,14 @@
-use Rattle.std.proofs.Common.{length, refl, subst}
-use Rattle.std.proofs.lemmas.List.{take_rest}
+use Rattle.std.proofs.Common.{◌-◌, ◌∙◌, ap, arith, drop, length, length-append, refl, subst, sym, take}
+use Rattle.std.specs.Prelude.{[]}
+use Rattle.std.proofs.lemmas.List.{drop_at}
+use Rattle.std.proofs.lemmas.Slice.{drop-put_mid}
 use Rattle.spa_scan.specs.Depth.{levels_looked_into}
 use Rattle.spa_rewrite.specs.Shorter.{ArePodsWithin}
 use Rattle.spa_rewrite.proofs.Changed.{changed_shorter}
 use Rattle.spa_rewrite.proofs.ShorterLemmas.{shorter_behind, within_behind}
-use Rattle.spa_rewrite.proofs.Stretches.{canonical_rewritten}
-use Rattle.spa_in_place.proofs.ChangedPods.{parts_written}
+use Rattle.spa_rewrite.specs.Look.{AreChanged}
+use Rattle.spa_rewrite.specs.Rewriting.{AreRewritten}
+use Rattle.spa_in_place.proofs.ChangedPods.{behind_first, copy_room, first_copied, others_copied}
 use Rattle.spa_in_place.proofs.InPlaceLemmas.{into_counted}
 use Rattle.spa_in_place.proofs.into.rewrite_into.Goals as goal
 
@@ -25,20 +28,41 @@ returns-clause-counted c =
     let rest = changed_shorter _ _ c.in-Ok.ensures.there in
     into_counted _ _ _ (shorter_behind _ _ _ _ c.canonical_stretch.ensures.parts c.canonical_stretch.ensures.canonical rest) refl
 
+pub replace_pods-requires : goal.replace_pods-requires
+replace_pods-requires c =
+    let first = c.canonical_stretch.result.0.now in
+    let others = c.canonical_stretch.result.1.now in
+    subst (λ x. AreChanged x c.in-Ok.changed)
+    (sym (others_copied c.args.input.now first others _ _ c.canonical_stretch.ensures.parts c.put_first.ensures)) c.in-Ok.ensures.there
+
 pub returns-clause-rewritten : goal.returns-clause-rewritten
 returns-clause-rewritten c = λ room.
+    let input = c.args.input.now in
     let first = c.canonical_stretch.result.0.now in
-    let stretch = c.canonical_stretch.ensures in
-    let all = parts_written c.args.input.now first _ c.args.out.now _ first _ c.write_rest.new.out (length first) _ c.in-Ok.changed.surplus
-    stretch.parts (canonical_rewritten first stretch.canonical) refl refl c.put_first.ensures (take_rest c.put_first.new.out (length first)) refl
-    (changed_shorter _ _ c.in-Ok.ensures.there) c.write_rest.ensures in
-    all.rewritten
+    let others = c.canonical_stretch.result.1.now in
+    let parts = c.canonical_stretch.ensures.parts in
+    let copy = c.put_first.new.out in
+    let is = others_copied input first others _ copy parts c.put_first.ensures in
+    let long = ap length is in
+    let all = ap length parts ∙ length-append first others in
+    let shorter = (changed_shorter _ _ c.in-Ok.ensures.there).long in
+    let n = c.in-Ok.changed.surplus in
+    let sub = c.replace_pods.new.pods in
+    let same = c.replace_pods.auto.pods in
+    let out = take (length (take (length input - length first) (drop (length first) copy)) - n) sub in
+    behind_first input first others copy sub out (length input - length first) _ _ parts c.canonical_stretch.ensures.canonical
+    (first_copied input first others _ copy parts c.put_first.ensures) (copy_room input first others _ copy parts c.put_first.ensures)
+    (subst (λ x. AreRewritten x [] out) is c.replace_pods.ensures) refl (omega arith) (omega arith)
 
 pub returns-clause-behind : goal.returns-clause-behind
 returns-clause-behind c =
+    let input = c.args.input.now in
     let first = c.canonical_stretch.result.0.now in
-    let stretch = c.canonical_stretch.ensures in
-    let all = parts_written c.args.input.now first _ c.args.out.now _ first _ c.write_rest.new.out (length first) _ c.in-Ok.changed.surplus
-    stretch.parts (canonical_rewritten first stretch.canonical) refl refl c.put_first.ensures (take_rest c.put_first.new.out (length first)) refl
-    (changed_shorter _ _ c.in-Ok.ensures.there) c.write_rest.ensures in
-    all.behind
+    let others = c.canonical_stretch.result.1.now in
+    let parts = c.canonical_stretch.ensures.parts in
+    let copy = c.put_first.new.out in
+    let is = ap length (others_copied input first others _ copy parts c.put_first.ensures) in
+    let all = ap length parts ∙ length-append first others in
+    drop-put_mid (length first) (length input - length first) copy c.replace_pods.new.pods (length input) (omega arith)
+    (copy_room input first others _ copy parts c.put_first.ensures) (c.replace_pods.auto.pods ∙ is ∙ omega arith)
+    ∙ ap (drop (length input)) c.put_first.ensures ∙ drop_at input _ (length input) refl

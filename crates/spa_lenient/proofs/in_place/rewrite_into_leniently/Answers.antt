@@ -1,5 +1,5 @@
-use Rattle.std.proofs.Common.{[], length, ap, arith}
-use Rattle.spa_lenient.proofs.InPlace.{as_shorter, exactly_all, exactly_as}
+use Rattle.std.proofs.Common.{[], ◌∙◌, length, ap, arith}
+use Rattle.spa_lenient.proofs.InPlace.{as_shorter, exactly_all, exactly_as, put_behind}
 use Rattle.spa_lenient.proofs.in_place.rewrite_into_leniently.Goals as goal
 
 pub returns-in-Some-clause-counted : goal.returns-in-Some-clause-counted
@@ -17,6 +17,13 @@ put_first-requires c =
     let within = c.in_ok-rewrite_all_leniently.ensures.within in
     let put = ap length c.as_slice.ensures.value in
     let none = ap length c.new-rewritten.ensures.items in
-    let room = c.if-input-out.true in
+    let room = c.if-out-input.false in
     let same = c.rewrite_into.auto.out in
     omega arith
+
+pub returns-clause-behind : goal.returns-clause-behind
+returns-clause-behind c =
+    let within = c.in_ok-rewrite_all_leniently.ensures.within in
+    let put = ap length c.as_slice.ensures.value in
+    let none = ap length c.new-rewritten.ensures.items in
+    put_behind c.as_slice.result.now _ _ (length c.args.input.now) c.put_first.ensures (omega arith) ∙ c.rewrite_into.ensures.behind

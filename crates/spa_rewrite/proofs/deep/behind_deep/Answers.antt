@@ -1,10 +1,20 @@
 use Rattle.std.proofs.Common.{◌≡◌, ap, arith, length, refl, rules}
 use Rattle.std.specs.Prelude.{vec_len}
+use Rattle.spa_scan.specs.Depth.{levels_looked_into}
+use Rattle.spa_scan.proofs.Deeper.{holds_none, input_deep, its_front}
 use Rattle.spa_rewrite.proofs.Accepted.{inside_stops}
-use Rattle.spa_rewrite.proofs.Looks.{nested_long}
+use Rattle.spa_rewrite.proofs.Levels.{nested_long}
 use Rattle.spa_rewrite.proofs.Refusals.{fault_refused}
 use Rattle.spa_rewrite.proofs.ShorterLemmas.{shorter_inside, shorter_opened}
 use Rattle.spa_rewrite.proofs.deep.behind_deep.Goals as goal
+
+pub unreachable-requires : goal.unreachable-requires
+unreachable-requires c = c.in_default.ensures.short (its_front levels_looked_into _ c.requires)
+
+pub unreachable-requires-in_default-inside_of : goal.unreachable-requires-in_default-inside_of
+unreachable-requires-in_default-inside_of c =
+    let other = c.in_default-inside_of.ensures in
+    holds_none levels_looked_into _ _ (omega arith) other.other other.short (input_deep levels_looked_into _ _ _ _ c.in-Some.ensures.there c.requires)
 
 pub returns-in-Fits-clause-accepted : goal.returns-in-Fits-clause-accepted
 returns-in-Fits-clause-accepted c =

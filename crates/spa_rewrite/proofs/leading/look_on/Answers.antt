@@ -1,10 +1,11 @@
 use Rattle.std.proofs.Common.{arith, ap, length, length-set, refl, reverse, set, subst, sym, take, false, [], ◌∙◌, ◌≡◌, ◌+◌, ◌-◌}
-use Rattle.std.proofs.lemmas.Bool.{eqb-false, eqb-true}
+use Rattle.std.proofs.lemmas.Bool.{eqb-true}
 use Rattle.std.proofs.lemmas.List.{length-reverse, length-take-le}
 use Rattle.spa_format.specs.Typed.{IsBytes}
-use Rattle.spa_rewrite.specs.Look.{NestMore, nest_here}
+use Rattle.spa_scan.specs.Depth.{NestsDeeperInside}
 use Rattle.spa_events.specs.declared.inside.Inside.{Inside}
 use Rattle.spa_rewrite.proofs.CanonicalLooks.{OwnThen, OwnWaiting, left_in, own_begins, own_ended, own_in, own_in_last, own_passed}
+use Rattle.spa_rewrite.proofs.Levels.{deep_here}
 use Rattle.spa_rewrite.proofs.Looks.{opened_shorter, popped, pushed}
 use Rattle.spa_rewrite.proofs.leading.look_on.Goals as goal
 
@@ -73,7 +74,6 @@ loop-next-preserved-then-is_empty-2 c =
 pub returns-then-waiting-frames : goal.returns-then-waiting-frames
 returns-then-waiting-frames c =
     let passed = own_passed _ _ _ _ _ _ _ c.loop-next.invariant.0 c.behind_leaves-next.ensures in
-    let some = eqb-false _ 0 (sym c.is_empty-in-Inner.ensures ∙ c.if-is_empty-2.false) in
     let frames = c.loop-next.frames in
     let w = c.loop-next.waiting in
     let same = c.loop-next.auto.frames in
@@ -81,8 +81,8 @@ returns-then-waiting-frames c =
     let within = c.loop-next.invariant.1 in
     let long : 0 + length (reverse (take w frames)) ≡ length c.args.frames.now =
     (let l = length-reverse (take w frames) ∙ length-take-le w frames within in omega arith) in
-    subst (λ n. NestMore n c.args.are_keyed c.args.pods.now) long
-    (passed.deep 0 (nest_here _ _ _ _ _ c.in-Inner.ensures (λ e. some (ap length e))))
+    subst (λ n. NestsDeeperInside n c.args.are_keyed c.args.pods.now) long
+    (passed.deep 0 (deep_here _ _ _ _ _ c.in-Inner.ensures))
 
 pub loop-next-smaller-in-Inner : goal.loop-next-smaller-in-Inner
 loop-next-smaller-in-Inner c =
@@ -97,12 +97,11 @@ loop-next-smaller-in-Inner c =
 pub loop-next-preserved-in-Inner : goal.loop-next-preserved-in-Inner
 loop-next-preserved-in-Inner c =
     let passed = own_passed _ _ _ _ _ _ _ c.loop-next.invariant.0 c.behind_leaves-next.ensures in
-    let some = eqb-false _ 0 (sym c.is_empty-in-Inner.ensures ∙ c.if-is_empty-2.false) in
     let frames = c.loop-next.frames in
     let w = c.loop-next.waiting in
     let next : Inside = record { keyed = c.loop-next.keyed; pods = c.in-Inner.rest } in
     let p = pushed frames (set frames w next) w next refl c.if-waiting-frames.false in
-    let in_it = own_in _ _ _ _ _ _ _ _ _ passed c.in-Inner.ensures (λ n. some (ap length n)) in (
+    let in_it = own_in _ _ _ _ _ _ _ _ _ passed c.in-Inner.ensures in (
       subst (λ o. OwnWaiting c.args.are_keyed c.args.pods.now o c.in-Inner.inner.keyed c.in-Inner.inner.pods.now) (sym p) in_it,
       omega (arith, length-set {A = Inside}),
     )

@@ -27,4 +27,4 @@ returns-in-Differs-clause-missed c = λ rest k.
 pub returns-in-TooDeep-clause-missed : goal.returns-in-TooDeep-clause-missed
 returns-in-TooDeep-clause-missed c = λ rest k.
     let deep = too_deep _ _ _ _ _ _ c.in-Some.ensures.there c.in-Some-inside_of.ensures.there c.in-TooDeep.ensures in
-    deep_begun levels_looked_into _ k.value deep.nests k.begins.begins
+    deep_begun levels_looked_into _ k.value deep k.begins.begins

@@ -1,25 +1,32 @@
-use Rattle.std.proofs.Common.{inl, subst, sym, ◌∙◌, ap, take}
-use Rattle.spa_scan.specs.Depth.{levels_looked_into}
-use Rattle.spa_rewrite.specs.Shorter.{ArePodsWithin}
-use Rattle.spa_rewrite.proofs.Changed.{changed_shorter}
-use Rattle.spa_rewrite.proofs.Lacking.{unwritten}
-use Rattle.spa_rewrite.proofs.ShorterLemmas.{within_part}
+use Rattle.std.proofs.Common.{◌<◌, ap, arith, length, refl, sym, ◌∙◌}
+use Rattle.std.proofs.lemmas.Bool.{eqb-false, eqb-true}
+use Rattle.spa_rewrite.proofs.Accepted.{rejected_first}
+use Rattle.spa_rewrite.proofs.Changed.{all_changed, no_changes, others_more, stretch_passed}
 use Rattle.spa_rewrite.proofs.look.changed_pods.Goals as goal
 
-pub returns-in-Err-clause-rejected : goal.returns-in-Err-clause-rejected
-returns-in-Err-clause-rejected c = unwritten _ _ _ c.in-Err.ensures.left c.in-Err.ensures.rejected
+pub loop-asked_from-init : goal.loop-asked_from-init
+loop-asked_from-init c = no_changes _
 
-pub returns-then-not-are_shallow_but_at_end-clause-missed :
-    goal.returns-then-not-are_shallow_but_at_end-clause-missed
-returns-then-not-are_shallow_but_at_end-clause-missed c = λ w.
-    let h = c.in-Ok.ensures.there in
-    let changed = c.in-Ok.changed in
-    let is = c.split_at-2.ensures.front ∙ ap (take changed.others) c.split_at.ensures.back in
-    c.are_shallow.ensures c.if-not-are_shallow.true
-    (subst (ArePodsWithin levels_looked_into) (sym is) (within_part levels_looked_into changed.same_length changed.others _ _ _ h.same_length.members h.shorter.members w))
+pub returns-then-is_empty-clause-there : goal.returns-then-is_empty-clause-there
+returns-then-is_empty-clause-there c =
+    let is = stretch_passed _ _ _ _ _ c.loop-asked_from.invariant c.behind_canonical_pods-other.ensures in
+    all_changed _ _ _ _ _ is (eqb-true _ _ (sym c.is_empty.ensures ∙ c.if-is_empty.true)) refl
 
-pub returns-then-not-are_shallow_but_at_end-clause-rejected :
-    goal.returns-then-not-are_shallow_but_at_end-clause-rejected
-returns-then-not-are_shallow_but_at_end-clause-rejected c =
-    let pods = changed_shorter _ _ c.in-Ok.ensures.there in
-    inl (pods.values, pods.members)
+pub returns-in-Err-clause-missed : goal.returns-in-Err-clause-missed
+returns-in-Err-clause-missed c = λ w.
+    let some = eqb-false _ 0 (sym c.is_empty.ensures ∙ c.if-is_empty.false) in
+    let is = stretch_passed _ _ _ _ _ c.loop-asked_from.invariant c.behind_canonical_pods-other.ensures in
+    rejected_first _ _ (omega (arith, some)) c.in-Err.ensures.rejected (is.counts.within w)
+
+pub returns-in-Err-clause-left : goal.returns-in-Err-clause-left
+returns-in-Err-clause-left c =
+    let some = eqb-false _ 0 (sym c.is_empty.ensures ∙ c.if-is_empty.false) in
+    let seen = (stretch_passed _ _ _ _ _ c.loop-asked_from.invariant c.behind_canonical_pods-other.ensures).seen in
+    (seen.2.values, seen.0, seen.1, seen.2.members, λ e. some (ap length e))
+
+pub loop-asked_from-preserved : goal.loop-asked_from-preserved
+loop-asked_from-preserved c =
+    let some = eqb-false _ 0 (sym c.is_empty.ensures ∙ c.if-is_empty.false) in
+    let long : 0 < length c.behind_canonical_pods-other.result.now = omega (arith, some) in
+    let is = stretch_passed _ _ _ _ _ c.loop-asked_from.invariant c.behind_canonical_pods-other.ensures in
+    others_more _ _ _ _ c.in-Ok.pod _ is long c.in-Ok.ensures.accepted

@@ -1,13 +1,13 @@
 use Rattle.std.proofs.Common.{arith, ap, length, length-set, refl, reverse, set, subst, sym, take, false, [], ◌∙◌, ◌≡◌, ◌+◌, ◌-◌}
-use Rattle.std.proofs.lemmas.Bool.{eqb-false, eqb-true}
+use Rattle.std.proofs.lemmas.Bool.{eqb-true}
 use Rattle.std.proofs.lemmas.List.{length-reverse, length-take-le}
 use Rattle.spa_format.specs.Typed.{IsBytes}
-use Rattle.spa_rewrite.specs.Look.{NestMore, nest_here}
+use Rattle.spa_scan.specs.Depth.{NestsDeeperInside}
 use Rattle.spa_rewrite.proofs.Faulted.{stops_in}
 use Rattle.spa_rewrite.specs.declared.look.Waiting.{Waiting}
-use Rattle.spa_rewrite.proofs.Looks.{AwaitsAll, Onward, begins_look, goes_in, goes_in_last, goes_on, left_waiting, list_ends, opened_shorter, popped, pushed}
+use Rattle.spa_rewrite.proofs.Levels.{deep_here}
+use Rattle.spa_rewrite.proofs.Looks.{AwaitsAll, Onward, begins_look, goes_in, goes_on, left_waiting, list_ends, opened_shorter, popped, pushed}
 use Rattle.spa_rewrite.proofs.look.look_inside.Goals as goal
-use Rattle.spa_rewrite.proofs.look.look_inside.Goals.{else-not-is_empty, then-not-is_empty+else-waiting-frames}
 
 pub loop-left-init : goal.loop-left-init
 loop-left-init c =
@@ -60,8 +60,6 @@ returns-in-Fault c =
 pub returns-then-waiting-frames : goal.returns-then-waiting-frames
 returns-then-waiting-frames c =
     let passed = c.loop-left.invariant.0 in
-    let x = c.in-Inner.ensures.0 in
-    let some = eqb-false _ 0 (sym c.is_empty-in-Inner.ensures ∙ c.if-not-is_empty.true) in
     let frames = c.loop-left.frames in
     let w = c.loop-left.waiting in
     let same = c.loop-left.auto.frames in
@@ -69,22 +67,16 @@ returns-then-waiting-frames c =
     let within = c.loop-left.invariant.1 in
     let long : 0 + length (reverse (take w frames)) ≡ length c.args.frames.now =
     (let l = length-reverse (take w frames) ∙ length-take-le w frames within in omega arith) in
-    subst (λ n. NestMore n c.args.are_keyed c.args.pods.now) long
-    (passed.deep 0 (nest_here _ _ _ _ _ x (λ e. some (ap length e))))
+    subst (λ n. NestsDeeperInside n c.args.are_keyed c.args.pods.now) long (passed.deep 0 (deep_here _ _ _ _ _ c.in-Inner.ensures.0))
 
 pub loop-left-smaller : goal.loop-left-smaller
 loop-left-smaller c =
-    let x = c.in-Inner.ensures.0 in
-    let e = opened_shorter _ _ _ _ _ x in
+    let e = opened_shorter _ _ _ _ _ c.in-Inner.ensures.0 in
     let frames = c.loop-left.frames in
     let n = c.loop-left.waiting in
-    elim c.if-not-is_empty.branch [
-      | then-not-is_empty+else-waiting-frames w ↦
-          let next : Waiting = record { keyed = c.loop-left.keyed; pods = c.in-Inner.rest; behind = c.loop-left.behind } in
-          let l = ap left_waiting (pushed frames (set frames n next) n next refl w.if-waiting-frames.false) in
-          rw (w.frames-is, w.waiting-is) (omega arith)
-      | else-not-is_empty w ↦ rw (w.frames-is, w.waiting-is) (omega arith)
-    ]
+    let next : Waiting = record { keyed = c.loop-left.keyed; pods = c.in-Inner.rest; behind = c.loop-left.behind } in
+    let l = ap left_waiting (pushed frames (set frames n next) n next refl c.if-waiting-frames.false) in
+    omega arith
 
 pub loop-left-preserved : goal.loop-left-preserved
 loop-left-preserved c =
@@ -94,26 +86,13 @@ loop-left-preserved c =
     let room = c.loop-left.invariant.2 in
     let frames = c.loop-left.frames in
     let n = c.loop-left.waiting in
-    elim c.if-not-is_empty.branch [
-      | then-not-is_empty+else-waiting-frames w ↦
-          let some = eqb-false _ 0 (sym c.is_empty-in-Inner.ensures ∙ w.if-not-is_empty.true) in
-          let next : Waiting = record { keyed = c.loop-left.keyed; pods = c.in-Inner.rest; behind = c.loop-left.behind } in
-          let p = pushed frames (set frames n next) n next refl w.if-waiting-frames.false in
-          let l = ap left_waiting p in
-          let in_it = goes_in _ _ _ _ _ _ _ _ _ _ _ _ passed x c.in-Inner.ensures.1 (λ n. some (ap length n)) in
-          rw (w.frames-is, w.waiting-is) (
-            subst
-                (λ o. AwaitsAll c.args.are_keyed c.args.pods.now o c.in-Inner.inner.keyed c.in-Inner.inner.pods.now
-                (c.loop-left.behind + c.in-Inner.more) c.loop-left.surplus)
-                (sym p) in_it,
-            omega (arith, length-set {A = Waiting}),
-            omega arith,
-          )
-      | else-not-is_empty w ↦
-          let none = eqb-true _ _ (sym c.is_empty-in-Inner.ensures ∙ w.if-not-is_empty.false) in
-          rw (w.frames-is, w.waiting-is) (
-            goes_in_last _ _ _ _ _ _ _ _ _ _ _ _ passed x c.in-Inner.ensures.1 none,
-            c.loop-left.invariant.1,
-            omega arith,
-          )
-    ]
+    let next : Waiting = record { keyed = c.loop-left.keyed; pods = c.in-Inner.rest; behind = c.loop-left.behind } in
+    let p = pushed frames (set frames n next) n next refl c.if-waiting-frames.false in
+    let l = ap left_waiting p in
+    let in_it = goes_in _ _ _ _ _ _ _ _ _ _ _ _ passed x c.in-Inner.ensures.1 in (
+      subst
+          (λ o. AwaitsAll c.args.are_keyed c.args.pods.now o c.in-Inner.inner.keyed c.in-Inner.inner.pods.now (c.loop-left.behind + c.in-Inner.more)
+          c.loop-left.surplus) (sym p) in_it,
+      omega (arith, length-set {A = Waiting}),
+      omega arith,
+    )

@@ -2,11 +2,11 @@ use Rattle.std.proofs.Common.{◌≡◌, ◌+◌, ◌-◌, ◌≤◌, ◌∙◌,
 use Rattle.std.specs.Prelude.{true}
 use Rattle.std.proofs.lemmas.List.{drop-drop, take_rest}
 use Rattle.spa_rewrite.specs.Patched.{BeginsWord}
-use Rattle.spa_rewrite.proofs.PatchSteps.{runs_from, runs_further}
+use Rattle.spa_rewrite.proofs.Replacing.{runs_from, runs_further}
 use Rattle.spa_rewrite.proofs.patch.behind_word_properties.Goals as goal
 
 pub loop-here-init : goal.loop-here-init
-loop-here-init c = runs_from _ _ _ c.requires
+loop-here-init c = runs_from _ _ _ c.requires (λ i. omega (arith, c.type_inv.bytes i))
 
 pub loop-here-preserved : goal.loop-here-preserved
 loop-here-preserved c =
@@ -21,5 +21,5 @@ loop-here-preserved c =
     runs_further true _ _ _ _ at (at + 8) _ _ c.loop-here.invariant refl here begins refl k
     c.clear_padding.ensures c.clear_padding.auto.pod (λ i. omega (arith, c.type_inv.bytes i))
 
-pub returns-clause-patched : goal.returns-clause-patched
-returns-clause-patched c = c.loop-here.invariant.on
+pub returns-clause-encoded : goal.returns-clause-encoded
+returns-clause-encoded c = c.loop-here.invariant.on

@@ -1,6 +1,6 @@
 use Rattle.std.proofs.Common.{◌-◌, length}
 use Rattle.std.specs.Prelude.{true}
-use Rattle.spa_rewrite.proofs.PatchSteps.{RunsOn}
+use Rattle.spa_rewrite.proofs.Replacing.{RunsOn}
 use Rattle.spa_rewrite.proofs.patch.behind_word_properties.Given as goal
 
 abbrev pub invariant-loop-here : goal.invariant-loop-here

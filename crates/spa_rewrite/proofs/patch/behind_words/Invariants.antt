@@ -1,5 +1,5 @@
 use Rattle.std.proofs.Common.{◌-◌, length}
-use Rattle.spa_rewrite.proofs.PatchSteps.{RunsOn}
+use Rattle.spa_rewrite.proofs.Replacing.{RunsOn}
 use Rattle.spa_rewrite.proofs.patch.behind_words.Given as goal
 
 abbrev pub invariant-loop-next : goal.invariant-loop-next

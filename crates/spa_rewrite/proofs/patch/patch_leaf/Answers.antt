@@ -11,6 +11,6 @@ returns-in_default c =
       no_struct = c.requires.no_struct;
       no_object = c.requires.no_object;
       no_pointer = search rules;
-      no_choice = search rules;
+      no_choice = c.requires.no_choice;
     })
     c.clear_padding.ensures

@@ -2,18 +2,12 @@ use Rattle.std.proofs.Common.{subst, sym, ◌∙◌}
 use Rattle.std.specs.Prelude.{true}
 use Rattle.spa_scan.specs.Canonical.{AreCanonical}
 use Rattle.spa_rewrite.specs.Look.{IsRejected}
-use Rattle.spa_rewrite.specs.Shorter.{AreShorter}
-use Rattle.spa_rewrite.proofs.Appending.{accepted_canonical, before_rest, front_canonical, front_shorter, front_written}
+use Rattle.spa_rewrite.proofs.Appending.{accepted_canonical, before_rest, front_canonical, front_written}
 use Rattle.spa_rewrite.proofs.Lacking.{is_fault}
 use Rattle.spa_rewrite.proofs.rewriting.append_front.Goals as goal
 
-pub append_pod-requires-clause-shorter : goal.append_pod-requires-clause-shorter
-append_pod-requires-clause-shorter c =
-    let s = c.in-Ok.ensures.accepted.shorter in
-    subst (λ x. AreShorter x c.in-Ok.pod.surplus) (sym (c.split_at.ensures.front ∙ before_rest _ _ _ s.begins)) (front_shorter _ _ _ s)
-
-pub append_pod-requires-clause-canonical : goal.append_pod-requires-clause-canonical
-append_pod-requires-clause-canonical c = λ e.
+pub append_pod-requires : goal.append_pod-requires
+append_pod-requires c = λ e.
     let a = c.in-Ok.ensures.accepted in
     subst AreCanonical (sym (c.split_at.ensures.front ∙ before_rest _ _ _ a.shorter.begins))
     (front_canonical _ _ (accepted_canonical true _ c.in-Ok.pod a e))

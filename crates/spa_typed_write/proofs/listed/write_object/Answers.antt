@@ -1,10 +1,10 @@
 use Rattle.std.proofs.Common.{◌++◌, length, ap, arith, length-append}
-use Rattle.std.proofs.lemmas.Result.{IfErr-weaker, on_ok_weaker}
+use Rattle.std.proofs.lemmas.Result.{IfErr-weaker, on_err_weaker, on_ok_weaker}
 use Rattle.spa_format.specs.Encoding.{property_encodings}
 use Rattle.spa_format.specs.Tree.{object_type}
 use Rattle.spa_format.specs.Words.{word_bytes}
 use Rattle.spa_format.proofs.Encodings.{two_words_length}
-use Rattle.spa_typed_write.proofs.Completing.{extended_by, keeps_behind, keeps_taken, object_header_refused, object_past, object_words_refused, object_written, properties_refused}
+use Rattle.spa_typed_write.proofs.Completing.{extended_by, object_header_keeps, object_header_refused, object_past, object_words_keep, object_words_refused, object_written, properties_keep, properties_refused, unclosed_object_keeps}
 use Rattle.spa_typed_write.proofs.listed.write_object.Goals as goal
 
 pub returns-in-Err-clause-refused : goal.returns-in-Err-clause-refused
@@ -29,23 +29,31 @@ returns-in-Err-write_properties-clause-refused g c =
 
 pub returns-in-Err-clause-keeps : goal.returns-in-Err-clause-keeps
 returns-in-Err-clause-keeps g c =
-    keeps_taken g.met.O.PodOutput.content_appends c.args.out.now c.begin.new.out (word_bytes 0 ++ word_bytes object_type)
-    c.in-Err.ensures.begun
+    object_header_keeps g.met.O.PodOutput.content_appends c.args.out.now c.begin.new.out c.args.type_ c.args.id
+    (g.P.SerializeProperties.properties c.args.properties.now) c.in-Err.ensures.begun
 
 pub returns-in-Err-put_two-clause-keeps : goal.returns-in-Err-put_two-clause-keeps
 returns-in-Err-put_two-clause-keeps g c =
     let header = extended_by g.met.O.PodOutput.content_appends g.met.O.PodSink.refuses_after c.args.out.now c.begin.new.out _ c.in-Ok.ensures.header in
-    keeps_behind c.args.out.now c.begin.new.out c.put_two.new.sink _ header
-    (keeps_taken g.met.O.PodOutput.content_appends c.begin.new.out c.put_two.new.sink
-    (word_bytes c.args.type_ ++ word_bytes c.args.id) c.in-Err-put_two.ensures.begun)
+    object_words_keep g.met.O.PodOutput.content_appends c.args.out.now c.begin.new.out c.put_two.new.sink c.args.type_ c.args.id
+    (g.P.SerializeProperties.properties c.args.properties.now) header c.in-Err-put_two.ensures.begun
 
 pub returns-in-Err-write_properties-clause-keeps :
     goal.returns-in-Err-write_properties-clause-keeps
 returns-in-Err-write_properties-clause-keeps g c =
     let header = extended_by g.met.O.PodOutput.content_appends g.met.O.PodSink.refuses_after c.args.out.now c.begin.new.out _ c.in-Ok.ensures.header in
     let words = extended_by g.met.O.PodOutput.content_appends g.met.O.PodSink.refuses_after c.begin.new.out c.put_two.new.sink _ c.in_default.ensures.ok in
-    keeps_behind c.args.out.now c.begin.new.out c.write_properties.new.out _ header
-    (keeps_behind c.begin.new.out c.put_two.new.sink c.write_properties.new.out _ words c.in-Err-write_properties.ensures.keeps)
+    properties_keep c.args.out.now c.begin.new.out c.put_two.new.sink c.write_properties.new.out c.args.type_ c.args.id
+    (g.P.SerializeProperties.properties c.args.properties.now) header words c.in-Err-write_properties.ensures.keeps
+
+pub returns-clause-keeps : goal.returns-clause-keeps
+returns-clause-keeps g c =
+    let header = extended_by g.met.O.PodOutput.content_appends g.met.O.PodSink.refuses_after c.args.out.now c.begin.new.out _ c.in-Ok.ensures.header in
+    let words = extended_by g.met.O.PodOutput.content_appends g.met.O.PodSink.refuses_after c.begin.new.out c.put_two.new.sink _ c.in_default.ensures.ok in
+    on_err_weaker c.close.result
+    (unclosed_object_keeps c.args.out.now c.begin.new.out c.put_two.new.sink c.write_properties.new.out c.close.new.out c.args.type_ c.args.id
+    (g.P.SerializeProperties.properties c.args.properties.now) header words c.in_default-write_properties.ensures.written)
+    c.close.ensures.unchanged
 
 pub close-requires : goal.close-requires
 close-requires g c =

@@ -1,10 +1,10 @@
 use Rattle.std.proofs.Common.{◌++◌, length, ap, arith, length-append}
-use Rattle.std.proofs.lemmas.Result.{IfErr-weaker, on_ok_weaker}
+use Rattle.std.proofs.lemmas.Result.{IfErr-weaker, on_err_weaker, on_ok_weaker}
 use Rattle.spa_format.specs.Encoding.{member_encodings}
 use Rattle.spa_format.specs.Tree.{struct_type}
 use Rattle.spa_format.specs.Words.{word_bytes}
 use Rattle.spa_format.proofs.Encodings.{two_words_length}
-use Rattle.spa_typed_write.proofs.Completing.{extended_by, header_refused, keeps_behind, keeps_taken, members_refused, struct_past, struct_written}
+use Rattle.spa_typed_write.proofs.Completing.{extended_by, header_keeps, header_refused, members_keep, members_refused, struct_past, struct_written, unclosed_keeps}
 use Rattle.spa_typed_write.proofs.listed.write_struct.Goals as goal
 
 pub returns-in-Err-clause-refused : goal.returns-in-Err-clause-refused
@@ -20,13 +20,22 @@ returns-in-Err-write_members-clause-refused g c =
 
 pub returns-in-Err-clause-keeps : goal.returns-in-Err-clause-keeps
 returns-in-Err-clause-keeps g c =
-    keeps_taken g.met.O.PodOutput.content_appends c.args.out.now c.begin.new.out (word_bytes 0 ++ word_bytes struct_type)
+    header_keeps g.met.O.PodOutput.content_appends c.args.out.now c.begin.new.out (g.M.SerializeMembers.members c.args.members.now)
     c.in-Err.ensures.begun
 
 pub returns-in-Err-write_members-clause-keeps : goal.returns-in-Err-write_members-clause-keeps
 returns-in-Err-write_members-clause-keeps g c =
     let header = extended_by g.met.O.PodOutput.content_appends g.met.O.PodSink.refuses_after c.args.out.now c.begin.new.out _ c.in-Ok.ensures.header in
-    keeps_behind c.args.out.now c.begin.new.out c.write_members.new.out _ header c.in-Err-write_members.ensures.keeps
+    members_keep c.args.out.now c.begin.new.out c.write_members.new.out (g.M.SerializeMembers.members c.args.members.now) header
+    c.in-Err-write_members.ensures.keeps
+
+pub returns-clause-keeps : goal.returns-clause-keeps
+returns-clause-keeps g c =
+    let header = extended_by g.met.O.PodOutput.content_appends g.met.O.PodSink.refuses_after c.args.out.now c.begin.new.out _ c.in-Ok.ensures.header in
+    on_err_weaker c.close.result
+    (unclosed_keeps c.args.out.now c.begin.new.out c.write_members.new.out c.close.new.out (g.M.SerializeMembers.members c.args.members.now)
+    header c.in_default.ensures.written)
+    c.close.ensures.unchanged
 
 pub close-requires : goal.close-requires
 close-requires g c =

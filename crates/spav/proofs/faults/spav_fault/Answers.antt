@@ -1,4 +1,4 @@
-use Rattle.std.proofs.Common.{◌≤◌, length, refl, subst, arith, length-append, ap}
+use Rattle.std.proofs.Common.{length, refl, subst, arith, length-append, ap}
 use Rattle.spa_rewrite.specs.Look.{IsRejected}
 use Rattle.spav.proofs.FirstFaults.{fault_stands}
 use Rattle.spav.proofs.faults.spav_fault.Goals as goal
@@ -16,9 +16,9 @@ pub returns-in-Err-default-TooDeep-clause-deep : goal.returns-in-Err-default-Too
 returns-in-Err-default-TooDeep-clause-deep c = λ _.
     let x = c.in-Err-default-TooDeep in
     let deep = subst (IsRejected x._left.now) x.field-0-1-is x.ensures.rejected in
-    record { left = x._left.now; behind = x.ensures.left; nests = deep.nests }
+    record { left = x._left.now; behind = x.ensures.left; nests = deep }
 
 pub returns-in-Err-default-Fault-clause-fault : goal.returns-in-Err-default-Fault-clause-fault
-returns-in-Err-default-Fault-clause-fault c = λ _.
+returns-in-Err-default-Fault-clause-fault c = λ _ _.
     let x = c.in-Err-default-Fault in
-    fault_stands _ x.left.now _ _ x.behind _ x.why x.ensures.left refl (subst (IsRejected x.left.now) x.field-0-1-is x.ensures.rejected) c.number_of.ensures
+    fault_stands _ x.left.now _ _ x.behind _ x.why x.ensures.left refl (subst (IsRejected x.left.now) x.field-0-1-is x.ensures.rejected) c.number_of.ensures.said

@@ -6,4 +6,5 @@ pub returns-in-Ok-clause-done : goal.returns-in-Ok-clause-done
 returns-in-Ok-clause-done c = λ _.
     let room = c.if-out-input.false in
     let within = c.in-Ok.ensures.within in
-    conveyed_written _ _ _ _ (c.in-Ok.ensures.rewritten (omega arith)) (omega arith) c.rewrite_into_leniently.auto.out c.in-Ok.ensures.behind
+    let same = c.rewrite_into_leniently.auto.out in
+    conveyed_written _ _ _ (c.in-Ok.ensures.rewritten (omega arith)) (omega arith)

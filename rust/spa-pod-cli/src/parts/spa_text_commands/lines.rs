@@ -209,7 +209,7 @@ fn put_text(text: &mut String, body: &[u8]) -> Result<(), AllocError> {
         _ => body,
     };
     text.try_push_str("String \"")?;
-    match str::from_utf8(shown) {
+    match core::str::from_utf8(shown) {
         Ok(shown) => push_letters(text, shown)?,
         Err(_) => put_bytes(text, shown)?,
     }

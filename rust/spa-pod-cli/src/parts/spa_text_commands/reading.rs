@@ -114,7 +114,7 @@ fn add_pod(
     bytes: &[u8],
     pods: &mut Vec<u8>,
 ) -> Result<(), Unread> {
-    let text = match str::from_utf8(bytes) {
+    let text = match core::str::from_utf8(bytes) {
         Ok(text) => text,
         Err(error) => return Err(unread_at("Text", error.valid_up_to())),
     };

@@ -25,7 +25,7 @@ pub fn text_of(body: &[u8]) -> Option<&str> {
     if *last != 0 || text.has_nul() {
         return None;
     }
-    match str::from_utf8(text) {
+    match core::str::from_utf8(text) {
         Ok(s) => Some(s),
         Err(_) => None,
     }

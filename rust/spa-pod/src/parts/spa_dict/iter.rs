@@ -37,10 +37,10 @@ impl<'a> Iterator for Iter<'a> {
 
     fn next(&mut self) -> Option<(&'a str, &'a str)> {
         while let Some((key, value)) = self.inner.next() {
-            let Ok(key) = str::from_utf8(key) else {
+            let Ok(key) = core::str::from_utf8(key) else {
                 continue;
             };
-            if let Ok(value) = str::from_utf8(value) {
+            if let Ok(value) = core::str::from_utf8(value) {
                 return Some((key, value));
             }
         }
@@ -64,7 +64,7 @@ impl<'a> Iterator for Keys<'a> {
 
     fn next(&mut self) -> Option<&'a str> {
         while let Some((key, _)) = self.inner.next() {
-            if let Ok(key) = str::from_utf8(key) {
+            if let Ok(key) = core::str::from_utf8(key) {
                 return Some(key);
             }
         }
@@ -88,7 +88,7 @@ impl<'a> Iterator for Values<'a> {
 
     fn next(&mut self) -> Option<&'a str> {
         while let Some((_, value)) = self.inner.next() {
-            if let Ok(value) = str::from_utf8(value) {
+            if let Ok(value) = core::str::from_utf8(value) {
                 return Some(value);
             }
         }

@@ -21,7 +21,7 @@ pub(crate) fn is_short_enum(body: &[u8]) -> bool {
 
 /// The default of the Enum over the type `T` with this body, and the bodies of its values, of `N` bytes each, the default's first. None: it isn't
 /// the body of such an Enum.
-fn enum_view<T: Element, const N: usize>(body: &[u8]) -> Option<(T, &[[u8; N]])> {
+fn enum_view<T: Element, const N: usize>(body: &[u8]) -> Option<(T, Chunks<'_, N>)> {
     if body.len() < 2 * HEADER_LEN || u32_at(body, HEADER_LEN + SECOND_WORD) != T::TYPE {
         return None;
     }
@@ -30,13 +30,13 @@ fn enum_view<T: Element, const N: usize>(body: &[u8]) -> Option<(T, &[[u8; N]])>
     }
     let (_, array) = body.split_at(HEADER_LEN);
     let elements = open_array::<T>(array)?;
-    let (values, _) = elements.as_chunks::<N>();
+    let (values, _) = elements.in_chunks::<N>();
     let first = values.first()?;
     Some((T::of_body(first), values))
 }
 
 /// Whether an element is among the values with these bodies.
-fn is_one<T: Element, const N: usize>(x: &T, values: &[[u8; N]]) -> bool {
+fn is_one<T: Element, const N: usize>(x: &T, values: Chunks<'_, N>) -> bool {
     for value in values {
         if is_same(x, &T::of_body(value)) {
             return true;
@@ -47,8 +47,8 @@ fn is_one<T: Element, const N: usize>(x: &T, values: &[[u8; N]]) -> bool {
 
 /// The values of an Enum that another Enum admits, each once, in the order of the first. Refused only for want of memory.
 fn shared<T: Element, const N: usize>(
-    ours: &[[u8; N]],
-    theirs: &[[u8; N]],
+    ours: Chunks<'_, N>,
+    theirs: Chunks<'_, N>,
 ) -> Result<Vec<T>, AllocError> {
     let mut values = Vec::with_room(ours.len())?;
     for value in ours {
@@ -61,7 +61,7 @@ fn shared<T: Element, const N: usize>(
 fn keep_shared<T: Element, const N: usize>(
     values: &mut Vec<T>,
     value: &T,
-    theirs: &[[u8; N]],
+    theirs: Chunks<'_, N>,
 ) -> Result<(), AllocError> {
     if !is_one(value, theirs) {
         return Ok(());
@@ -76,9 +76,9 @@ fn keep_shared<T: Element, const N: usize>(
 /// The first of three elements that both Enums admit: the default of the one, the default of the other, and an element that both do admit.
 fn shared_default<T: Element, const N: usize>(
     first: &T,
-    ours: &[[u8; N]],
+    ours: Chunks<'_, N>,
     second: &T,
-    theirs: &[[u8; N]],
+    theirs: Chunks<'_, N>,
     other: &T,
 ) -> T {
     if is_one(first, theirs) {

@@ -14,8 +14,9 @@ pub struct NumberSteps {
     pub step: i64,
 }
 
-/// The numbers of `steps` that are multiples of another step, too. `least` and `greatest` are the bounds of a number type. Where the least common
-/// multiple isn't within them, only 0 may be a multiple of both: then `low` becomes at least 0, `high` at most 0, and the step stays.
+/// The numbers of `steps` that are multiples of another step, too. `least` and `greatest` are the bounds of a number type. The new step is as far from 0
+/// as the least common multiple of the two, and above 0 where that is within the bounds: for the steps -16 and -2147483648 over 32 bits it is -2147483648.
+/// Where the bounds hold no such number, only 0 may be a multiple of both: then `low` becomes at least 0, `high` at most 0, and the step stays.
 #[must_use]
 pub fn narrowed(steps: &NumberSteps, other: i64, least: i64, greatest: i64) -> NumberSteps {
     match common_step(steps.step, other, least, greatest) {

@@ -41,7 +41,7 @@ pub fn next_element<T: CanonicalFixedSizedPod>(elements: &[u8]) -> (&[u8], T) {
 fn read_chunks<T: CanonicalFixedSizedPod, const N: usize>(
     elements: &[u8],
 ) -> Result<Vec<T>, AllocError> {
-    let (bodies, _) = elements.as_chunks::<N>();
+    let (bodies, _) = elements.in_chunks::<N>();
     bodies
         .iter()
         .map(

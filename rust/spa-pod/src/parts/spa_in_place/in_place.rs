@@ -6,20 +6,18 @@ use crate::parts::spa_in_place::into::put_first;
 use crate::parts::spa_bodies::error_at;
 use crate::parts::spa_fixed_sized::{DeserializeError, Fault};
 use crate::parts::spa_rewrite::{
-    ChangedPods, Rejected, Source, Within, canonical_stretch, changed_pods, patch_all, rewrite_all,
-    write_all,
+    ChangedPods, Rejected, canonical_stretch, changed_pods, emit, move_down, rewrite_all,
 };
 
 /// Puts the rewritings of all pods that the bytes are at their front, and answers how many bytes these take: never more than the
-/// pods took. The bytes behind them stay as they were.
+/// pods took. What the bytes behind them are isn't said.
 ///
 /// The call is refused exactly as `rewrite_all`, and then no byte is changed. A refusal gives the offset of the refused pod, and its fault;
 /// `Nom` has the offset of the byte at which the fault stands, or `None` where memory was asked for.
 ///
-/// All pods are looked at first, and a fault that the look finds is the refusal. Then those before the first one that gets shorter are patched where
-/// they are, those from it up to the last one that isn't canonical are written behind them, and the canonical ones that follow are moved at once. That
-/// takes no memory where at most 1000 structs and objects stand in one another. Where more do, the look may find that the pods behind the first canonical
-/// ones nest too deep: then their rewritings are made in memory, by `rewrite_all`, and copied back.
+/// All pods are looked at first, and a fault that the look finds is the refusal. Then those up to the last one that isn't canonical are replaced, and the
+/// canonical ones that follow are moved at once. That takes no memory where at most 1000 structs and objects stand in one another. Where more do, the
+/// rewritings of the pods behind the first canonical ones are made in memory, by `rewrite_all`, and copied back.
 pub fn rewrite_in_place(
     bytes: &mut [u8],
 ) -> Result<usize, (usize, DeserializeError<Option<usize>>)> {
@@ -28,7 +26,7 @@ pub fn rewrite_in_place(
     let from = first.len();
     match changed_pods(others) {
         Ok(changed) => {
-            place_rest(changed, &mut bytes[from..]);
+            replace_pods(changed, &mut bytes[from..]);
             Ok(len - changed.surplus)
         }
         Err((pod, rejected)) => match rejected {
@@ -48,27 +46,12 @@ pub fn rewrite_in_place(
     }
 }
 
-/// Replaces pods by their encodings, at their front: those before the first one that gets shorter are patched where they are.
+/// Replaces pods by their encodings, at their front: so many bytes of them, and canonical pods behind these are moved at once.
 #[cfg_attr(not(debug_assertions), inline(always))]
-fn place_rest(changed: ChangedPods, pods: &mut [u8]) {
-    patch_all(&mut pods[..changed.same_length]);
-    move_rest(
-        changed.others,
-        changed.surplus,
-        &mut pods[changed.same_length..],
-    );
-}
-
-/// Replaces pods by their encodings, at their front: so many bytes of them are written, and canonical pods behind them moved at once.
-#[cfg_attr(not(debug_assertions), inline(always))]
-fn move_rest(len: usize, surplus: usize, pods: &mut [u8]) {
-    let source = Within { start: 0, end: len };
-    let end = write_all(surplus, source, &mut pods[..len]);
-    let tail = Within {
-        start: len - end,
-        end: pods.len() - end,
-    };
-    tail.carry(&mut pods[end..]);
+pub(crate) fn replace_pods(changed: ChangedPods, pods: &mut [u8]) {
+    let last = pods.len() - changed.others;
+    let len = emit(&mut pods[..changed.others]);
+    move_down(changed.others, last, len, pods);
 }
 
 /// The refusal with the place given by its offset.

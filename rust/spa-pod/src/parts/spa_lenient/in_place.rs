@@ -6,8 +6,8 @@ use crate::parts::spa_lenient::rewriting::{append_all, rewrite_all_leniently};
 use crate::parts::spa_fixed_sized::{DeserializeError, Fault, FaultKind, Refusal};
 use crate::parts::spa_in_place::{rewrite_in_place, rewrite_into};
 
-/// Rewrites all pods that the bytes consist of leniently in place, and answers the length of the outcome in bytes: never more than there were. The
-/// bytes behind it are unchanged.
+/// Rewrites all pods that the bytes consist of leniently in place, and answers the length of the outcome in bytes: never more than there were. What
+/// the bytes behind it are isn't said.
 ///
 /// The call is refused exactly as `rewrite_all_leniently`, and then no byte is changed. A refusal gives the offset of the refused pod, and its
 /// cause without the place inside the pod: a lenient read of the bytes from that offset on gives the place, too.
@@ -34,8 +34,8 @@ pub fn rewrite_in_place_leniently(
 }
 
 /// Rewrites all pods that the input consists of leniently, to the front of an output that is at least as long as the input, and answers the length
-/// of the outcome in bytes: never more than the input has. The output behind it is unchanged. For a shorter output only the length is answered, and
-/// nothing is written.
+/// of the outcome in bytes: never more than the input has. The output behind as many bytes as the input has is unchanged. For a shorter output only
+/// the length is answered, and nothing is written.
 ///
 /// The call is refused exactly as `rewrite_all_leniently`, and then nothing is written. Pods that the exact reading accepts are rewritten as by
 /// `rewrite_into`, without memory, where their nesting depth is at most `LEVELS`; else memory is asked for the rewritings of all pods.
@@ -48,9 +48,10 @@ pub fn rewrite_into_leniently<'a>(
     }
     let mut rewritten = Vec::new();
     rewrite_all_leniently(input, &mut rewritten)?;
-    if input.len() <= out.len() {
-        put_first(rewritten.as_slice(), out);
+    if out.len() < input.len() {
+        return Ok(rewritten.len());
     }
+    put_first(rewritten.as_slice(), out);
     Ok(rewritten.len())
 }
 

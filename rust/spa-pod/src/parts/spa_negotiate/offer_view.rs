@@ -109,7 +109,7 @@ fn is_at_most(type_: u32, value: &[u8], other: &[u8]) -> bool {
             if value.len() < ONE_WORD || other.len() < ONE_WORD {
                 return false;
             }
-            if u32_at(value, 0).cast_signed() > u32_at(other, 0).cast_signed() {
+            if u32_at(value, 0).to_signed() > u32_at(other, 0).to_signed() {
                 return false;
             }
             true
@@ -118,7 +118,7 @@ fn is_at_most(type_: u32, value: &[u8], other: &[u8]) -> bool {
             if value.len() < TWO_WORDS || other.len() < TWO_WORDS {
                 return false;
             }
-            if u64_at(value, 0).cast_signed() > u64_at(other, 0).cast_signed() {
+            if u64_at(value, 0).to_signed() > u64_at(other, 0).to_signed() {
                 return false;
             }
             true

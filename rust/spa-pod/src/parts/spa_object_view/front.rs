@@ -87,8 +87,7 @@ fn rewritten(input: &[u8]) -> Result<Vec<u8>, NoObject> {
     }
 }
 
-/// Why a front of another type than an object's is refused. Memory is asked for only where structs nest more than 1000 deep, not counting those in
-/// tail position.
+/// Why a front of another type than an object's is refused. Memory is asked for only where structs nest more than 1000 deep.
 #[inline(never)]
 fn no_object(input: &[u8]) -> NoObject {
     match look_at_pod(input) {

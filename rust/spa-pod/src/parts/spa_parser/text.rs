@@ -9,7 +9,7 @@ use core::str;
 /// aren't UTF-8.
 pub(crate) fn text_of<'d>(pod: &Pod<'d>) -> Result<&'d str, Errno> {
     let bytes = pod.get_string_raw()?;
-    match str::from_utf8(bytes) {
+    match core::str::from_utf8(bytes) {
         Ok(text) => Ok(text),
         Err(_) => Err(Errno::INVAL),
     }

@@ -18,7 +18,7 @@ impl AsyncSeq {
     /// Bit 30 over the low 30 bits of the number.
     #[must_use]
     pub fn from_seq(seq: i32) -> AsyncSeq {
-        AsyncSeq((SEQ_COUNT + seq.cast_unsigned() % SEQ_COUNT) as i32)
+        AsyncSeq((SEQ_COUNT + seq.to_unsigned() % SEQ_COUNT) as i32)
     }
 
     /// The sequence number of an asynchronous code. `SpaResult::from_c(code).is_async()` answers whether a code is one.
@@ -27,14 +27,14 @@ impl AsyncSeq {
     /// Where it isn't one.
     #[must_use]
     pub fn from_raw(code: i32) -> AsyncSeq {
-        assert!(code.cast_unsigned() >> SEQ_BITS == 1, "the code is not asynchronous");
+        assert!(code.to_unsigned() >> SEQ_BITS == 1, "the code is not asynchronous");
         AsyncSeq(code)
     }
 
     /// The sequence number: the low 30 bits.
     #[must_use]
     pub fn seq(&self) -> i32 {
-        (self.0.cast_unsigned() % SEQ_COUNT) as i32
+        (self.0.to_unsigned() % SEQ_COUNT) as i32
     }
 
     /// The code.

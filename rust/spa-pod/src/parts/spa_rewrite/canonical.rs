@@ -9,8 +9,7 @@ use crate::shims::memory::AllocError;
 /// Whether the pod at the front of the input is canonical: all of it is there, and `rewrite` would give the same bytes.
 /// A front that is refused isn't, and what follows the front doesn't count.
 ///
-/// Memory is asked for only where more than 1000 structs and objects stand in one another, not counting those in tail position, and then as
-/// `rewrite` does.
+/// Memory is asked for only where more than 1000 structs and objects stand in one another, and then as `rewrite` does.
 pub fn is_canonical(input: &[u8]) -> Result<bool, AllocError> {
     match look_at_pod(input) {
         Ok(pod) => Ok(pod.canonical),

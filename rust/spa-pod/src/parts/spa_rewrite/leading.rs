@@ -32,8 +32,8 @@ enum First<'a> {
 /// What follows the pod at the front, where a look finds that it is canonical: its padding is zeros, its truth values are 0 or 1, its choices hold
 /// no surplus values, its pointers take 16 bytes, and the same holds of its members. It takes no memory.
 ///
-/// `None` says that it isn't, or that more than 1000 structs and objects stand in one another, not counting those in tail position:
-/// such a pod may not be looked into, and may still be canonical.
+/// `None` says that it isn't, or that more than 1000 structs and objects stand in one another: such a pod may not be looked into, and may still be
+/// canonical.
 #[must_use]
 pub fn canonical_front(input: &[u8]) -> Option<&[u8]> {
     next_canonical(input, &mut no_frames(input))

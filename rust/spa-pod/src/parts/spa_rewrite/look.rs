@@ -11,7 +11,7 @@ use crate::parts::spa_bodies::VALUE_TYPE_AT;
 use crate::parts::spa_bytes::{HEADER_LEN, SECOND_WORD, open, u32_at};
 use crate::parts::spa_events::{Inside, behind_key, inside_of};
 use crate::parts::spa_fixed_sized::{FLAGS_SHAPE, Refusal};
-use crate::parts::spa_scan::{LEVELS, fixed_len, nests_within};
+use crate::parts::spa_scan::fixed_len;
 use crate::parts::spa_utils::SpaTypes;
 
 /// A pod that is accepted.
@@ -34,12 +34,10 @@ pub struct AcceptedPods {
     pub surplus: usize,
 }
 
-/// Pods one after another that are all accepted: first those before the one that gets shorter, then others, and then canonical ones.
+/// Pods one after another that are all accepted: those up to the last one that isn't canonical, and canonical ones.
 #[derive(Clone, Copy)]
 pub struct ChangedPods {
-    /// How many first bytes are pods that are as long as their encodings.
-    pub same_length: usize,
-    /// How many bytes of pods follow these, up to the last one that isn't canonical.
+    /// How many first bytes are pods up to the last one that isn't canonical.
     pub others: usize,
     /// By how many bytes the encodings of all are shorter than the pods.
     pub surplus: usize,
@@ -51,7 +49,7 @@ pub enum Rejected<'a> {
     /// It is malformed. The fault stands at the front of these bytes: what is left from there on of the input, or of the struct or object
     /// inside which it stands. The number is that place's offset in the pod.
     Fault(&'a [u8], usize, Refusal),
-    /// More than 1000 structs and objects stand in one another, not counting those in tail position.
+    /// More than 1000 structs and objects stand in one another.
     TooDeep,
 }
 
@@ -118,8 +116,7 @@ pub(crate) const MANY: usize = 1000;
 
 /// Looks at the pod at the front of the input.
 ///
-/// It takes no memory. Any pod is accepted in which at most 1000 structs and objects stand in one another; where more do, those in tail position
-/// don't count.
+/// It takes no memory. Any pod is accepted in which at most 1000 structs and objects stand in one another.
 pub fn look_at_pod(input: &[u8]) -> Result<AcceptedPod<'_>, Rejected<'_>> {
     look_at_front(true, input, &mut no_room(input))
 }
@@ -145,24 +142,6 @@ pub fn look_at_pods(pods: &[u8]) -> Result<AcceptedPods, (&[u8], Rejected<'_>)> 
     Ok(AcceptedPods { canonical, surplus })
 }
 
-/// Finds the pods of an input that are patched where they are, those that are written, and canonical ones behind them. It is refused as `look_at_pods` is,
-/// and as too deep also where more than `LEVELS` structs and objects stand in one another in one that is written, not counting those that end where all of
-/// these do: what writes such pods calls itself for each.
-pub fn changed_pods(pods: &[u8]) -> Result<ChangedPods, (&[u8], Rejected<'_>)> {
-    let changed = match look_for_changes(pods) {
-        Ok(changed) => changed,
-        Err(refusal) => return Err(refusal),
-    };
-    let (_, rest) = pods.split_at(changed.same_length);
-    let (written, _) = rest.split_at(changed.others);
-    if !are_shallow(written) {
-        if !are_shallow_but_at_end(written) {
-            return Err((pods, Rejected::TooDeep));
-        }
-    }
-    Ok(changed)
-}
-
 /// How many bytes of pods are looked at or written together at most: so many fit into a processor's cache.
 const BLOCK: usize = 65536;
 
@@ -173,11 +152,11 @@ pub(crate) fn more_unasked(unasked: usize) -> usize {
     if unasked < BLOCK { 4 * unasked } else { BLOCK }
 }
 
-/// Looks at all pods for those that `changed_pods` answers, wherever structs and objects end.
-fn look_for_changes(pods: &[u8]) -> Result<ChangedPods, (&[u8], Rejected<'_>)> {
+/// Finds the pods of an input up to the last one that isn't canonical, and the canonical ones behind them. It is refused as `look_at_pods` is.
+pub fn changed_pods(pods: &[u8]) -> Result<ChangedPods, (&[u8], Rejected<'_>)> {
     let mut frames = few_frames(pods);
     let mut left = pods;
-    let (mut others, mut tail) = (pods, pods);
+    let mut tail = pods;
     let mut surplus = 0;
     let (mut unasked, mut asked_from) = (1, 0);
     loop {
@@ -193,8 +172,7 @@ fn look_for_changes(pods: &[u8]) -> Result<ChangedPods, (&[u8], Rejected<'_>)> {
         }
         if other.is_empty() {
             return Ok(ChangedPods {
-                same_length: pods.len() - others.len(),
-                others: others.len() - tail.len(),
+                others: pods.len() - tail.len(),
                 surplus,
             });
         }
@@ -202,9 +180,6 @@ fn look_for_changes(pods: &[u8]) -> Result<ChangedPods, (&[u8], Rejected<'_>)> {
             Ok(pod) => pod,
             Err(why) => return Err((other, why)),
         };
-        if surplus == 0 {
-            others = if pod.surplus == 0 { pod.rest } else { other };
-        }
         tail = pod.rest;
         surplus += pod.surplus;
         left = pod.rest;
@@ -219,56 +194,6 @@ fn behind_canonical_pods(asked: bool, pods: &[u8]) -> &[u8] {
     }
     let (_, rest) = canonical_stretch(pods);
     rest
-}
-
-/// Whether at most `LEVELS` structs and objects stand in one another in each of the pods, not counting those that end where the input does.
-fn are_shallow_but_at_end(pods: &[u8]) -> bool {
-    let mut keyed = false;
-    let mut left = pods;
-    loop {
-        let Some(here) = behind_key(keyed, left) else {
-            return true;
-        };
-        let Some(front) = open(here) else {
-            return true;
-        };
-        if let Some(inside) = last_inside(front.type_, front.body, front.rest) {
-            keyed = inside.keyed;
-            left = inside.pods;
-            continue;
-        }
-        if !nests_within(here, LEVELS) {
-            return false;
-        }
-        left = front.rest;
-    }
-}
-
-/// What stands in the body of a struct or of an object that nothing follows.
-fn last_inside<'a>(type_: u32, body: &'a [u8], rest: &[u8]) -> Option<Inside<'a>> {
-    if rest.is_empty() {
-        inside_of(type_, body)
-    } else {
-        None
-    }
-}
-
-/// How many bytes the body of a pod has at least in which more than `LEVELS` structs and objects stand in one another: each of these in it has a
-/// header.
-pub(crate) const DEEP_BODY: usize = LEVELS as usize * HEADER_LEN;
-
-/// Whether at most `LEVELS` structs and objects stand in one another in each of the pods.
-fn are_shallow(pods: &[u8]) -> bool {
-    let mut left = pods;
-    while let Some(front) = open(left) {
-        if front.body.len() >= DEEP_BODY {
-            if !nests_within(left, LEVELS) {
-                return false;
-            }
-        }
-        left = front.rest;
-    }
-    true
 }
 
 /// How many first bytes are canonical pods, where so many are of those before a pod that ends there.
@@ -356,7 +281,7 @@ fn look_deep(keyed: bool, pods: &[u8]) -> Found<'_> {
     look_inside(keyed, pods, &mut [none_waiting(pods); MANY])
 }
 
-/// Looks inside a struct or an object. What is left behind an inner one waits in the array; nothing waits where nothing is left.
+/// Looks inside a struct or an object. What is left behind an inner one waits in the array.
 #[inline(never)]
 pub(crate) fn look_inside<'a>(
     are_keyed: bool,
@@ -384,17 +309,15 @@ pub(crate) fn look_inside<'a>(
                 left = rest;
             }
             Met::Inner(inner, rest, more) => {
-                if !rest.is_empty() {
-                    if waiting >= frames.len() {
-                        return Found::TooDeep;
-                    }
-                    frames[waiting] = Waiting {
-                        keyed,
-                        pods: rest,
-                        behind,
-                    };
-                    waiting += 1;
+                if waiting >= frames.len() {
+                    return Found::TooDeep;
                 }
+                frames[waiting] = Waiting {
+                    keyed,
+                    pods: rest,
+                    behind,
+                };
+                waiting += 1;
                 keyed = inner.keyed;
                 left = inner.pods;
                 behind += more;

@@ -70,7 +70,7 @@ fn behind_ascii(text: &[u8]) -> &[u8] {
 
 /// Whether bytes are UTF-8 without NUL, by two walks over them.
 fn is_text_content(text: &[u8]) -> bool {
-    !text.has_nul() && str::from_utf8(text).is_ok()
+    !text.has_nul() && core::str::from_utf8(text).is_ok()
 }
 
 /// The first byte of the first character of two bytes, and how many such bytes there are.

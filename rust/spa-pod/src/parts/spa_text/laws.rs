@@ -36,7 +36,7 @@ pub fn print_again(value: &Value) -> Result<(Vec<u8>, Vec<u8>), AllocError> {
 
 /// The value of a text that is one's.
 fn read_again(bytes: &[u8]) -> Result<Value, AllocError> {
-    let Ok(text) = str::from_utf8(bytes) else {
+    let Ok(text) = core::str::from_utf8(bytes) else {
         unreachable!()
     };
     match read(text) {

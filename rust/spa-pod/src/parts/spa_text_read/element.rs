@@ -80,8 +80,12 @@ pub(crate) fn put_element(values: &mut ValueArray, element: Element) -> Result<(
     }
 }
 
+/// For how many values there is room at first: as many as most choices have.
+const FIRST_ROOM: usize = 4;
+
 fn push<T: Copy>(values: &mut Vec<T>, value: T) -> Result<(), Cause> {
-    let Ok(()) = values.make_room(1) else {
+    let room = if values.is_empty() { FIRST_ROOM } else { 1 };
+    let Ok(()) = values.make_room(room) else {
         return Err(Cause::OutOfMemory);
     };
     values.push(value);

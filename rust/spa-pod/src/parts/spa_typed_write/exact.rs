@@ -17,15 +17,18 @@ use crate::parts::spa_write::write_sized;
 /// The members and the properties that `write_struct` and `write_object` write have to be of such types. A `SerializeAs` is one, and so is each
 /// built-in type.
 pub trait ExactSerialize: PodSerialize {
-    /// Appends the value's encoding. After a refusal the output holds the bytes that it held before, and zero or more behind them.
+    /// Appends the value's encoding. After a refusal the output holds the bytes that it held before, and behind
+    /// them a beginning of the encoding, in which the size words of the structs and objects that aren't closed are 0.
     fn write_exactly<O: PodOutput>(&self, out: &mut O) -> Result<(), GenError>;
 }
 
 /// A type that is written as another value: each built-in type, and a type of a program's own, by `write_struct` of its members or by
 /// `write_object` of its properties. Refused only as `NulInText` where a text in the value holds NUL, as `TooLarge` where a size word would be
-/// 4294967296 or more, and with the output's error where that refuses the encoding.
+/// 4294967296 or more, as `OutOfMemory` where a `Value` in it nests in more than 512 levels, and with the output's error where that refuses the
+/// encoding.
 pub trait SerializeAs {
-    /// Appends the encoding of that value. After a refusal the output holds the bytes that it held before, and zero or more behind them.
+    /// Appends the encoding of that value. After a refusal the output holds the bytes that it held before, and behind
+    /// them a beginning of the encoding, in which the size words of the structs and objects that aren't closed are 0.
     fn write_as<O: PodOutput>(&self, out: &mut O) -> Result<(), GenError>;
 }
 

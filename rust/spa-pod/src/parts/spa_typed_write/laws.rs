@@ -8,9 +8,10 @@ use crate::shims::array::ArrayVec;
 use crate::parts::spa_sink::GenError;
 use crate::parts::spa_value::Value;
 
-/// To an output of fixed size each value that can be written is written where its encoding fits, and no other value is ever
-/// written. It is refused as `NulInText` only where a text in it holds NUL, as `TooLarge` only where a size word would be 4294967296
-/// or more, as `Full` only where its encoding doesn't fit, and never otherwise.
+/// To an output of fixed size each value that can be written and nests in at most 512 levels is written where its encoding fits, and no value
+/// that can't be written ever is. It is refused as `NulInText` only where a text in it holds NUL, as `TooLarge` only where a size word would be
+/// 4294967296 or more, as `OutOfMemory` only where it nests in more than 512 levels, as `Full` only where its encoding doesn't fit, and never
+/// otherwise.
 pub fn values_are_written_where_they_fit<const N: usize>(
     out: ArrayVec<u8, N>,
     value: &Value,
@@ -35,9 +36,10 @@ pub fn pods_are_written_where_they_fit<P: PodSerialize, const N: usize>(
     PodSerializer::serialize(out, pod)
 }
 
-/// To an output of fixed size a `SerializeAs`, such as a type of a program's own, is written exactly where its value can be written and the
-/// encoding fits. It is refused as `NulInText` only where a text in the value holds NUL, as `TooLarge` only where a size word would be
-/// 4294967296 or more, as `Full` only where the encoding doesn't fit, and never otherwise.
+/// To an output of fixed size a `SerializeAs` that nests in at most 512 levels, such as a type of a program's own, is written exactly where its
+/// value can be written and the encoding fits. It is refused as `NulInText` only where a text in the value holds NUL, as `TooLarge` only where a
+/// size word would be 4294967296 or more, as `OutOfMemory` only where it nests in more than 512 levels, as `Full` only where the encoding doesn't
+/// fit, and never otherwise.
 pub fn declared_pods_are_written_where_they_fit<P: SerializeAs, const N: usize>(
     out: ArrayVec<u8, N>,
     pod: &P,

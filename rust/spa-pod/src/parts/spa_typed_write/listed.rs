@@ -88,7 +88,9 @@ impl<A: ExactSerialize, R: SerializeProperties> SerializeProperties for ((u32, M
 }
 
 /// Appends the encoding of a struct of these members. Refused as `NulInText` only where a text in them holds NUL, as `TooLarge` only where a size
-/// word, the struct's own among them, would be 4294967296 or more, and else only with the output's error where that refuses the encoding.
+/// word, the struct's own among them, would be 4294967296 or more, as `OutOfMemory` where a `Value` in them nests in more than 512 levels, and else
+/// only with the output's error where that refuses the encoding. After a refusal the output holds the bytes that it held before, and behind them a
+/// beginning of the encoding, in which the size words of the structs and objects that aren't closed are 0.
 pub fn write_struct<M: SerializeMembers, O: PodOutput>(
     out: &mut O,
     members: &M,
@@ -104,8 +106,9 @@ pub fn write_struct<M: SerializeMembers, O: PodOutput>(
 }
 
 /// Appends the encoding of an object of this type and id with these properties. Refused as `NulInText` only where a text in them holds NUL, as
-/// `TooLarge` only where a size word, the object's own among them, would be 4294967296 or more, and else only with the output's error where that
-/// refuses the encoding.
+/// `TooLarge` only where a size word, the object's own among them, would be 4294967296 or more, as `OutOfMemory` where a `Value` in them nests in
+/// more than 512 levels, and else only with the output's error where that refuses the encoding. After a refusal the output holds what it holds
+/// after one of `write_struct`.
 pub fn write_object<P: SerializeProperties, O: PodOutput>(
     out: &mut O,
     type_: u32,

@@ -6,7 +6,7 @@ use crate::parts::spa_value::array::ValueArray;
 use crate::parts::spa_value::choice_value::ChoiceValue;
 use crate::parts::spa_value::emptying::discard;
 use crate::parts::spa_value::leaves::copy_leaf;
-use crate::parts::spa_value::nested_copies::{copy_nested, object_copy, struct_copy};
+use crate::parts::spa_value::nested_copies::{CALL_LEVELS, copy_nested, object_copy, struct_copy};
 use crate::parts::spa_value::object::{Object, Property};
 use crate::parts::spa_value::value::Value;
 use crate::shims::memory::AllocError;
@@ -50,8 +50,8 @@ impl TryClone for ChoiceValue {
 impl TryClone for Value {
     fn try_clone(&self) -> Result<Value, AllocError> {
         match self {
-            Value::Struct(members) => struct_copy(members),
-            Value::Object(object) => object_copy(object),
+            Value::Struct(members) => struct_copy(members, CALL_LEVELS),
+            Value::Object(object) => object_copy(object, CALL_LEVELS),
             _ => copy_lone(self),
         }
     }
@@ -85,7 +85,7 @@ fn copy_lone(value: &Value) -> Result<Value, AllocError> {
         Ok(None) => Ok(copy.unwrap()),
         Ok(Some(nested)) => {
             drop(copy);
-            copy_nested(nested)
+            copy_nested(nested, CALL_LEVELS)
         }
         Err(error) => {
             drop(copy);

@@ -5,7 +5,7 @@ use crate::shims::prelude::*;
 use crate::parts::spa_value::array::ValueArray;
 use crate::parts::spa_value::choice_value::ChoiceValue;
 use crate::parts::spa_value::comparison::{Pair, Step, Verdict, compare, compare_objects};
-use crate::parts::spa_value::elements::same_elements;
+use crate::parts::spa_value::elements::{same_elements, same_numbers};
 use crate::parts::spa_value::object::{Object, Property};
 use crate::parts::spa_value::value::Value;
 use crate::shims::memory::AllocError;
@@ -14,10 +14,10 @@ impl PartialEq for ValueArray {
     fn eq(&self, other: &ValueArray) -> bool {
         match (self, other) {
             (ValueArray::None(xs), ValueArray::None(ys)) => same_elements(xs, ys),
-            (ValueArray::Bool(xs), ValueArray::Bool(ys)) => same_elements(xs, ys),
+            (ValueArray::Bool(xs), ValueArray::Bool(ys)) => same_numbers(xs, ys),
             (ValueArray::Id(xs), ValueArray::Id(ys)) => same_elements(xs, ys),
-            (ValueArray::Int(xs), ValueArray::Int(ys)) => same_elements(xs, ys),
-            (ValueArray::Long(xs), ValueArray::Long(ys)) => same_elements(xs, ys),
+            (ValueArray::Int(xs), ValueArray::Int(ys)) => same_numbers(xs, ys),
+            (ValueArray::Long(xs), ValueArray::Long(ys)) => same_numbers(xs, ys),
             (ValueArray::Float(xs), ValueArray::Float(ys)) => same_elements(xs, ys),
             (ValueArray::Double(xs), ValueArray::Double(ys)) => same_elements(xs, ys),
             (ValueArray::Rectangle(xs), ValueArray::Rectangle(ys)) => same_elements(xs, ys),

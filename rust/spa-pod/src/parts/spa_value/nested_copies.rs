@@ -233,28 +233,31 @@ impl<'a> Copies<'a> {
     }
 }
 
-/// Copies a container. Refused only for want of memory.
+/// How many levels of containers in one another are copied by calls, which is faster; what is nested deeper is copied by a loop.
+pub(crate) const CALL_LEVELS: usize = 64;
+
+/// Copies a container, and this many levels in it by calls. Refused only for want of memory, as those below are.
 #[cfg_attr(not(debug_assertions), inline(always))]
-pub(crate) fn copy_nested(nested: Nested<'_>) -> Result<Value, AllocError> {
+pub(crate) fn copy_nested(nested: Nested<'_>, levels: usize) -> Result<Value, AllocError> {
     match nested {
-        Nested::Struct(members) => struct_copy(members),
-        Nested::Object(object) => object_copy(object),
+        Nested::Struct(members) => struct_copy(members, levels),
+        Nested::Object(object) => object_copy(object, levels),
     }
 }
 
-/// Copies a struct, without a stack where it has no container in it. Refused only for want of memory.
+/// Copies a struct.
 #[inline(never)]
-pub(crate) fn struct_copy(members: &Vec<Value>) -> Result<Value, AllocError> {
+pub(crate) fn struct_copy(members: &Vec<Value>, levels: usize) -> Result<Value, AllocError> {
     let mut begun = begin_struct(members)?;
     match begun.copy_on()? {
         None => Ok(Value::Struct(begun.copies)),
-        Some(nested) => copy_within(Copying::Struct(begun), nested),
+        Some(nested) => copy_rest(Copying::Struct(begun), nested, levels),
     }
 }
 
-/// Copies an object, without a stack where it has no container in it. Refused only for want of memory.
+/// Copies an object.
 #[inline(never)]
-pub(crate) fn object_copy(object: &Object) -> Result<Value, AllocError> {
+pub(crate) fn object_copy(object: &Object, levels: usize) -> Result<Value, AllocError> {
     let mut begun = begin_object(object)?;
     match begun.copy_on()? {
         None => Ok(Value::Object(Object {
@@ -262,8 +265,41 @@ pub(crate) fn object_copy(object: &Object) -> Result<Value, AllocError> {
             id: begun.id,
             properties: begun.copies,
         })),
-        Some(nested) => copy_within(Copying::Object(begun), nested),
+        Some(nested) => copy_rest(Copying::Object(begun), nested, levels),
     }
+}
+
+/// Copies the container `first` and what is left behind it of the one whose copy is begun.
+#[inline(never)]
+fn copy_rest<'a>(outer: Copying<'a>, first: Nested<'a>, levels: usize) -> Result<Value, AllocError> {
+    if levels == 0 {
+        return copy_within(outer, first);
+    }
+    let mut begun = outer;
+    let mut nested = first;
+    loop {
+        if let Err(error) = put_copy(&mut begun, nested, levels - 1) {
+            discard(begun.into_value());
+            return Err(error);
+        }
+        match begun.copy_on() {
+            Ok(None) => return Ok(begun.into_value()),
+            Ok(Some(next)) => nested = next,
+            Err(error) => {
+                discard(begun.into_value());
+                return Err(error);
+            }
+        }
+    }
+}
+
+/// Puts the copy of the container at which copying stopped into the one around it.
+#[cfg_attr(not(debug_assertions), inline(always))]
+fn put_copy(begun: &mut Copying<'_>, nested: Nested<'_>, levels: usize) -> Result<(), AllocError> {
+    begun.make_room()?;
+    let copy = copy_nested(nested, levels)?;
+    begun.put(copy);
+    Ok(())
 }
 
 /// Copies the container `nested` and what is left behind it of the one whose copy is begun, by a loop. Refused only for want of memory.

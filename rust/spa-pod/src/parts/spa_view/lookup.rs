@@ -52,7 +52,7 @@ impl<'a> FromPod<'a> for &'a str {
         let Ok(bytes) = pod.get_string_raw() else {
             return None;
         };
-        match str::from_utf8(bytes) {
+        match core::str::from_utf8(bytes) {
             Ok(text) => Some(text),
             Err(_) => None,
         }

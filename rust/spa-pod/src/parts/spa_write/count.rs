@@ -90,10 +90,10 @@ pub(crate) fn only_struct(members: &[Value]) -> Option<&[Value]> {
 /// How deep what is in a value may nest that is written by calls into a sink without an allocator.
 pub(crate) const INNER_LEVELS: usize = 511;
 
-/// Whether a value may nest deeper than calls write it into a sink without an allocator: it isn't small, and there may be room for so many.
+/// Whether a value may nest deeper than calls write it into a sink without an allocator: it isn't small, and there may be room for more levels.
 pub(crate) fn may_be_deep(room: Option<usize>, value: &Value) -> bool {
     let most = room.unwrap_or(usize::MAX) / HEADER_LEN;
-    most > INNER_LEVELS && !is_small(value)
+    most > INNER_LEVELS + 1 && !is_small(value)
 }
 
 /// Whether at most so many structs and objects stand in one another in a value. A struct that is the only member of another one isn't counted. No
@@ -151,8 +151,23 @@ pub(crate) fn left_of(value: &Value, number: usize) -> Option<usize> {
     }
 }
 
-/// What is left of the number once all values in these members are counted off; `None` where it is too small.
+/// What is left of the number once all values in these members are counted off; `None` where it is too small. A struct that is the only member
+/// of another one takes no call.
 fn left_of_members(members: &[Value], number: usize) -> Option<usize> {
+    let mut left = number;
+    let mut inner = members;
+    while let Some(lone) = only_struct(inner) {
+        let Some(behind) = left.checked_sub(1) else {
+            return None;
+        };
+        left = behind;
+        inner = lone;
+    }
+    left_of_all(inner, left)
+}
+
+/// What is left of the number once all values in these members are counted off, one by one; `None` where it is too small.
+fn left_of_all(members: &[Value], number: usize) -> Option<usize> {
     let mut left = number;
     for member in members {
         let Some(behind) = left_of(member, left) else {

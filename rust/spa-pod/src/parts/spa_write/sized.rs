@@ -33,8 +33,8 @@ const KEYED_LEN: usize = 24;
 /// memory. Where such a sink knows how many bytes it has room for, calls nest no deeper than an eighth of that number: a struct
 /// or an object that consists of more values than that is refused as `Full`.
 ///
-/// Calls nest no deeper than 512 levels. What nests deeper is put together by the loop for any sink: where the sink names no allocator, that of the
-/// value's own vectors is asked for memory, and only where it refuses is the value written by calls, one for each level.
+/// Calls nest no deeper than 512 levels. What nests deeper is put together by the loop for any sink: where the sink names no allocator, in memory
+/// of that of the value's own vectors. Where that memory is refused, the answer is `OutOfMemory`, and the sink is as it was.
 pub fn write_sized<S: PodSink>(sink: &mut S, value: &Value) -> Result<u64, GenError> {
     if !is_nested(value) {
         return write_measured(sink, value);
@@ -54,32 +54,18 @@ fn write_without_allocator<S: PodSink>(sink: &mut S, value: &Value) -> Result<u6
         match value {
             Value::Struct(members) => {
                 if !members_nest_within(members.as_slice(), INNER_LEVELS) {
-                    return write_deep(sink, value);
+                    return write_value(sink, value);
                 }
             }
             Value::Object(object) => {
                 if !properties_nest_within(object.properties.as_slice(), INNER_LEVELS) {
-                    return write_deep(sink, value);
+                    return write_value(sink, value);
                 }
             }
             _ => {}
         }
     }
     write_by_calls(sink, value)
-}
-
-/// Appends the encoding of a value that is put together by a loop, in memory, and answers its length in bytes. Where that memory
-/// lacks, it is written by calls.
-fn write_deep<S: PodSink>(sink: &mut S, value: &Value) -> Result<u64, GenError> {
-    match write_by_loop(value) {
-        Ok(made) => {
-            sink.append(made.as_slice())?;
-            Ok(made.len() as u64)
-        }
-        Err(GenError::NulInText) => Err(GenError::NulInText),
-        Err(GenError::TooLarge) => Err(GenError::TooLarge),
-        Err(_) => write_by_calls(sink, value),
-    }
 }
 
 /// Appends the encoding of a value by calls into a sink that may know how many bytes it has room for, and answers its length in bytes.

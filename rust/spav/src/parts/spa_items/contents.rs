@@ -2,7 +2,7 @@
 //! Reads the two numbers of an item from a pod's body.
 
 use spa_pod::shims::prelude::*;
-use crate::parts::spa_items::elements::element_count;
+use crate::parts::spa_items::elements::{element_count, values_of};
 use crate::parts::spa_items::item::Content;
 use spa_pod::parts::spa_bytes::{HEADER_LEN, SECOND_WORD, SHORT_POINTER_LEN, u32_at, u64_at};
 use spa_pod::parts::spa_utils::SpaTypes;
@@ -69,6 +69,19 @@ pub(crate) fn fixed_content(type_: u32, body: &[u8]) -> Content {
             first: 0,
             second: 0,
         },
+    }
+}
+
+/// The type of an array's elements or of a choice's values, and the flags of a choice; of any other pod 0.
+#[cfg_attr(not(debug_assertions), inline(always))]
+pub(crate) fn child_and_flags(type_: u32, body: &[u8]) -> (u32, u32) {
+    match SpaTypes(type_) {
+        SpaTypes::Array => (word_or(body, SECOND_WORD), 0),
+        SpaTypes::Choice => (
+            word_or(values_of(type_, body), SECOND_WORD),
+            word_or(body, SECOND_WORD),
+        ),
+        _ => (0, 0),
     }
 }
 

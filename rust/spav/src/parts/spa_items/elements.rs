@@ -13,6 +13,8 @@ pub(crate) struct Elements<'a> {
     pub(crate) type_: u32,
     pub(crate) size: usize,
     pub(crate) count: usize,
+    /// The byte of the input at which the first begins.
+    pub(crate) at: usize,
     pub(crate) bytes: &'a [u8],
 }
 
@@ -61,29 +63,55 @@ pub(crate) fn element_count(type_: u32, body: &[u8]) -> usize {
     count
 }
 
-/// The elements of an array, or the values that a choice takes.
-fn elements_of(type_: u32, body: &[u8]) -> Elements<'_> {
+/// How many bytes of a body are before an array's elements, or before a choice's values.
+fn before_values(type_: u32) -> usize {
+    if SpaTypes(type_) == SpaTypes::Choice {
+        2 * HEADER_LEN
+    } else {
+        HEADER_LEN
+    }
+}
+
+/// The elements of an array, or the values that a choice takes, where the body begins at the byte `at`.
+fn elements_of(type_: u32, at: usize, body: &[u8]) -> Elements<'_> {
     let values = values_of(type_, body);
     Elements {
         type_: word_or(values, SECOND_WORD),
         size: word_or(values, 0) as usize,
         count: element_count(type_, body),
+        at: at + before_values(type_),
         bytes: behind(values),
     }
 }
 
-/// The item of an element or value.
-fn element(type_: u32, depth: usize, bytes: &[u8]) -> Item {
+/// The item of an element or value, which begins at the byte `at`.
+fn element(type_: u32, depth: usize, at: usize, bytes: &[u8]) -> Item {
     let content = fixed_content(type_, bytes);
     Item {
         type_,
         key: 0,
         flags: 0,
         child: 0,
+        choice_flags: 0,
+        reserved: 0,
         depth,
+        at,
         first: content.first,
         second: content.second,
     }
+}
+
+/// The item of the element of a number, counted from 0, of an array, or of the value of that number of a choice. `at` is the byte of the input at which
+/// the body begins, `depth` how many structs, objects, arrays and choices the element is in. None: there are no more elements.
+pub fn element_item(type_: u32, depth: usize, at: usize, body: &[u8], number: usize) -> Option<Item> {
+    let elements = elements_of(type_, at, body);
+    if elements.count <= number {
+        return None;
+    }
+    let before = number * elements.size;
+    let (_, left) = elements.bytes.split_at(before);
+    let (value, _) = left.split_at(elements.size);
+    Some(element(elements.type_, depth, elements.at + before, value))
 }
 
 /// Writes an item at an index of the output, where the output is that long.
@@ -93,21 +121,32 @@ pub(crate) fn put(out: &mut [Item], place: usize, item: Item) {
     }
 }
 
-/// Writes the items of the elements of an array, or of the values that a choice takes, from an index on, and answers the index behind them.
+/// Writes the items of the elements of an array, or of the values that a choice takes, from an index on, and answers the index behind them. The
+/// body begins at the byte `at`.
 pub(crate) fn put_elements(
     out: &mut [Item],
     place: usize,
     depth: usize,
     type_: u32,
+    at: usize,
     body: &[u8],
 ) -> usize {
-    let elements = elements_of(type_, body);
+    if type_ != SpaTypes::Array.0 && type_ != SpaTypes::Choice.0 {
+        return place;
+    }
+    let elements = elements_of(type_, at, body);
     let mut done = 0;
     let mut left = elements.bytes;
+    let mut begins = elements.at;
     while done < elements.count {
         let (first, others) = left.split_at(elements.size);
-        put(out, place + done, element(elements.type_, depth, first));
+        put(
+            out,
+            place + done,
+            element(elements.type_, depth, begins, first),
+        );
         left = others;
+        begins += elements.size;
         done += 1;
     }
     place + done

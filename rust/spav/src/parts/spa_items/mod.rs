@@ -6,6 +6,7 @@ mod item;
 mod listing;
 mod places;
 
+pub use elements::element_item;
 pub use item::Item;
 pub use listing::{front_item, list_items};
 pub use places::{place_of_key, place_of_number};

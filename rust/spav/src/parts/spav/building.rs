@@ -27,7 +27,7 @@ pub struct Call {
     /// An Id, a truth value (0 is false), the bits of a Float, a width, a numerator, a pointer's type, an object's type, a choice's shape, a key, or
     /// the type of an array's elements.
     pub first: u32,
-    /// A height, a denominator, an object's id, a choice's flags, a property's flags, how many bytes a text has, or how many elements an array has.
+    /// A height, a denominator, an object's id, a choice's flags, or a property's flags.
     pub second: u32,
     /// An Int.
     pub number: i32,
@@ -36,6 +36,10 @@ pub struct Call {
     /// The bits of a Double, a pointer's address, the byte of the texts at which a text or the elements of an array begin, the frame of the pod that
     /// is closed, or 0 for the innermost.
     pub bits: u64,
+    /// How many bytes a text has, or how many elements an array has.
+    pub len: u64,
+    /// 0.
+    pub reserved: u64,
 }
 
 /// Writes the pods that a list of calls builds, one after another, to the front of `out`. The texts of strings, bytes, and the elements of whole
@@ -89,8 +93,16 @@ fn run(builder: &mut Builder, texts: &[u8], calls: &[Call]) -> Result<(), (usize
     Ok(())
 }
 
-/// Makes one call.
+/// Makes one call. One whose reserved field isn't 0 is none.
 fn make(builder: &mut Builder, texts: &[u8], call: &Call) -> Result<(), Errno> {
+    if call.reserved != 0 {
+        return Err(Errno::INVAL);
+    }
+    make_known(builder, texts, call)
+}
+
+/// Makes a call of the header's words.
+fn make_known(builder: &mut Builder, texts: &[u8], call: &Call) -> Result<(), Errno> {
     match SpaTypes(call.what) {
         SpaTypes::None => builder.add_none(),
         SpaTypes::Bool => builder.add_bool(call.first != 0),
@@ -158,7 +170,7 @@ fn part(texts: &[u8], from: usize, len: usize) -> Option<&[u8]> {
 
 /// Adds the bytes whose offset and length in the texts a call gives.
 fn add_part(builder: &mut Builder, texts: &[u8], call: &Call) -> Result<(), Errno> {
-    match part(texts, call.bits as usize, call.second as usize) {
+    match part(texts, call.bits as usize, call.len as usize) {
         Some(bytes) => builder.add_bytes(bytes),
         None => Err(Errno::INVAL),
     }
@@ -187,7 +199,9 @@ fn add_array_of<T: CanonicalFixedSizedPod>(
     texts: &[u8],
     call: &Call,
 ) -> Result<(), Errno> {
-    let len = (call.second as usize).saturating_mul(T::SIZE);
+    let Some(len) = (call.len as usize).checked_mul(T::SIZE) else {
+        return Err(Errno::INVAL);
+    };
     match part(texts, call.bits as usize, len) {
         Some(bodies) => builder.add_array_in::<T>(bodies),
         None => Err(Errno::INVAL),
@@ -196,10 +210,10 @@ fn add_array_of<T: CanonicalFixedSizedPod>(
 
 /// Adds the text whose offset and length in the texts a call gives.
 fn add_text(builder: &mut Builder, texts: &[u8], call: &Call) -> Result<(), Errno> {
-    let Some(bytes) = part(texts, call.bits as usize, call.second as usize) else {
+    let Some(bytes) = part(texts, call.bits as usize, call.len as usize) else {
         return Err(Errno::INVAL);
     };
-    match str::from_utf8(bytes) {
+    match core::str::from_utf8(bytes) {
         Ok(text) => builder.add_string(text),
         Err(_) => Err(Errno::INVAL),
     }

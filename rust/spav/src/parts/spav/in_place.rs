@@ -7,9 +7,9 @@ use spa_pod::parts::spa_in_place::rewrite_in_place;
 
 /// Canonicalizes all pods that the bytes consist of, in place: their canonical encodings, one after another, are then the front of the bytes.
 ///
-/// 0: `written` is the length of the encodings, never more than the pods had, and the bytes behind are unchanged. -EINVAL: the bytes aren't pods one
-/// after another; the pod that begins at the byte `at` is refused. -ENOMEM: memory was asked for and refused; it isn't asked for where the bytes
-/// are pods with a nesting depth of at most 1000. Where the answer isn't 0, nothing is changed.
+/// 0: `written` is the length of the encodings, never more than the pods had; what the bytes behind them are isn't said. -EINVAL: the bytes aren't
+/// pods one after another; the pod that begins at the byte `at` is refused. -ENOMEM: memory was asked for and refused; it isn't asked for where the
+/// bytes are pods with a nesting depth of at most 1000. Where the answer isn't 0, nothing is changed.
 pub fn spav_rewrite_in_place(
     bytes: &mut [u8],
     written: &mut usize,
@@ -31,7 +31,7 @@ pub fn spav_rewrite_in_place(
 }
 
 /// Whether a refusal is for a fault of the bytes, and not for want of memory.
-fn is_for_bytes<I>(error: &DeserializeError<I>) -> bool {
+pub(crate) fn is_for_bytes<I>(error: &DeserializeError<I>) -> bool {
     match error {
         DeserializeError::OutOfMemory => false,
         _ => true,

@@ -9,10 +9,10 @@ use spa_pod::parts::spa_lenient::{rewrite_all_leniently, rewrite_in_place_lenien
 
 /// Writes the encodings of all values that the input conveys in the lenient reading, one after another, to the front of `out`.
 ///
-/// 0: `written` is the length of the encodings in bytes, and `out` is unchanged behind them. -EINVAL: the input doesn't convey values one after
-/// another; at the byte `at` no value is conveyed. -ENOSPC: it does, and the length, `written`, is more than `out` has. -ENOMEM: memory was asked for
-/// and refused; it isn't asked for where the input is pods with a nesting depth of at most 1000 and `out` is as long. Where the answer isn't 0, `out`
-/// is unchanged.
+/// 0: `written` is the length of the encodings in bytes. `out` is unchanged behind as many bytes as the input has, and where it is shorter than the
+/// input, behind the encodings. -EINVAL: the input doesn't convey values one after another; at the byte `at` no value is conveyed. -ENOSPC: it does,
+/// and the length, `written`, is more than `out` has. -ENOMEM: memory was asked for and refused; it isn't asked for where the input is pods with a
+/// nesting depth of at most 1000 and `out` is as long. Where the answer isn't 0, `out` is unchanged.
 pub fn spav_rewrite_leniently(
     input: &[u8],
     out: &mut [u8],
@@ -58,9 +58,9 @@ fn refused(input: &[u8], left: &[u8], error: DeserializeError<&[u8]>, at: &mut u
 
 /// Rewrites the bytes leniently in place: the encodings of the values that they convey, one after another, are then the front of the bytes.
 ///
-/// 0: `written` is the length of the encodings, never more than the bytes had, and the bytes behind are unchanged. -EINVAL: the bytes don't convey
-/// values one after another; at the byte `at` no value is conveyed. -ENOMEM: memory was asked for and refused; it isn't asked for where the bytes
-/// are pods with a nesting depth of at most 1000. Where the answer isn't 0, nothing is changed.
+/// 0: `written` is the length of the encodings, never more than the bytes had; what the bytes behind them are isn't said. -EINVAL: the bytes don't
+/// convey values one after another; at the byte `at` no value is conveyed. -ENOMEM: memory was asked for and refused; it isn't asked for where the
+/// bytes are pods with a nesting depth of at most 1000. Where the answer isn't 0, nothing is changed.
 pub fn spav_rewrite_in_place_leniently(
     bytes: &mut [u8],
     written: &mut usize,

@@ -9,10 +9,10 @@ use spa_pod::parts::spa_rewrite::{accept_all, canonical_stretch, rewrite_all};
 
 /// Writes the canonical encodings of all pods that the input consists of, one after another, to the front of `out`.
 ///
-/// 0: `written` is the length of the encodings in bytes, and `out` is unchanged behind them. -EINVAL: the input isn't pods one after another; the pod
-/// that begins at the byte `at` is refused. -ENOSPC: it is, and the length, `written`, is more than `out` has. -ENOMEM: memory was asked for and
-/// refused; it isn't asked for where the input is pods with a nesting depth of at most 1000 and is canonical, or `out` is as long as it. Where the
-/// answer isn't 0, `out` is unchanged.
+/// 0: `written` is the length of the encodings in bytes. `out` is unchanged behind as many bytes as the input has, and where it is shorter than the
+/// input, behind the encodings. -EINVAL: the input isn't pods one after another; the pod that begins at the byte `at` is refused. -ENOSPC: it is, and
+/// the length, `written`, is more than `out` has. -ENOMEM: memory was asked for and refused; it isn't asked for where the input is pods with a nesting
+/// depth of at most 1000 and is canonical, or `out` is as long as it. Where the answer isn't 0, `out` is unchanged.
 pub fn spav_rewrite(
     input: &[u8],
     out: &mut [u8],

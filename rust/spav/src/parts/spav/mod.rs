@@ -5,7 +5,6 @@
 
 pub(crate) mod answers;
 pub(crate) mod building;
-pub(crate) mod events;
 pub(crate) mod faults;
 pub(crate) mod filtering;
 pub(crate) mod fixation;
@@ -16,9 +15,10 @@ pub(crate) mod lists;
 pub(crate) mod negotiation;
 pub(crate) mod questions;
 pub(crate) mod reading;
+pub(crate) mod setting;
 pub(crate) mod sides;
 
-/// The number of the interface that the header of the same number describes, as in the name of the shared library.
+/// The version of the interface: 65536 times the number in the shared library's name, and how often calls were added under that number.
 pub fn spav_abi() -> u32 {
-    0
+    0x10000
 }

@@ -3,13 +3,14 @@
 //!
 //! A read looks only at type and size, as the views of PipeWire do: the bytes may be anything.
 
-use crate::parts::spav::answers::{DONE, INVALID, MISSING, NO_ROOM, OTHER, YES};
+use crate::parts::spav::answers::{DONE, INVALID, MISSING, NO_ROOM, OTHER};
 use spa_pod::parts::spa_bytes::{extent_of, open, u32_at};
 use spa_pod::parts::spa_utils::Id;
 use spa_pod::parts::spa_view::Pod;
 
-/// Whether a whole pod is at the front of the input: 1 or 0, and where it is, its type, the size of its body, and how many bytes it
-/// takes with header and padding. Where it isn't, these are unchanged.
+/// Reads the type of the pod at the front of the input, the size of its body, and how many bytes it takes with header and padding.
+///
+/// 0: done. -EINVAL: no whole pod is at the front, and nothing is written.
 pub fn spav_front(
     input: &[u8],
     type_: &mut u32,
@@ -17,13 +18,13 @@ pub fn spav_front(
     whole: &mut usize,
 ) -> i32 {
     let Some(front) = open(input) else {
-        return DONE;
+        return INVALID;
     };
     let body_len = u32_at(input, 0);
     *type_ = front.type_;
     *size = body_len;
     *whole = extent_of(body_len);
-    YES
+    DONE
 }
 
 /// Reads the type and the id of the object at the front.

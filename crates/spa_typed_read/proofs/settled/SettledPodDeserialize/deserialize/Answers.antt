@@ -2,7 +2,7 @@ use Rattle.std.proofs.Common.{refl, sym, ap, ◌∙◌, subst}
 use Rattle.spa_format.specs.Tree.{fixed}
 use Rattle.spa_view.specs.Settled.{Says, settled_bytes}
 use Rattle.spa_typed_read.specs.Exactly.{other_choice}
-use Rattle.spa_typed_read.proofs.SettledReads.{fault_settled, says_settled, settled_says}
+use Rattle.spa_typed_read.proofs.SettledReads.{choices_are_flat, fault_settled, says_settled, settled_says}
 use Rattle.spa_typed_read.proofs.settled.SettledPodDeserialize.deserialize.Goals as goal
 
 pub returns-in-Some-from_pod-clause-read : goal.returns-in-Some-from_pod-clause-read
@@ -23,6 +23,11 @@ returns-in-Err-Fault-clause-refused g c =
     let says = rw c.in-Err-Fault.field-0-is at c.in-Err-Fault.ensures.rejected in
     rw (← c.deserializer.view_is, c.error_at.ensures, c.in-Err-Fault.place-is, c.in-Err-Fault.why-is)
     (fault_settled _ _ _ c.in-Err-Fault.place c.in-Err-Fault.why c.in-Some.ensures.there says.stands)
+
+pub returns-in-Err-TooDeep-clause-refused : goal.returns-in-Err-TooDeep-clause-refused
+returns-in-Err-TooDeep-clause-refused g c =
+    let rejected = rw c.in-Err-TooDeep.field-0-is at c.in-Err-TooDeep.ensures.rejected in
+    absurd (choices_are_flat _ c.in-Some.ensures.there rejected)
 
 pub returns-in-None-clause-refused : goal.returns-in-None-clause-refused
 returns-in-None-clause-refused g c =

@@ -1,0 +1,283 @@
+-- Pods that are replaced by their encodings one after another, where they are.
+use Rattle.std.proofs.Common.{◌≡◌, ◌≢◌, ℕ, ◌+◌, ◌-◌, ◌^◌, ◌<◌, ◌≤◌, ◌%◌, List, [], ◌++◌, length, drop, take, refl, sym, ap, ◌∙◌, subst, arith, append_assoc, length-drop}
+use Rattle.std.specs.Prelude.{Bool, replicate, true, false}
+use Rattle.std.proofs.Math.Seq.{take-add}
+use Rattle.std.proofs.lemmas.List.{drop-drop, drop_at, length-take-le, take-append-le, take_all, take_at}
+use Rattle.std.proofs.lemmas.Slice.{drop-put_mid}
+use borrow.Rule.Slice.PartMut.{put_mid}
+use Rattle.spa_format.specs.Words.{body_of, extent, word_at}
+use Rattle.spa_format.specs.Kind.{Kind, none_kind, bool_kind, id_kind, int_kind, long_kind, float_kind, double_kind, rectangle_kind, fraction_kind, fd_kind, body_size, type_number}
+use Rattle.spa_format.specs.Front.{HasFront, front_of, rest_of}
+use Rattle.spa_format.specs.Typed.{IsBytes}
+use Rattle.spa_format.proofs.Fronts.{length-body_of, size_of_front, type_of_front}
+use Rattle.spa_format.proofs.WordLemmas.{IsBytes-drop, IsBytes-take}
+use Rattle.spa_bytes.specs.Opening.{Opens}
+use Rattle.spa_events.specs.Inside.{IsBehindKey, key_size}
+use Rattle.spa_rewrite.specs.Emit.{EncodesFirst, EncodesPod, OpensWhole}
+use Rattle.spa_rewrite.specs.Patched.{BeginsWord, IsPatched, IsPodOf}
+use Rattle.spa_rewrite.specs.Placed.{ArePlaced, HoldsWhole, IsPlaced}
+use Rattle.spa_rewrite.proofs.PatchedBodies.{IsUnpatchedType, unpatched_body}
+use Rattle.spa_rewrite.proofs.Patches.{length_put}
+use Rattle.spa_rewrite.proofs.PlacedBodies.{leaf_long}
+use Rattle.spa_rewrite.proofs.Places.{few_placed, none_placed, pods_placed}
+use Rattle.spa_rewrite.proofs.Written.{further_behind, take_past}
+
+pub key_whole : (keyed : Bool) → key_size keyed % 8 ≡ 0
+key_whole true = refl
+key_whole false = refl
+
+-- from a pod's first byte on
+behind : (at k : ℕ) (b : List ℕ) → drop (at + k) b ≡ drop k (drop at b)
+behind at k b = sym (drop-drop k at b)
+
+-- the pod that is opened
+pub record IsOpenedAt (b body rest : List ℕ) (type size : ℕ) : Type 0 where
+  pub whole : extent size + length rest ≡ length b
+  pub front : front_of b ≡ take (extent size) b
+  pub follows : rest_of b ≡ drop (extent size) b
+  pub its : IsPodOf (take (extent size) b) type size
+
+pub opened_at : (b body rest : List ℕ) (type size : ℕ) → Opens b type body rest → size ≡ length body → IsOpenedAt b body rest type size
+opened_at b body rest type size o z =
+    let n : size ≡ word_at b 0 = z ∙ ap length o.its_body ∙ length-body_of b o.there in
+    let r = ap length o.its_rest ∙ length-drop (extent (word_at b 0)) b in
+    let w = o.there.whole in
+    let front : front_of b ≡ take (extent size) b = ap (λ m. take (extent m) b) (sym n) in
+    let x = ap extent n in
+    record {
+      whole = omega arith;
+      front = front;
+      follows = ap (λ m. drop (extent m) b) (sym n);
+      its = record {
+        long = length-take-le (extent size) b (omega arith);
+        fits = subst (λ m. m < 2 ^ 32) (sym z) o.fits;
+        its_size = ap (λ y. word_at y 0) (sym front) ∙ size_of_front b ∙ sym n;
+        its_type = ap (λ y. word_at y 4) (sym front) ∙ type_of_front b ∙ sym o.its_type;
+      };
+    }
+
+pub encodes_none : (keyed : Bool) (old : List ℕ) → EncodesFirst keyed old old 0 0
+encodes_none keyed old = record { ends = λ others q. q; behind = refl; long = refl; order = omega arith; within = omega arith; whole = refl }
+
+-- one pod more
+pub encodes_more : (keyed : Bool) (old now sub body rest : List ℕ) (at here next type size k len kept : ℕ) → EncodesFirst keyed old now at at → IsBytes now →
+    here ≡ at + key_size keyed → here ≤ length now → Opens (drop here now) type body rest → size ≡ length body → next ≡ length now - length rest →
+    k ≡ next - here → IsPlaced (take k (drop here now)) (take len sub) → len ≤ k → length sub ≡ length (take k (drop here now)) → kept ≡ here + len →
+    EncodesFirst keyed old (put_mid here k now sub) kept next
+encodes_more keyed old now sub body rest at here next type size k len kept e y h r o z f g p w long t =
+    let b = drop at now in
+    let c = drop here now in
+    let is = opened_at c body rest type size o z in
+    let d = length-drop here now in
+    let whole = is.whole in
+    let n : k ≡ extent size = omega arith in
+    let to : here + k ≡ next = omega arith in
+    let l : length sub ≡ k = long ∙ length-take-le k c (omega arith) in
+    let there : c ≡ drop (key_size keyed) b = ap (λ i. drop i now) h ∙ behind at (key_size keyed) now in
+    let one : IsPlaced (front_of c) (take len sub) = subst (λ x. IsPlaced x (take len sub)) (ap (λ m. take m c) n ∙ sym is.front) p in
+    let start : take here now ≡ take at now ++ take (key_size keyed) b = ap (λ i. take i now) h ∙ take-add at (key_size keyed) now in
+    let first = length-take-le here now r in
+    let T = drop k c in
+    let front : take kept (put_mid here k now sub) ≡ take at now ++ (take (key_size keyed) b ++ take len sub) =
+    ap (λ i. take i (put_mid here k now sub)) t ∙ take_past (take here now) (sub ++ T) here len first
+    ∙ ap (λ x. take here now ++ x) (take-append-le len sub T (omega arith)) ∙ ap (λ x. x ++ take len sub) start
+    ∙ append_assoc (take at now) (take (key_size keyed) b) (take len sub) in
+    let follows : drop next now ≡ rest_of c = ap (λ i. drop i now) (sym to) ∙ behind here k now ∙ ap (λ m. drop m c) n ∙ sym is.follows in
+    let before : drop next old ≡ drop next now = sym (further_behind now old at next (omega arith) e.behind) in
+    let put_long = length_put here k now sub (omega arith) l in
+    let same = e.long in
+    let at8 = e.whole in
+    let key8 = key_whole keyed in
+    record {
+      ends = λ others q.
+          subst (ArePlaced keyed old)
+          (sym (ap (λ x. x ++ others) front ∙ append_assoc (take at now) (take (key_size keyed) b ++ take len sub) others
+          ∙ ap (λ x. take at now ++ x) (append_assoc (take (key_size keyed) b) (take len sub) others)))
+          (e.ends (take (key_size keyed) b ++ (take len sub ++ others))
+          (subst (λ x. ArePlaced keyed x (take (key_size keyed) b ++ (take len sub ++ others))) e.behind
+          (pods_placed keyed b (take len sub) others (IsBytes-drop at now y) (subst HasFront there o.there)
+          (subst (λ x. IsPlaced (front_of x) (take len sub)) there one)
+          (subst (λ x. ArePlaced keyed (rest_of x) others) there (subst (λ x. ArePlaced keyed x others) (before ∙ follows) q)))));
+      behind = drop-put_mid here k now sub next (omega arith) r l ∙ sym before;
+      long = put_long ∙ e.long;
+      order = omega arith;
+      within = omega arith;
+      whole = omega arith;
+    }
+
+pub pod_is : (now body rest : List ℕ) (here next type size k : ℕ) → here ≤ length now → Opens (drop here now) type body rest →
+    size ≡ length body → next ≡ length now - length rest → k ≡ next - here → IsPodOf (take k (drop here now)) type size
+pod_is now body rest here next type size k r o z f g =
+    let is = opened_at (drop here now) body rest type size o z in
+    let w = is.whole in
+    let d = length-drop here now in
+    let n : k ≡ extent size = omega arith in
+    subst (λ m. IsPodOf (take m (drop here now)) type size) (sym n) is.its
+
+-- a word becomes its rewriting
+word_number : (n : ℕ) → n ≢ 2 → n < 8 → IsUnpatchedType n
+word_number n m l = record {
+  no_bool = m;
+  no_array = λ e. omega (arith, e, l);
+  no_struct = λ e. omega (arith, e, l);
+  no_object = λ e. omega (arith, e, l);
+  no_pointer = λ e. omega (arith, e, l);
+  no_choice = λ e. omega (arith, e, l);
+}
+
+pub word_kind : (k : Kind) → body_size k ≡ 4 → k ≢ bool_kind → IsUnpatchedType (type_number k)
+word_kind none_kind s n = absurd (omega (arith, s))
+word_kind bool_kind s n = absurd (n refl)
+word_kind id_kind s n = word_number 3 (λ e. omega (arith, e)) (omega arith)
+word_kind int_kind s n = word_number 4 (λ e. omega (arith, e)) (omega arith)
+word_kind long_kind s n = absurd (omega (arith, s))
+word_kind float_kind s n = word_number 6 (λ e. omega (arith, e)) (omega arith)
+word_kind double_kind s n = absurd (omega (arith, s))
+word_kind rectangle_kind s n = absurd (omega (arith, s))
+word_kind fraction_kind s n = absurd (omega (arith, s))
+word_kind fd_kind s n = absurd (omega (arith, s))
+
+pub word_opens : (input : List ℕ) → BeginsWord input → Opens input (word_at input 4) (body_of input) (drop 16 input)
+word_opens input w =
+    let l = w.long in
+    let n = w.its_size in
+    let whole : extent (word_at input 0) ≡ 16 = omega arith in
+    let there : HasFront input = record { header = omega arith; whole = omega arith } in
+    let long : length (body_of input) ≡ 4 = length-body_of input there ∙ n in
+    let d = length-drop 16 input in
+    record {
+      there = there;
+      its_type = refl;
+      its_body = refl;
+      its_rest = ap (λ m. drop m input) (sym whole);
+      shorter = omega arith;
+      fits = omega arith;
+    }
+
+word_placed : (c pod : List ℕ) (k : ℕ) → BeginsWord c → k ≡ 16 → pod ≡ take (8 + 4) (take k c) ++ replicate (length (take k c) - (8 + 4)) 0 → IsBytes pod →
+    IsPlaced (take k c) pod
+word_placed c pod k w x p y = λ v q.
+    let o = word_opens c w in
+    let four : length (body_of c) ≡ 4 = length-body_of c o.there ∙ w.its_size in
+    let l = w.long in
+    let t = w.its_type in
+    let kept : IsUnpatchedType (word_at c 4) = subst IsUnpatchedType (sym t.1) (word_kind t.0 t.2 t.3) in
+    let is = opened_at c (body_of c) (drop 16 c) (word_at c 4) 4 o (sym four) in
+    let its : IsPodOf (take k c) (word_at c 4) 4 = subst (λ m. IsPodOf (take m c) (word_at c 4) 4) (let e : extent 4 ≡ k = omega arith in e) is.its in
+    unpatched_body (take k c) pod (word_at c 4) 4 y its kept p v q
+    (leaf_long (take k c) (word_at c 4) 4 v its (record { no_choice = kept.no_choice; no_struct = kept.no_struct; no_object = kept.no_object }) q)
+
+-- what runs over words keep
+pub record RunsOn (keyed : Bool) (was now : List ℕ) (from at : ℕ) : Type 0 where
+  pub within : at ≤ length now
+  pub further : from ≤ at
+  pub long : length now ≡ length was
+  pub bytes : IsBytes now
+  pub on : (old : List ℕ) → EncodesFirst keyed old was from from → EncodesFirst keyed old now at at
+
+pub runs_from : (keyed : Bool) (was : List ℕ) (from : ℕ) → from ≤ length was → IsBytes was → RunsOn keyed was was from from
+runs_from keyed was from l y = record { within = l; further = omega arith; long = refl; bytes = y; on = λ old h. h }
+
+pub runs_further : (keyed : Bool) (was now pod : List ℕ) (from at here next k : ℕ) → RunsOn keyed was now from at → here ≡ at + key_size keyed →
+    here ≤ length now → BeginsWord (drop here now) → next ≡ here + 16 → k ≡ 16 →
+    pod ≡ take (8 + 4) (take k (drop here now)) ++ replicate (length (take k (drop here now)) - (8 + 4)) 0 →
+    length pod ≡ length (take k (drop here now)) → IsBytes (put_mid here k now pod) → RunsOn keyed was (put_mid here k now pod) from next
+runs_further keyed was now pod from at here next k r e l w x z p long y =
+    let c = drop here now in
+    let s = w.long in
+    let d = length-drop here now in
+    let f = r.further in
+    let o = word_opens c w in
+    let four : length (body_of c) ≡ 4 = length-body_of c o.there ∙ w.its_size in
+    let d16 = length-drop 16 c in
+    let follows : next ≡ length now - length (drop 16 c) = omega arith in
+    let g : k ≡ next - here = omega arith in
+    let count : length pod ≡ k = long ∙ length-take-le k c (omega arith) in
+    let same = length_put here k now pod (omega arith) count in
+    let others = drop k c in
+    let back : drop here (put_mid here k now pod) ≡ pod ++ others = drop_at (take here now) (pod ++ others) here (length-take-le here now l) in
+    let bytes : IsBytes pod =
+    subst IsBytes (ap (take (length pod)) back ∙ take_at pod others (length pod) refl)
+    (IsBytes-take (length pod) (drop here (put_mid here k now pod)) (IsBytes-drop here (put_mid here k now pod) y)) in
+    let placed : IsPlaced (take k c) (take k pod) = subst (IsPlaced (take k c)) (sym (take_all k pod (omega arith))) (word_placed c pod k w z p bytes) in
+    record {
+      within = omega arith;
+      further = omega arith;
+      long = same ∙ r.long;
+      bytes = y;
+      on = λ old h.
+          encodes_more keyed old now pod (body_of c) (drop 16 c) at here next (word_at c 4) 4 k k next (r.on old h) r.bytes e l o (sym four) follows g
+          placed (omega arith) long (omega arith);
+    }
+
+-- words are passed, where it is known whether these are properties or members
+pub runs_on : (keyed inner : Bool) (was now : List ℕ) (from at : ℕ) → keyed ≡ inner →
+    ((old : List ℕ) → EncodesFirst inner old was from from → EncodesFirst inner old now at at) →
+    (old : List ℕ) → EncodesFirst keyed old was from from → EncodesFirst keyed old now at at
+runs_on keyed inner was now from at e f = λ old h.
+    subst (λ k. EncodesFirst k old now at at) (sym e) (f old (subst (λ k. EncodesFirst k old was from from) e h))
+
+-- What follows.
+
+pub key_small : (keyed : Bool) → key_size keyed ≤ 8
+key_small true = omega arith
+key_small false = omega arith
+
+key_there : (keyed : Bool) (left here : List ℕ) → key_size keyed ≤ length left → here ≡ drop (key_size keyed) left → IsBehindKey keyed left here
+key_there true left here l e = (l, e)
+key_there false left here l e = e
+
+here_left : (keyed : Bool) (old now : List ℕ) (start here : ℕ) → EncodesFirst keyed old now start start → here ≡ start + 0 + key_size keyed →
+    drop here now ≡ drop (key_size keyed) (drop start old)
+here_left keyed old now start here e h =
+    ap (λ i. drop i now) (let z : here ≡ start + key_size keyed = omega arith in z) ∙ behind start (key_size keyed) now ∙ ap (drop (key_size keyed)) e.behind
+
+pub none_follows : (keyed : Bool) (old now : List ℕ) (start : ℕ) → EncodesFirst keyed old now start start → length now - start < 8 →
+    ArePlaced keyed (drop start old) []
+none_follows keyed old now start e l = let s = e.long in let d = length-drop start old in few_placed keyed (drop start old) (omega arith)
+
+pub no_front_follows : (keyed : Bool) (old now : List ℕ) (start here : ℕ) → EncodesFirst keyed old now start start → here ≡ start + 0 + key_size keyed →
+    ¬ (HasFront (drop here now)) → ArePlaced keyed (drop start old) []
+no_front_follows keyed old now start here e h n =
+    none_placed keyed (drop start old) (λ f. n (subst HasFront (sym (here_left keyed old now start here e h)) f))
+
+pub container_follows : (keyed inner : Bool) (old now body rest : List ℕ) (start here type size : ℕ) → EncodesFirst keyed old now start start →
+    here ≡ start + 0 + key_size keyed → 8 ≤ length now - start → Opens (drop here now) type body rest → size ≡ length body → HoldsWhole type size inner →
+    OpensWhole keyed (drop start old) inner size
+container_follows keyed inner old now body rest start here type size e h l o z w =
+    let s = e.long in
+    let d = length-drop start old in
+    let k = key_small keyed in
+    record {
+      here = drop here now;
+      type = type;
+      body = body;
+      rest = rest;
+      its_key = key_there keyed (drop start old) (drop here now) (omega arith) (here_left keyed old now start here e h);
+      opens = o;
+      its_size = z;
+      holds = w;
+    }
+
+-- A pod that holds no others is replaced.
+pub leaf_replaced : (keyed : Bool) (old now sub body rest : List ℕ) (start here next type size k len kept : ℕ) → EncodesFirst keyed old now start start →
+    IsBytes now → 8 ≤ length now - start → here ≡ start + 0 + key_size keyed → Opens (drop here now) type body rest → size ≡ length body →
+    next ≡ length now - length rest → k ≡ next - here → EncodesPod (take k (drop here now)) sub len → length sub ≡ length (take k (drop here now)) →
+    kept ≡ here + len → EncodesFirst keyed old (put_mid here k now sub) kept next
+leaf_replaced keyed old now sub body rest start here next type size k len kept e y l h o z f g p long t =
+    let key = key_small keyed in
+    let is = opened_at (drop here now) body rest type size o z in
+    let whole = is.whole in
+    let d = length-drop here now in
+    let c = length-take-le k (drop here now) (omega arith) in
+    let w = p.within in
+    encodes_more keyed old now sub body rest start here next type size k len kept e y (omega arith) (omega arith) o z f g p.placed (omega arith) long t
+
+pub leaf_long_there : (keyed : Bool) (now body rest : List ℕ) (start here next type size : ℕ) → 8 ≤ length now - start → here ≡ start + 0 + key_size keyed →
+    Opens (drop here now) type body rest → size ≡ length body → next ≡ length now - length rest → (here ≤ length now) × (here + 8 ≤ next) × (next ≤ length now)
+leaf_long_there keyed now body rest start here next type size l h o z f =
+    let key = key_small keyed in
+    let is = opened_at (drop here now) body rest type size o z in
+    let whole = is.whole in
+    let d = length-drop here now in
+    (omega arith, omega arith, omega arith)

@@ -1,0 +1,10 @@
+use Rattle.std.proofs.lemmas.Result.{on_err_weaker}
+use Rattle.spa_format.specs.Tree.{string}
+use Rattle.spa_typed_write.proofs.Completing.{keeps_begun}
+use Rattle.spa_typed_write.proofs.exact.write_text.Goals as goal
+
+pub returns-clause-keeps : goal.returns-clause-keeps
+returns-clause-keeps g c =
+    on_err_weaker c.put_text.result
+    (keeps_begun g.met.O.PodOutput.content_appends c.args.out.now c.put_text.new.sink (string c.args.text.now))
+    c.put_text.ensures.begun

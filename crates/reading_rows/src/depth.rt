@@ -2,7 +2,8 @@
 use crate::changes::push_dispute;
 use crate::front::push_front;
 use crate::headers::answer_headers;
-use spa_rewrite::{is_canonical, look_at_pod};
+use spa_bodies::error_at;
+use spa_rewrite::{Rejected, find_fault, is_canonical, look_at_pod};
 use spa_scan::nests_within;
 use std::alloc::{AllocError, Global};
 use test_bytes::{nested_pods, nested_structs, push_words};
@@ -62,7 +63,7 @@ fn push_levels(input: &[u8], least: u32, answers: &mut String) -> Result<(), All
     answers.push_str(" more levels")
 }
 
-/// Appends whether the front is canonical, and what a look finds there.
+/// Appends whether the front is canonical, and what a look finds there, or, where it gives up, which fault stands in the input.
 fn push_found(alloc: Global, input: &[u8], answers: &mut String) -> Result<(), AllocError> {
     if is_canonical(alloc, input)? {
         answers.push_str(" canonical,")?;
@@ -77,7 +78,21 @@ fn push_found(alloc: Global, input: &[u8], answers: &mut String) -> Result<(), A
             pod.surplus,
             pod.rest.len()
         ),
-        Err(_) => answers.push_str(" a look: none,"),
+        Err(_) => {
+            answers.push_str(" a look: none,")?;
+            push_fault(alloc, input, answers)
+        }
+    }
+}
+
+/// Appends the first fault of the input, and at which byte of its pod it stands, where there is one.
+fn push_fault(alloc: Global, input: &[u8], answers: &mut String) -> Result<(), AllocError> {
+    match find_fault(alloc, input) {
+        Ok(()) => Ok(()),
+        Err((_, Rejected::Fault(place, at, why))) => {
+            write!(answers, " {} at byte {at},", error_at(place, why).kind())
+        }
+        Err((_, Rejected::TooDeep)) => Err(AllocError),
     }
 }
 

@@ -15,7 +15,6 @@ use Rattle.spa_format.proofs.Refused.{begun}
 use Rattle.spa_format.proofs.Refused as format
 use Rattle.spa_format.proofs.Sequences.{members_push}
 use Rattle.spa_bytes.specs.Opening.{Opens}
-use Rattle.spa_fixed_sized.specs.declared.fault.DeserializeError.{DeserializeError}
 use Rattle.spa_fixed_sized.specs.declared.fault.Refusal.{Refusal}
 use Rattle.spa_fixed_sized.specs.declared.fault.Refusal.TheVariants as refusal
 use Rattle.spa_bodies.specs.Reading.{BeginsWith}
@@ -25,7 +24,7 @@ use Rattle.spa_scan.specs.Canonical.{AreCanonical, BeginsCanonical, IsStretch}
 use Rattle.spa_scan.specs.Depth.{depth_of, levels_looked_into}
 use Rattle.spa_scan.proofs.Frames.{no_stretch, stretch_parts}
 use Rattle.spa_rewrite.specs.Look.{AreAccepted, IsAccepted, IsAcceptedAsked, IsRejected, Passes, StopsAt}
-use Rattle.spa_rewrite.specs.Rewriting.{IsLeft, RefusesFront, RefusesList}
+use Rattle.spa_rewrite.specs.Rewriting.{IsLeft, RefusesFront}
 use Rattle.spa_rewrite.specs.Shorter.{ArePodsWithin, IsShorterBody}
 use Rattle.spa_events.specs.Inside.{IsBehindKey, IsInside, key_size}
 use Rattle.spa_rewrite.specs.Offsets.{IsFaultAt, StandsAt, at_pod, from_pod}
@@ -39,7 +38,7 @@ use Rattle.spa_rewrite.proofs.Offsets.{body_long, offset_opened}
 use Rattle.spa_rewrite.proofs.Refusals.{front_refused}
 use Rattle.spa_rewrite.proofs.Rewritten.{member_encodings-push, parted}
 use Rattle.spa_rewrite.proofs.ShorterLemmas.{CountsOn, counts_all, counts_more, counts_none, first_within, shorter_opened, within_behind}
-use Rattle.spa_rewrite.proofs.Stretches.{FirstMembers, list_refused, no_first_member}
+use Rattle.spa_rewrite.proofs.Stretches.{FirstMembers, no_first_member}
 use Rattle.spa_rewrite.proofs.LeafBodies.{leaf_depth, never}
 use Rattle.spa_rewrite.proofs.SameLength.{left_shorter}
 
@@ -261,10 +260,9 @@ pub fault_front : (input : List ℕ) (place : Bor (List ℕ)) (why : Refusal) �
 fault_front input place why s =
     front_refused input place why (says_through (λ k. Stands k place.now input) (λ k. Stands k place.now input) ⊥ (HasFront input) (λ k x. x) (λ n. absurd n) why s)
 
--- what is left is refused behind first pods
-pub refused_behind : (input left pod : List ℕ) (e : DeserializeError (Bor (List ℕ))) → FirstMembers input left → IsLeft left pod → RefusesFront pod e →
-    RefusesList input pod e
-refused_behind input left pod e h l r = list_refused input pod e (left_behind_pods input h.first left pod h.values h.parts h.members l) r
+-- what is left behind first pods
+pub left_behind : (input left pod : List ℕ) → FirstMembers input left → IsLeft left pod → IsLeft input pod
+left_behind input left pod h l = left_behind_pods input h.first left pod h.values h.parts h.members l
 
 pub missed_behind : (input left : List ℕ) → FirstMembers input left → ¬ (ArePodsWithin levels_looked_into left) → ¬ (ArePodsWithin levels_looked_into input)
 missed_behind input left h n w = n (within_behind h.values h.first left levels_looked_into h.members (subst (ArePodsWithin levels_looked_into) h.parts w))
@@ -275,7 +273,7 @@ accepted_all input left h m = accepted_behind input h.first left h.values h.part
 -- behind the pod that is left of them
 pub behind_left : (input left pod rest : List ℕ) (v : Tree) → FirstMembers input left → IsLeft left pod → BeginsWith pod v rest → FirstMembers input rest
 behind_left input left pod rest v h l b =
-    let i = left_behind_pods input h.first left pod h.values h.parts h.members l in
+    let i = left_behind input left pod h l in
     record {
       values = join_members i.0 (member v no_trees);
       first = i.1 ++ front_of pod;

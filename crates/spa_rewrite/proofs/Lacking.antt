@@ -8,6 +8,7 @@ use Rattle.spa_format.specs.Tree.{Tree, Trees, no_trees, member, type_of}
 use Rattle.spa_format.proofs.Fronts.{front_of_whole}
 use Rattle.spa_fixed_sized.specs.declared.fault.Refusal.{Refusal}
 use Rattle.spa_fixed_sized.specs.declared.fault.Refusal.TheVariants as refusal
+use Rattle.spa_bodies.specs.Reading.{OnMemory}
 use Rattle.spa_bodies.specs.Refusing.{Says, error_of}
 use Rattle.spa_rewrite.specs.Memory.{FrontAsksMemory, IsRefusal}
 use Rattle.spa_rewrite.specs.Rewriting.{RefusesFrontAt}
@@ -37,6 +38,17 @@ is_fault input place refusal.InvalidChoiceType s = record { refused = fault_fron
 is_fault input place refusal.MissingChoiceValues s = record { refused = fault_front input place refusal.MissingChoiceValues s; asks = tt }
 is_fault input place refusal.WrongSize s = record { refused = fault_front input place refusal.WrongSize s; asks = tt }
 is_fault input place refusal.OutOfMemory s = absurd s
+
+-- not for want of memory
+pub fault_memory : (input : List ℕ) (place : Bor (List ℕ)) (why : Refusal) (A : Type 0) → Says (λ k. Stands k place.now input) ⊥ why →
+    OnMemory A (error_of place why)
+fault_memory input place refusal.Short A s = tt
+fault_memory input place refusal.Text A s = tt
+fault_memory input place refusal.InvalidType A s = tt
+fault_memory input place refusal.InvalidChoiceType A s = tt
+fault_memory input place refusal.MissingChoiceValues A s = tt
+fault_memory input place refusal.WrongSize A s = tt
+fault_memory input place refusal.OutOfMemory A s = absurd s
 
 -- a front that asks for memory is refused
 pub is_refusal : (input : List ℕ) (place : Bor (List ℕ)) (why : Refusal) → RefusesFrontAt input place.now why → FrontAsksMemory input →

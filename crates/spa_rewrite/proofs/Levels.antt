@@ -1,5 +1,5 @@
 -- How deep the pods nest that a look doesn't look into.
-use Rattle.std.proofs.Common.{◌≡◌, ℕ, suc, zero, ◌<◌, ◌≤◌, inl, inr, List, length, drop, take, refl, sym, ap, ◌∙◌, subst, arith, length-drop}
+use Rattle.std.proofs.Common.{ℕ, suc, zero, ◌<◌, ◌≤◌, inl, inr, List, length, drop, take, ap, ◌∙◌, subst, arith, length-drop}
 use Rattle.std.specs.Prelude.{Bool, true, false}
 use Rattle.std.proofs.lemmas.Bool.{cases_lt}
 use Rattle.std.proofs.lemmas.List.{length-take-le}
@@ -12,7 +12,7 @@ use Rattle.spa_events.specs.Inside.{IsBehindKey, IsInside, key_size}
 use Rattle.spa_bytes.specs.Opening.{Opens}
 use Rattle.spa_events.proofs.Firsts.{behind_is}
 use Rattle.spa_scan.specs.Depth.{IsDeepBody, NestsDeeper, NestsDeeperInside, SomeOf, levels_looked_into}
-use Rattle.spa_scan.proofs.Deeper.{container, deep_input, deeper_than_fewer, first_or_behind, inside_deeper_than_fewer, its_front}
+use Rattle.spa_scan.proofs.Deeper.{container, deep_input, deeper_than_fewer, first_or_behind, inside_deeper_than_fewer}
 use Rattle.spa_rewrite.specs.Look.{OpensInside}
 
 -- one behind the first of them nests so

@@ -24,4 +24,5 @@ pub mod PlacedBodies
 pub mod Written
 pub mod Appending
 pub mod Changed
-pub mod BegunLists
+pub mod Begun
+pub mod Emitted

@@ -1,7 +1,7 @@
 -- A look at pods: what is passed, what is opened, and what waits.
 use Rattle.std.proofs.Common.{◌≡◌, ◌≢◌, ℕ, suc, ◌+◌, ◌-◌, ◌<◌, ◌≤◌, ◌%◌, inl, inr, List, [], ◌∷◌, ◌++◌, length, take, drop, reverse, refl, sym, ap, ◌∙◌, subst, arith, append_assoc, length-append, length-drop}
 use Rattle.std.specs.Prelude.{Bool, true, false, get_or, replicate, set}
-use Rattle.std.proofs.lemmas.List.{append-nil, drop_at, length-take-le, nil_from_length, reverse-append, take-append-drop, take_more, take_more_set}
+use Rattle.std.proofs.lemmas.List.{append-nil, drop_at, length-take-le, reverse-append, take-append-drop, take_more, take_more_set}
 use Rattle.spa_format.specs.Words.{body_of, extent, header_size, padded_size, word_at}
 use Rattle.spa_format.specs.Tree.{Tree, no_trees, member, no_properties, property, object_type, struct}
 use Rattle.spa_format.specs.Pod.{AreMembers, AreProperties}

@@ -1,23 +1,18 @@
 -- Pods that become their rewritings where they lie.
-use Rattle.std.proofs.Common.{◌≡◌, ℕ, ◌+◌, ◌-◌, ◌*◌, ◌<◌, ◌≤◌, List, [], ◌++◌, length, drop, take, refl, sym, ap, ◌∙◌, subst, arith, append_assoc, length-append, length-drop}
-use Rattle.std.specs.Prelude.{Bool, replicate, true, false}
-use Rattle.std.proofs.Math.Seq.{take-add, take-append-add}
-use Rattle.std.proofs.lemmas.List.{append-nil, drop-drop, drop-take, length-replicate, length-take-le, nil_from_length, replicate-append-replicate, take-append-le, take-replicate, take-take, take_all, take_at}
+use Rattle.std.proofs.Common.{◌≡◌, ℕ, ◌+◌, ◌-◌, ◌*◌, ◌≤◌, List, ◌++◌, length, drop, take, sym, ap, ◌∙◌, subst, arith, append_assoc, length-append, length-drop}
+use Rattle.std.specs.Prelude.{replicate}
+use Rattle.std.proofs.Math.Seq.{take-append-add}
+use Rattle.std.proofs.lemmas.List.{append-nil, drop-take, length-replicate, length-take-le, nil_from_length, replicate-append-replicate, take-append-le, take-replicate, take-take}
 use borrow.Rule.Slice.PartMut.{put_mid}
-use Rattle.spa_format.specs.Words.{padded_size, padding, word_at, word_bytes}
-use Rattle.spa_format.specs.Tree.{Tree, Trees, Properties, member, no_properties, no_trees, object, object_type, property, struct, struct_type, type_of}
-use Rattle.spa_format.specs.Pod.{AreMembers, AreProperties, IsBody, IsPod}
-use Rattle.spa_format.specs.Encoding.{encoded_body, encoding_of, encoded_pod, member_encodings, property_encodings}
-use Rattle.spa_format.specs.Front.{HasFront, front_of, rest_of}
+use Rattle.spa_format.specs.Words.{padding, word_at, word_bytes}
+use Rattle.spa_format.specs.Tree.{Tree, type_of}
+use Rattle.spa_format.specs.Pod.{IsBody, IsPod}
+use Rattle.spa_format.specs.Encoding.{encoded_pod}
 use Rattle.spa_format.specs.Typed.{IsBytes}
-use Rattle.spa_format.proofs.Encodings.{length-padding, length-property_encoding, length-word_bytes, whole_members, whole_properties}
-use Rattle.spa_format.proofs.Fronts.{front_of_whole}
-use Rattle.spa_format.proofs.Shapes.{object_only, struct_only}
-use Rattle.spa_format.proofs.Short.{length-encoded_pod, padded_above, short_members, short_props, shortest}
+use Rattle.spa_format.proofs.Short.{padded_above}
 use Rattle.spa_format.proofs.WordLemmas.{IsBytes-drop, IsBytes-take, word_at-take}
 use Rattle.spa_scan.proofs.Words.{two_words_back}
-use Rattle.spa_events.specs.Inside.{key_size}
-use Rattle.spa_rewrite.specs.Patched.{IsPatched, IsPodOf}
+use Rattle.spa_rewrite.specs.Patched.{IsPodOf}
 
 -- the two words at the front
 pub two_words_of : (b : List ℕ) → IsBytes (take 8 b) → 8 ≤ length b → take 8 b ≡ word_bytes (word_at b 0) ++ word_bytes (word_at b 4)

@@ -14,7 +14,7 @@ use Rattle.spa_format.proofs.WordLemmas.{IsBytes-drop, IsBytes-take}
 use Rattle.spa_bytes.specs.Opening.{Opens}
 use Rattle.spa_events.specs.Inside.{IsBehindKey, key_size}
 use Rattle.spa_rewrite.specs.Emit.{EncodesFirst, EncodesPod, OpensWhole}
-use Rattle.spa_rewrite.specs.Patched.{BeginsWord, IsPatched, IsPodOf}
+use Rattle.spa_rewrite.specs.Patched.{BeginsWord, IsPodOf}
 use Rattle.spa_rewrite.specs.Placed.{ArePlaced, HoldsWhole, IsPlaced}
 use Rattle.spa_rewrite.proofs.PatchedBodies.{IsUnpatchedType, unpatched_body}
 use Rattle.spa_rewrite.proofs.Patches.{length_put}

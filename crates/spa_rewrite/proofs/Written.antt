@@ -1,21 +1,17 @@
 -- The first pod of some, and what is behind so many bytes.
-use Rattle.std.proofs.Common.{◌≡◌, ℕ, ◌+◌, ◌-◌, ◌<◌, ◌≤◌, List, [], ◌++◌, length, drop, take, refl, sym, ap, ◌∙◌, subst, arith, append_assoc, length-append, length-drop}
-use Rattle.std.specs.Prelude.{Bool, replicate, true, false}
+use Rattle.std.proofs.Common.{◌≡◌, ℕ, ◌+◌, ◌-◌, ◌<◌, ◌≤◌, List, [], ◌++◌, length, drop, take, sym, ap, ◌∙◌, subst, arith, length-drop}
+use Rattle.std.specs.Prelude.{Bool, true, false}
 use Rattle.std.proofs.Math.Seq.{take-add}
-use Rattle.std.proofs.lemmas.List.{append-nil, drop-drop, drop_at, length-replicate, length-take-le, take-append-drop, take-take, take_at}
-use borrow.Rule.Slice.PartMut.{put_mid}
-use Rattle.spa_format.specs.Words.{body_of, extent, header_size, wide_at, wide_bytes, word_at, word_bytes}
-use Rattle.spa_format.specs.Front.{HasFront, front_of, rest_of}
-use Rattle.spa_format.specs.Typed.{IsBytes}
-use Rattle.spa_format.proofs.Encodings.{two_words_length}
+use Rattle.std.proofs.lemmas.List.{drop-drop, drop_at, length-take-le, take_at}
+use Rattle.spa_format.specs.Words.{extent, header_size, word_at}
+use Rattle.spa_format.specs.Front.{HasFront, front_of}
 use Rattle.spa_format.proofs.Fronts.{length-body_of}
-use Rattle.spa_format.proofs.WordLemmas.{IsBytes-drop, IsBytes-take, word_at-take}
+use Rattle.spa_format.proofs.WordLemmas.{word_at-take}
 use Rattle.spa_bytes.specs.Opening.{Opens}
-use Rattle.spa_scan.proofs.Words.{wide_back, wide_of_take, word_there}
 use Rattle.spa_rewrite.specs.Placed.{ArePlaced}
 use Rattle.spa_events.specs.Inside.{IsBehindKey, key_size}
-use Rattle.spa_rewrite.specs.Patched.{BeginsWord, IsPodOf}
-use Rattle.spa_rewrite.proofs.Places.{few_placed, inner_placed, none_placed, pods_placed}
+use Rattle.spa_rewrite.specs.Patched.{IsPodOf}
+use Rattle.spa_rewrite.proofs.Places.{few_placed, none_placed}
 
 -- what is behind the key
 pub here_is : (keyed : Bool) (left here : List ℕ) → IsBehindKey keyed left here → (key_size keyed ≤ length left) × (here ≡ drop (key_size keyed) left)

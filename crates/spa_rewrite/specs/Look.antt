@@ -1,6 +1,6 @@
 -- What a look at pods finds: docs/FORMAT.md, "The encoding of a value", "Faults" and "Values".
-use Rattle.std.specs.Prelude.{◌≡◌, ◌≢◌, ◌+◌, ◌-◌, ◌<◌, ◌≤◌, ℕ, suc, List, [], length, drop, take, Bool, true, false, Decides}
-use Rattle.spa_format.specs.Front.{HasFront, IsRefused, rest_of}
+use Rattle.std.specs.Prelude.{◌≡◌, ◌+◌, ◌-◌, ◌<◌, ◌≤◌, ℕ, List, length, drop, take, Bool, true, false, Decides}
+use Rattle.spa_format.specs.Front.{IsRefused}
 use Rattle.spa_format.specs.Words.{header_size}
 use Rattle.spa_format.specs.Faults.{Fault, StandsAtFront}
 use Rattle.spa_format.specs.Opened.{OpensHeaderAlone}

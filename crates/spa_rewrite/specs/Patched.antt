@@ -1,11 +1,10 @@
 -- Pods that become encodings of the same length in place: docs/FORMAT.md, "The encoding of a value".
-use Rattle.std.specs.Prelude.{◌≡◌, ◌≢◌, ◌+◌, ◌-◌, ◌<◌, ◌≤◌, ◌*◌, ◌++◌, ℕ, List, length, drop, take, Bool, true, false}
+use Rattle.std.specs.Prelude.{◌≡◌, ◌≢◌, ◌+◌, ◌-◌, ◌<◌, ◌≤◌, ◌*◌, ℕ, List, length, drop}
 use Rattle.spa_format.specs.Words.{extent, header_size, size_limit, word_at}
-use Rattle.spa_format.specs.Tree.{Shape, none_choice, range_choice, step_choice, enum_choice, flags_choice, Tree, Trees, Properties, choice_type, shape_number}
+use Rattle.spa_format.specs.Tree.{Shape, none_choice, range_choice, step_choice, enum_choice, flags_choice, Tree, choice_type, shape_number}
 use Rattle.spa_format.specs.Kind.{Fixed, Kind, body_size, bool_kind, type_number}
-use Rattle.spa_format.specs.Pod.{AreElements, AreMembers, AreProperties, IsPod}
-use Rattle.spa_format.specs.Encoding.{encoding_of, fixed_bodies, member_encodings, property_encodings}
-use Rattle.spa_format.specs.Typed.{IsBytes}
+use Rattle.spa_format.specs.Pod.{AreElements, IsPod}
+use Rattle.spa_format.specs.Encoding.{encoding_of, fixed_bodies}
 
 -- a pod became its rewriting, if that is as long
 abbrev pub IsPatched : List ℕ → List ℕ → Type 0

@@ -1,12 +1,9 @@
 -- Rewritings that are put where the caller says: docs/FORMAT.md, "The encoding of a value".
-use Rattle.std.specs.Prelude.{◌≡◌, ◌%◌, ◌+◌, ◌-◌, ◌<◌, ◌≤◌, ◌++◌, ℕ, List, length, drop, take, Bool, true, false}
-use Rattle.spa_format.specs.Words.{word_bytes}
+use Rattle.std.specs.Prelude.{◌≡◌, ◌%◌, ℕ, List, Bool, true, false}
 use Rattle.spa_format.specs.Tree.{Tree, Trees, Properties, object_type, struct_type}
 use Rattle.spa_format.specs.Pod.{AreMembers, AreProperties, IsPod}
 use Rattle.spa_format.specs.Encoding.{encoding_of, member_encodings, property_encodings}
-use Rattle.spa_format.specs.Typed.{IsBytes}
-use Rattle.spa_rewrite.specs.Look.{AreCanonicalInside}
-use Rattle.spa_events.specs.Inside.{HoldsPods, key_size}
+use Rattle.spa_events.specs.Inside.{HoldsPods}
 use Rattle.spa_rewrite.specs.Patched.{IsPodOf}
 
 -- this is the rewriting of a pod

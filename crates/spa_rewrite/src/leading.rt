@@ -6,7 +6,7 @@ ghost use Rattle.spa_rewrite.specs.Look.{IsCanonicalLook, IsFirst, Passes};
 ghost use Rattle.spa_scan.specs.Canonical.{AreCanonical, BeginsCanonical, MissesOnly};
 ghost use Rattle.spa_scan.specs.Depth.{AreShallow, depth_of, levels_looked_into};
 
-use crate::look::{FEW, MANY};
+use crate::look::{FEW, MANY, SOME};
 use spa_bytes::{HEADER_LEN, SECOND_WORD, open, u32_at};
 use spa_events::{Inside, behind_key, inside_of, is_container};
 use spa_scan::{fixed_front, leaf_body_front, leaf_front};
@@ -116,12 +116,25 @@ pub(crate) fn look_for_canonical<'a>(
     }
 }
 
-/// Does what `look_for_canonical` does, with the short array, or the long one.
+/// Does what `look_for_canonical` does, with the short array, or a longer one.
 #[inline(never)]
 fn look_deeper_for_canonical(keyed: bool, pods: &[u8]) -> CanonicalLook
     ensures { IsCanonicalLook levels_looked_into keyed pods.now result }
 {
     match look_on(keyed, pods, &mut [list(pods); FEW]) {
+        CanonicalLook::Same => CanonicalLook::Same,
+        CanonicalLook::Differs => CanonicalLook::Differs,
+        CanonicalLook::TooDeep => look_further_for_canonical(keyed, pods),
+    }
+}
+
+/// Does what `look_for_canonical` does, with the next array, or the long one.
+#[cold]
+#[inline(never)]
+fn look_further_for_canonical(keyed: bool, pods: &[u8]) -> CanonicalLook
+    ensures { IsCanonicalLook levels_looked_into keyed pods.now result }
+{
+    match look_on(keyed, pods, &mut [list(pods); SOME]) {
         CanonicalLook::Same => CanonicalLook::Same,
         CanonicalLook::Differs => CanonicalLook::Differs,
         CanonicalLook::TooDeep => look_deep_for_canonical(keyed, pods),

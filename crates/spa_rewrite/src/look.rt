@@ -6,7 +6,7 @@ ghost use Rattle.spa_format.specs.Front.{Begins, IsRefused, rest_of};
 ghost use Rattle.spa_format.specs.Opened.{OpensHeaderAlone};
 ghost use Rattle.spa_format.specs.Pod.{IsBody};
 ghost use Rattle.spa_format.specs.Tree.{Tree, array_type, choice_type, object_type, struct_type, type_of};
-ghost use Rattle.spa_format.specs.Words.{header_size};
+ghost use Rattle.spa_format.specs.Words.{header_size, size_limit};
 ghost use Rattle.spa_bodies.specs.Refusing.{Says, StandsInBody};
 ghost use Rattle.spa_rewrite.specs.Look.{AreAccepted, AreChanged, IsAccepted, IsAcceptedAsked, IsFound, IsMet, IsRejected, Passes};
 ghost use Rattle.spa_rewrite.specs.Rewriting.{IsLeft};
@@ -55,7 +55,7 @@ pub struct ChangedPods {
 }
 
 /// Why a pod isn't accepted.
-#[derive(Clone, Copy)]
+#[derive(Clone, Copy, Debug)]
 pub enum Rejected<'a> {
     /// It is malformed. The fault stands at the front of these bytes: what is left from there on of the input, or of the struct or object
     /// inside which it stands. The number is that place's offset in the pod.
@@ -94,7 +94,7 @@ pub(crate) struct Waiting<'a> {
     /// The pods that are left.
     pods: &'a [u8],
     /// How many bytes of those that are looked at follow them.
-    behind: usize,
+    behind: u32,
 }
 
 /// The short array, in which no list waits yet.
@@ -122,7 +122,10 @@ pub(crate) fn none_waiting(pods: &[u8]) -> Waiting<'_> {
 /// How many lists can wait in the short array.
 pub(crate) const FEW: usize = 16;
 
-/// How many can wait in the long one, which is taken where the short one is full.
+/// How many can wait in the next one, which is taken where the short one is full.
+pub(crate) const SOME: usize = 64;
+
+/// How many can wait in the long one.
 pub(crate) const MANY: usize = 1000;
 
 /// Looks at the pod at the front of the input.
@@ -288,6 +291,7 @@ pub(crate) fn look_at_front<'a>(
 /// Looks inside a struct or an object: at its first pods that hold no others, which need no array, and at what follows them.
 #[inline(always)]
 pub(crate) fn look_into<'a>(keyed: bool, pods: &'a [u8], frames: &mut [Waiting<'a>]) -> Found<'a>
+    requires { length pods.now < size_limit }
     ensures { IsFound levels_looked_into keyed pods.now result }
 {
     let (left, surplus) = behind_accepted(keyed, pods);
@@ -301,12 +305,27 @@ pub(crate) fn look_into<'a>(keyed: bool, pods: &'a [u8], frames: &mut [Waiting<'
     }
 }
 
-/// Looks inside a struct or an object with the short array, or the long one.
+/// Looks inside a struct or an object with the short array, or a longer one.
 #[inline(never)]
 fn look_deeper(keyed: bool, pods: &[u8]) -> Found<'_>
+    requires { length pods.now < size_limit }
     ensures { IsFound levels_looked_into keyed pods.now result }
 {
     match look_inside(keyed, pods, &mut few_frames(pods)) {
+        Found::Fits(surplus) => Found::Fits(surplus),
+        Found::Stops(place, behind) => Found::Stops(place, behind),
+        Found::TooDeep => look_further(keyed, pods),
+    }
+}
+
+/// Looks inside a struct or an object with the next array, or the long one.
+#[cold]
+#[inline(never)]
+fn look_further(keyed: bool, pods: &[u8]) -> Found<'_>
+    requires { length pods.now < size_limit }
+    ensures { IsFound levels_looked_into keyed pods.now result }
+{
+    match look_inside(keyed, pods, &mut [none_waiting(pods); SOME]) {
         Found::Fits(surplus) => Found::Fits(surplus),
         Found::Stops(place, behind) => Found::Stops(place, behind),
         Found::TooDeep => look_deep(keyed, pods),
@@ -317,6 +336,7 @@ fn look_deeper(keyed: bool, pods: &[u8]) -> Found<'_>
 #[cold]
 #[inline(never)]
 fn look_deep(keyed: bool, pods: &[u8]) -> Found<'_>
+    requires { length pods.now < size_limit }
     ensures { IsFound levels_looked_into keyed pods.now result }
 {
     look_inside(keyed, pods, &mut [none_waiting(pods); MANY])
@@ -329,6 +349,7 @@ pub(crate) fn look_inside<'a>(
     pods: &'a [u8],
     frames: &mut [Waiting<'a>],
 ) -> Found<'a>
+    requires { length pods.now < size_limit }
     ensures { IsFound (length frames.old) are_keyed pods.now result }
 {
     let (mut waiting, mut surplus, mut behind) = (0, 0, 0);
@@ -343,7 +364,7 @@ pub(crate) fn look_inside<'a>(
             let outer = frames[waiting];
             keyed = outer.keyed;
             left = outer.pods;
-            behind = outer.behind;
+            behind = outer.behind as usize;
             continue;
         }
         match meet(keyed, left) {
@@ -358,7 +379,7 @@ pub(crate) fn look_inside<'a>(
                 frames[waiting] = Waiting {
                     keyed,
                     pods: rest,
-                    behind,
+                    behind: behind as u32,
                 };
                 waiting += 1;
                 keyed = inner.keyed;

@@ -10,18 +10,18 @@ ghost use Rattle.spa_format.specs.Pod.{AreMembers};
 ghost use Rattle.spa_format.specs.Tree.{Tree, Trees};
 ghost use Rattle.spa_bodies.specs.Reading.{BeginsWith, IsShortAt, Names, OnFault, OnMemory};
 ghost use Rattle.spa_bodies.specs.Refusing.{error_of};
+ghost use Rattle.spa_rewrite.specs.Look.{IsRejected};
 ghost use Rattle.spa_rewrite.specs.Memory.{FrontAsksMemory, IsRefusal};
 ghost use Rattle.spa_rewrite.specs.Rewriting.{AppendsEncodings, AppendsFirst, AppendsFront, ArePassed, AreRewritten, AreRewrittenInParts, IsLeft, IsRewriting, RefusesFront, RefusesList};
 ghost use Rattle.spa_rewrite.specs.Shorter.{ArePodsWithin, BeginsShorter};
 ghost use Rattle.spa_scan.specs.Canonical.{AreCanonical, IsStretch};
 ghost use Rattle.spa_scan.specs.Depth.{NestsDeeper, levels_looked_into};
 
-use crate::deep::behind_deep;
+use crate::deep::{behind_deep, find_fault};
 use crate::emitting::emit;
 use crate::leading::canonical_stretch;
 use crate::look::{
-    Found, Rejected, Waiting, few_frames, look_at_front, look_at_pods, look_into, more_unasked,
-    no_room,
+    Found, Rejected, Waiting, few_frames, look_at_front, look_into, more_unasked, no_room,
 };
 use crate::surplus::{leaf_surplus, short_front};
 use spa_bodies::error_at;
@@ -122,17 +122,11 @@ pub fn accept_all(alloc: Global, input: &[u8]) -> Result<(), (&[u8], Deserialize
     // and memory runs out only for a pod, malformed or not, in which more than 1000 structs and objects stand in one another.
     ensures memory { IfErr result (λ refusal. OnMemory (NestsDeeper levels_looked_into refusal.0.now) refusal.1) }
 {
-    let mut left = input;
-    loop {
-        let Err((pod, rejected)) = look_at_pods(left) else {
-            return Ok(());
-        };
-        if let Rejected::Fault(place, _, why) = rejected {
-            return Err((pod, error_at(place, why)));
-        }
-        match behind_deep(alloc, pod) {
-            Ok(rest) => left = rest,
-            Err(refused) => return Err((pod, error_at(refused.place, refused.why))),
+    match find_fault(alloc, input) {
+        Ok(()) => Ok(()),
+        Err((pod, rejected)) => {
+            let refused = refusal_of(pod, rejected);
+            Err((pod, error_at(refused.place, refused.why)))
         }
     }
 }
@@ -177,6 +171,18 @@ fn append_all<'a>(input: &'a [u8], out: &mut Vec<u8>) -> Result<(), (&'a [u8], R
                 return Err((others, refused));
             }
         }
+    }
+}
+
+/// The refusal of a pod that isn't accepted: for its fault, or for want of memory where it nests too deep.
+fn refusal_of<'a>(pod: &'a [u8], rejected: Rejected<'a>) -> Refused<'a>
+    requires { IsRejected pod.now rejected }
+    ensures refused { IsRefusal pod.now (error_of result.place result.why) }
+    ensures memory { OnMemory (NestsDeeper levels_looked_into pod.now) (error_of result.place result.why) }
+{
+    match rejected {
+        Rejected::Fault(place, _, why) => Refused { place, why },
+        Rejected::TooDeep => lacking_memory(pod),
     }
 }
 
@@ -292,10 +298,8 @@ fn append_front<'a>(input: &'a [u8], out: &mut Vec<u8>) -> Result<&'a [u8], Refu
                 None => Err(lacking_memory(input)),
             }
         }
-        Err(rejected) => match rejected {
-            Rejected::Fault(place, _, why) => Err(Refused { place, why }),
-            Rejected::TooDeep => append_deep(input, out),
-        },
+        Err(Rejected::TooDeep) => append_deep(input, out),
+        Err(rejected) => Err(refusal_of(input, rejected)),
     }
 }
 
@@ -326,7 +330,7 @@ fn append_deep<'a>(input: &'a [u8], out: &mut Vec<u8>) -> Result<&'a [u8], Refus
 {
     let rest = match behind_deep(*out.allocator(), input) {
         Ok(rest) => rest,
-        Err(refused) => return Err(refused),
+        Err(rejected) => return Err(refusal_of(input, rejected)),
     };
     let (front, _) = input.split_at(input.len() - rest.len());
     match append_pods(front, out) {

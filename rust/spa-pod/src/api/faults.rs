@@ -1,7 +1,7 @@
 //! Where the first fault in a list of pods stands.
 use super::errors::offset_in;
 use crate::parts::spa_bodies::error_at;
-use crate::parts::spa_rewrite::{Rejected, look_at_pods};
+use crate::parts::spa_rewrite::{Rejected, find_fault as first_fault};
 use crate::pod::deserialize::DeserializeError;
 use core::error::Error;
 use core::fmt::{Display, Formatter, Result as Printed};
@@ -18,22 +18,24 @@ pub enum FoundFault {
         /// The fault. `Short` and `Text` have the same byte.
         why: DeserializeError<usize>,
     },
-    /// More than 1000 structs and objects stand in one another in the pod that begins at this byte, and no fault stands before it.
-    TooDeep(usize),
+    /// Memory ran out for the open containers of the pod that begins at this byte, in which more than 1000 structs and objects stand in one another; no
+    /// fault stands before it.
+    OutOfMemory(usize),
 }
 
 impl Display for FoundFault {
     fn fmt(&self, f: &mut Formatter<'_>) -> Printed {
         match self {
             FoundFault::Fault { pod, at, why } => write!(f, "{why}, at byte {at}, in the pod at byte {pod}"),
-            FoundFault::TooDeep(pod) => write!(f, "values nest deeper than 1000 levels, in the pod at byte {pod}"),
+            FoundFault::OutOfMemory(pod) => write!(f, "memory ran out for the levels of the pod at byte {pod}"),
         }
     }
 }
 
 impl Error for FoundFault {}
 
-/// Looks for the first fault in pods one after another: `Ok` where there is none. It takes no memory, and calls itself nowhere.
+/// Looks for the first fault in pods one after another: `Ok` where there is none. It takes memory only for a pod in which more than 1000 structs and
+/// objects stand in one another, and calls itself nowhere.
 ///
 /// The readers name the byte of a `Short` and of a `Text` alone. This names the byte of any fault:
 ///
@@ -47,14 +49,14 @@ impl Error for FoundFault {}
 /// ```
 ///
 /// # Errors
-/// The first fault; or [`TooDeep`](FoundFault::TooDeep), where that isn't looked for.
+/// The first fault; or [`OutOfMemory`](FoundFault::OutOfMemory), where it can't be looked for.
 pub fn find_fault(pods: &[u8]) -> Result<(), FoundFault> {
-    match look_at_pods(pods) {
-        Ok(_) => Ok(()),
+    match first_fault(pods) {
+        Ok(()) => Ok(()),
         Err((left, rejected)) => {
             let pod = offset_in(pods, left);
             match rejected {
-                Rejected::TooDeep => Err(FoundFault::TooDeep(pod)),
+                Rejected::TooDeep => Err(FoundFault::OutOfMemory(pod)),
                 Rejected::Fault(place, at, why) => Err(FoundFault::Fault { pod, at: pod + at, why: error_at(place, why).placed_in(pods) }),
             }
         }
@@ -98,11 +100,16 @@ mod tests {
     }
 
     #[test]
-    fn what_nests_too_deep_is_no_fault() {
-        let mut pod = bytes(&[4, 4, 1, 0]);
-        for _ in 0..1100 {
-            pod = [bytes(&[pod.len() as u32 + 16, 14]), pod, bytes(&[4, 4, 1, 0])].concat();
-        }
-        assert_eq!(find_fault(&[bytes(&[0, 1]), pod].concat()), Err(FoundFault::TooDeep(8)));
+    fn a_fault_is_found_at_any_depth() {
+        let nested = |inner: &[u32]| {
+            let mut pod = bytes(inner);
+            for _ in 0..1100 {
+                pod = [bytes(&[pod.len() as u32 + 16, 14]), pod, bytes(&[4, 4, 1, 0])].concat();
+            }
+            [bytes(&[0, 1]), pod].concat()
+        };
+        assert_eq!(find_fault(&nested(&[4, 4, 1, 0])), Ok(()));
+        let fault = FoundFault::Fault { pod: 8, at: 8 + 8 * 1100, why: DeserializeError::WrongSize };
+        assert_eq!(find_fault(&nested(&[3, 4, 1, 0])), Err(fault));
     }
 }

@@ -4,7 +4,6 @@ use Rattle.spa_scan.specs.Depth.{levels_looked_into}
 use Rattle.spa_scan.proofs.Deeper.{holds_none, input_deep, its_front}
 use Rattle.spa_rewrite.proofs.Accepted.{inside_stops}
 use Rattle.spa_rewrite.proofs.Levels.{nested_long}
-use Rattle.spa_rewrite.proofs.Refusals.{fault_refused}
 use Rattle.spa_rewrite.proofs.ShorterLemmas.{shorter_inside, shorter_opened}
 use Rattle.spa_rewrite.proofs.deep.behind_deep.Goals as goal
 
@@ -21,10 +20,9 @@ returns-in-Fits-clause-accepted c =
     let s = shorter_opened _ _ _ _ _ c.in-Some.ensures.there (shorter_inside _ _ _ _ _ c.in-Some-inside_of.ensures.there c.in-Fits.ensures) in
     (s.value, s.begins)
 
-pub returns-in-Stops-clause-refused : goal.returns-in-Stops-clause-refused
-returns-in-Stops-clause-refused c =
-    let f = inside_stops _ _ _ _ _ _ _ _ _ _ c.in-Some.ensures.there c.in-Some-inside_of.ensures.there c.in-Stops.ensures refl c.fault.ensures in
-    fault_refused _ _ _ f.stands
+pub returns-in-Stops-clause-rejected : goal.returns-in-Stops-clause-rejected
+returns-in-Stops-clause-rejected c =
+    inside_stops _ _ _ _ _ _ _ _ _ _ c.in-Some.ensures.there c.in-Some-inside_of.ensures.there c.in-Stops.ensures refl c.fault.ensures
 
 pub loop-frames-smaller : goal.loop-frames-smaller
 loop-frames-smaller c =

@@ -1,5 +1,5 @@
-use Rattle.std.proofs.Common.{◌≡◌, ◌+◌, ◌-◌, ◌≤◌, arith, length, refl}
-use Rattle.spa_rewrite.proofs.BegunLists.{begun_there}
+use Rattle.std.proofs.Common.{arith, refl}
+use Rattle.spa_rewrite.proofs.Emitted.{begun_there}
 use Rattle.spa_rewrite.proofs.emitting.begin.Goals as goal
 
 pub returns : goal.returns

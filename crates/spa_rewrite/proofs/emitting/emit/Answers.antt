@@ -4,7 +4,7 @@ use Rattle.spa_format.specs.Words.{header_size, word_bytes}
 use Rattle.spa_events.specs.Inside.{key_size}
 use Rattle.spa_rewrite.specs.Emit.{OpensWhole}
 use Rattle.spa_rewrite.specs.Placed.{ArePlaced}
-use Rattle.spa_rewrite.proofs.BegunLists.{Emits, depth_within, emits_all, emits_end, emits_inner, emits_none, has_link, inner_fits, left_is, ran}
+use Rattle.spa_rewrite.proofs.Emitted.{Emits, depth_within, emits_all, emits_end, emits_inner, emits_none, has_link, inner_fits, left_is, ran}
 use Rattle.spa_rewrite.proofs.emitting.emit.Goals as goal
 
 pub loop-inner-init : goal.loop-inner-init

@@ -1,5 +1,5 @@
 use Rattle.std.proofs.Common.{◌+◌, ◌-◌, ◌*◌, length}
-use Rattle.spa_rewrite.proofs.BegunLists.{Emits}
+use Rattle.spa_rewrite.proofs.Emitted.{Emits}
 use Rattle.spa_rewrite.proofs.emitting.emit.Given as goal
 
 abbrev pub invariant-loop-inner : goal.invariant-loop-inner

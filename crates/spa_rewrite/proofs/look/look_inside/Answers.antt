@@ -21,6 +21,19 @@ returns-then-waiting-eq0 c =
     subst (λ w. Onward c.args.are_keyed c.args.pods.now (reverse (take w frames)) c.loop-left.surplus)
     c.if-waiting-eq0.true (list_ends _ _ _ _ _ _ _ _ passed (eqb-true _ _ (sym c.is_empty.ensures ∙ c.if-is_empty.true)))
 
+pub overflow_cast-behind : goal.overflow_cast-behind
+overflow_cast-behind c =
+    let frames = c.loop-left.frames in
+    let w = c.loop-left.waiting in
+    let some = c.if-waiting-eq0.false in
+    let within = c.loop-left.invariant.1 in
+    let none : Waiting = record { keyed = false; pods = record { ref_ptr = (0, 0); now = [] }; behind = 0 } in
+    let e = popped frames w (w - 1) none (omega arith) (omega arith) in
+    let ended = list_ends _ _ _ _ _ _ _ _ c.loop-left.invariant.0 (eqb-true _ _ (sym c.is_empty.ensures ∙ c.if-is_empty.true)) in
+    let room = (subst (λ o. Onward c.args.are_keyed c.args.pods.now o c.loop-left.surplus) e ended).room in
+    let limit = c.requires in
+    omega arith
+
 pub loop-left-preserved-then-is_empty : goal.loop-left-preserved-then-is_empty
 loop-left-preserved-then-is_empty c =
     let passed = c.loop-left.invariant.0 in

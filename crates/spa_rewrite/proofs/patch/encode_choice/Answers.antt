@@ -1,7 +1,6 @@
-use Rattle.std.proofs.Common.{◌≡◌, ◌+◌, ◌≤◌, ◌∙◌, arith, refl}
-use Rattle.spa_format.proofs.Short.{padded_above}
+use Rattle.std.proofs.Common.{◌+◌, ◌≤◌, arith, refl}
 use Rattle.spa_rewrite.proofs.PatchedBodies.{no_few_values, no_short_choice}
-use Rattle.spa_rewrite.proofs.PlacedBodies.{choice_encoded, kept_room, none_encoded}
+use Rattle.spa_rewrite.proofs.PlacedBodies.{choice_encoded, none_encoded}
 use Rattle.spa_rewrite.proofs.patch.encode_choice.Goals as goal
 
 pub returns-then-size-lt-SECOND_HEADER : goal.returns-then-size-lt-SECOND_HEADER

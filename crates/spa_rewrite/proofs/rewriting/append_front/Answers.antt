@@ -1,9 +1,7 @@
 use Rattle.std.proofs.Common.{subst, sym, ◌∙◌}
 use Rattle.std.specs.Prelude.{true}
 use Rattle.spa_scan.specs.Canonical.{AreCanonical}
-use Rattle.spa_rewrite.specs.Look.{IsRejected}
 use Rattle.spa_rewrite.proofs.Appending.{accepted_canonical, before_rest, front_canonical, front_written}
-use Rattle.spa_rewrite.proofs.Lacking.{is_fault}
 use Rattle.spa_rewrite.proofs.rewriting.append_front.Goals as goal
 
 pub append_pod-requires : goal.append_pod-requires
@@ -15,8 +13,3 @@ append_pod-requires c = λ e.
 pub returns-in-Some-clause-appended : goal.returns-in-Some-clause-appended
 returns-in-Some-clause-appended c =
     front_written _ _ _ _ _ _ c.in-Ok.ensures.accepted.shorter.begins c.split_at.ensures.front c.in-Some.ensures.appended
-
-pub returns-in-Fault-clause-refused : goal.returns-in-Fault-clause-refused
-returns-in-Fault-clause-refused c =
-    let says = subst (IsRejected c.args.input.now) c.in-Fault.is c.in-Err.ensures.rejected in
-    is_fault _ _ _ says.stands

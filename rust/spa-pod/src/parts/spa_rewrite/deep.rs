@@ -2,15 +2,36 @@
 //! Pods in which more lists wait than an array has room for: these wait in memory.
 
 use crate::shims::prelude::*;
-use crate::parts::spa_rewrite::look::{Found, MANY, fault, look_inside, none_waiting};
-use crate::parts::spa_rewrite::rewriting::{Refused, lacking_memory};
-use crate::parts::spa_bytes::open;
+use crate::parts::spa_rewrite::look::{Found, MANY, Rejected, fault, look_at_pods, look_inside, none_waiting};
+use crate::parts::spa_bytes::{HEADER_LEN, open};
 use crate::parts::spa_events::inside_of;
 
+/// Looks at all pods that the input consists of, however deep they nest. A refusal gives what is left of the input from the refused pod on, and the
+/// fault, with its place and its offset in that pod.
+///
+/// It takes memory only for a pod in which more than 1000 structs and objects stand in one another: for its open containers. Where that memory
+/// runs out, and nowhere else, it answers `TooDeep`.
+pub fn find_fault(input: &[u8]) -> Result<(), (&[u8], Rejected<'_>)> {
+    let mut left = input;
+    loop {
+        let Err((pod, rejected)) = look_at_pods(left) else {
+            return Ok(());
+        };
+        if let Rejected::Fault(_, _, _) = rejected {
+            return Err((pod, rejected));
+        }
+        match behind_deep(pod) {
+            Ok(rest) => left = rest,
+            Err(rejected) => return Err((pod, rejected)),
+        }
+    }
+}
+
 /// What follows the pod at the front, which is looked at with lists that wait in memory: with room for four times as many whenever that is full.
+/// `TooDeep`: memory ran out.
 #[cold]
 #[inline(never)]
-pub(crate) fn behind_deep(input: &[u8]) -> Result<&[u8], Refused<'_>> {
+pub(crate) fn behind_deep(input: &[u8]) -> Result<&[u8], Rejected<'_>> {
     let Some(front) = open(input) else {
         unreachable!();
     };
@@ -21,15 +42,13 @@ pub(crate) fn behind_deep(input: &[u8]) -> Result<&[u8], Refused<'_>> {
     loop {
         let mut frames = Vec::new();
         let Ok(()) = frames.try_resize(room, none_waiting(input)) else {
-            return Err(lacking_memory(input));
+            return Err(Rejected::TooDeep);
         };
         match look_inside(inside.keyed, inside.pods, frames.as_mut_slice()) {
             Found::Fits(_) => return Ok(front.rest),
-            Found::Stops(place, _) => {
-                return Err(Refused {
-                    place,
-                    why: fault(place),
-                });
+            Found::Stops(place, behind) => {
+                let at = HEADER_LEN + front.body.len() - (place.len() + behind);
+                return Err(Rejected::Fault(place, at, fault(place)));
             }
             Found::TooDeep => room = 4 * room,
         }

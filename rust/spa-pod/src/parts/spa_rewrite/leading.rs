@@ -2,7 +2,7 @@
 //! The first pods of an input that are canonical. This look writes nothing, takes no memory and calls itself nowhere: what is left of the structs and
 //! objects around a pod waits in an array of fixed size.
 
-use crate::parts::spa_rewrite::look::{FEW, MANY};
+use crate::parts::spa_rewrite::look::{FEW, MANY, SOME};
 use crate::parts::spa_bytes::{HEADER_LEN, SECOND_WORD, open, u32_at};
 use crate::parts::spa_events::{Inside, behind_key, inside_of, is_container};
 use crate::parts::spa_scan::{fixed_front, leaf_body_front, leaf_front};
@@ -98,10 +98,21 @@ pub(crate) fn look_for_canonical<'a>(
     }
 }
 
-/// Does what `look_for_canonical` does, with the short array, or the long one.
+/// Does what `look_for_canonical` does, with the short array, or a longer one.
 #[inline(never)]
 fn look_deeper_for_canonical(keyed: bool, pods: &[u8]) -> CanonicalLook {
     match look_on(keyed, pods, &mut [list(pods); FEW]) {
+        CanonicalLook::Same => CanonicalLook::Same,
+        CanonicalLook::Differs => CanonicalLook::Differs,
+        CanonicalLook::TooDeep => look_further_for_canonical(keyed, pods),
+    }
+}
+
+/// Does what `look_for_canonical` does, with the next array, or the long one.
+#[cold]
+#[inline(never)]
+fn look_further_for_canonical(keyed: bool, pods: &[u8]) -> CanonicalLook {
+    match look_on(keyed, pods, &mut [list(pods); SOME]) {
         CanonicalLook::Same => CanonicalLook::Same,
         CanonicalLook::Differs => CanonicalLook::Differs,
         CanonicalLook::TooDeep => look_deep_for_canonical(keyed, pods),

@@ -44,7 +44,7 @@ pub struct ChangedPods {
 }
 
 /// Why a pod isn't accepted.
-#[derive(Clone, Copy)]
+#[derive(Clone, Copy, Debug)]
 pub enum Rejected<'a> {
     /// It is malformed. The fault stands at the front of these bytes: what is left from there on of the input, or of the struct or object
     /// inside which it stands. The number is that place's offset in the pod.
@@ -83,7 +83,7 @@ pub(crate) struct Waiting<'a> {
     /// The pods that are left.
     pods: &'a [u8],
     /// How many bytes of those that are looked at follow them.
-    behind: usize,
+    behind: u32,
 }
 
 /// The short array, in which no list waits yet.
@@ -111,7 +111,10 @@ pub(crate) fn none_waiting(pods: &[u8]) -> Waiting<'_> {
 /// How many lists can wait in the short array.
 pub(crate) const FEW: usize = 16;
 
-/// How many can wait in the long one, which is taken where the short one is full.
+/// How many can wait in the next one, which is taken where the short one is full.
+pub(crate) const SOME: usize = 64;
+
+/// How many can wait in the long one.
 pub(crate) const MANY: usize = 1000;
 
 /// Looks at the pod at the front of the input.
@@ -264,10 +267,21 @@ pub(crate) fn look_into<'a>(keyed: bool, pods: &'a [u8], frames: &mut [Waiting<'
     }
 }
 
-/// Looks inside a struct or an object with the short array, or the long one.
+/// Looks inside a struct or an object with the short array, or a longer one.
 #[inline(never)]
 fn look_deeper(keyed: bool, pods: &[u8]) -> Found<'_> {
     match look_inside(keyed, pods, &mut few_frames(pods)) {
+        Found::Fits(surplus) => Found::Fits(surplus),
+        Found::Stops(place, behind) => Found::Stops(place, behind),
+        Found::TooDeep => look_further(keyed, pods),
+    }
+}
+
+/// Looks inside a struct or an object with the next array, or the long one.
+#[cold]
+#[inline(never)]
+fn look_further(keyed: bool, pods: &[u8]) -> Found<'_> {
+    match look_inside(keyed, pods, &mut [none_waiting(pods); SOME]) {
         Found::Fits(surplus) => Found::Fits(surplus),
         Found::Stops(place, behind) => Found::Stops(place, behind),
         Found::TooDeep => look_deep(keyed, pods),
@@ -300,7 +314,7 @@ pub(crate) fn look_inside<'a>(
             let outer = frames[waiting];
             keyed = outer.keyed;
             left = outer.pods;
-            behind = outer.behind;
+            behind = outer.behind as usize;
             continue;
         }
         match meet(keyed, left) {
@@ -315,7 +329,7 @@ pub(crate) fn look_inside<'a>(
                 frames[waiting] = Waiting {
                     keyed,
                     pods: rest,
-                    behind,
+                    behind: behind as u32,
                 };
                 waiting += 1;
                 keyed = inner.keyed;

@@ -11,6 +11,7 @@ mod rewriting;
 mod surplus;
 
 pub use canonical::is_canonical;
+pub use deep::find_fault;
 pub use emitting::{emit, move_down};
 pub use leading::{canonical_front, canonical_stretch};
 pub use look::{

@@ -5,12 +5,11 @@
 //! open containers in memory.
 
 use crate::shims::prelude::*;
-use crate::parts::spa_rewrite::deep::behind_deep;
+use crate::parts::spa_rewrite::deep::{behind_deep, find_fault};
 use crate::parts::spa_rewrite::emitting::emit;
 use crate::parts::spa_rewrite::leading::canonical_stretch;
 use crate::parts::spa_rewrite::look::{
-    Found, Rejected, Waiting, few_frames, look_at_front, look_at_pods, look_into, more_unasked,
-    no_room,
+    Found, Rejected, Waiting, few_frames, look_at_front, look_into, more_unasked, no_room,
 };
 use crate::parts::spa_rewrite::surplus::{leaf_surplus, short_front};
 use crate::parts::spa_bodies::error_at;
@@ -69,17 +68,11 @@ pub fn rewrite_in_parts(
 ///
 /// It takes memory only for a pod in which more than 1000 structs and objects stand in one another: for its open containers.
 pub fn accept_all(input: &[u8]) -> Result<(), (&[u8], DeserializeError<&[u8]>)> {
-    let mut left = input;
-    loop {
-        let Err((pod, rejected)) = look_at_pods(left) else {
-            return Ok(());
-        };
-        if let Rejected::Fault(place, _, why) = rejected {
-            return Err((pod, error_at(place, why)));
-        }
-        match behind_deep(pod) {
-            Ok(rest) => left = rest,
-            Err(refused) => return Err((pod, error_at(refused.place, refused.why))),
+    match find_fault(input) {
+        Ok(()) => Ok(()),
+        Err((pod, rejected)) => {
+            let refused = refusal_of(pod, rejected);
+            Err((pod, error_at(refused.place, refused.why)))
         }
     }
 }
@@ -119,6 +112,14 @@ fn append_all<'a>(input: &'a [u8], out: &mut Vec<u8>) -> Result<(), (&'a [u8], R
                 return Err((others, refused));
             }
         }
+    }
+}
+
+/// The refusal of a pod that isn't accepted: for its fault, or for want of memory where it nests too deep.
+fn refusal_of<'a>(pod: &'a [u8], rejected: Rejected<'a>) -> Refused<'a> {
+    match rejected {
+        Rejected::Fault(place, _, why) => Refused { place, why },
+        Rejected::TooDeep => lacking_memory(pod),
     }
 }
 
@@ -212,10 +213,8 @@ fn append_front<'a>(input: &'a [u8], out: &mut Vec<u8>) -> Result<&'a [u8], Refu
                 None => Err(lacking_memory(input)),
             }
         }
-        Err(rejected) => match rejected {
-            Rejected::Fault(place, _, why) => Err(Refused { place, why }),
-            Rejected::TooDeep => append_deep(input, out),
-        },
+        Err(Rejected::TooDeep) => append_deep(input, out),
+        Err(rejected) => Err(refusal_of(input, rejected)),
     }
 }
 
@@ -237,7 +236,7 @@ fn append_pod(canonical: bool, pod: &[u8], out: &mut Vec<u8>) -> Option<()> {
 fn append_deep<'a>(input: &'a [u8], out: &mut Vec<u8>) -> Result<&'a [u8], Refused<'a>> {
     let rest = match behind_deep(input) {
         Ok(rest) => rest,
-        Err(refused) => return Err(refused),
+        Err(rejected) => return Err(refusal_of(input, rejected)),
     };
     let (front, _) = input.split_at(input.len() - rest.len());
     match append_pods(front, out) {

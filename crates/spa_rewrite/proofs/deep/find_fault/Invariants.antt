@@ -1,6 +1,6 @@
 use Rattle.std.proofs.Common.{length}
 use Rattle.spa_rewrite.proofs.Stretches.{FirstMembers}
-use Rattle.spa_rewrite.proofs.rewriting.accept_all.Given as goal
+use Rattle.spa_rewrite.proofs.deep.find_fault.Given as goal
 
 abbrev pub invariant-loop-pod : goal.invariant-loop-pod
 invariant-loop-pod l = FirstMembers l.input l.left

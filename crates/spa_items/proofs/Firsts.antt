@@ -1,5 +1,5 @@
 -- The first pod of those that stand one after another, opened.
-use Rattle.std.proofs.Common.{◌≡◌, ℕ, ◌≤◌, List, length, take, drop, refl, sym, ap, ◌∙◌, arith, length-drop, length-take}
+use Rattle.std.proofs.Common.{◌≡◌, ℕ, ◌+◌, ◌-◌, ◌≤◌, List, length, take, drop, refl, sym, ap, ◌∙◌, arith, length-drop, length-take}
 use Rattle.std.specs.Prelude.{Bool, true, false, if◌then◌else◌}
 use Rattle.std.proofs.lemmas.List.{drop-drop, drop-take, take-take}
 use Rattle.spa_events.specs.Inside.{OpensFirst, key_size}
@@ -48,3 +48,38 @@ stands_first keyed b f i ek ef =
       its_rest = o.its_rest ∙ ap (λ n. drop (extent n) (drop k b)) z ∙ drop-drop (extent (word_at b k)) k b;
       fits = omega arith;
     }
+
+-- pods begin at bytes that are multiples of 8
+
+pub whole_key : (keyed : Bool) → padded_size (key_size keyed) ≡ key_size keyed
+whole_key false = refl
+whole_key true = refl
+
+pub whole_behind_first : (keyed : Bool) (at : ℕ) (b : List ℕ) (f : First) → padded_size at ≡ at → IsFirst keyed b f →
+    (let next = at + (length b - length f.rest.now) in padded_size next ≡ next)
+whole_behind_first keyed at b f w i =
+    let ld = length-drop (extent_behind (key_size keyed) b) b in
+    let lr = ap length i.its_rest in
+    let h = i.there in
+    let k = whole_key keyed in
+    omega arith
+
+-- the padding of a container's body ends where the pods behind it begin
+pub first_ends : (keyed : Bool) (at inner_at : ℕ) (b : List ℕ) (inner : List ℕ) (f : First) (inner_key : ℕ) → padded_size at ≡ at → IsFirst keyed b f →
+    inner_at ≡ at + key_size keyed + 8 + inner_key → inner_key + length inner ≡ length f.body.now →
+    padded_size (inner_at + length inner) ≡ at + (length b - length f.rest.now)
+first_ends keyed at inner_at b inner f inner_key w i ea el =
+    let n = extent_behind (key_size keyed) b in
+    let ld = length-drop n b in
+    let lr = ap length i.its_rest in
+    let h = i.there in
+    let k = whole_key keyed in
+    let p = drop (key_size keyed) (first_of keyed b) in
+    let lb = ap length i.its_body in
+    let lt = length-take (word_at p 0) (drop 8 p) in
+    let lp = length-drop (key_size keyed) (first_of keyed b) in
+    let l8 = length-drop 8 p in
+    let lf = length-take n b in
+    let size : word_at p 0 ≡ word_at b (key_size keyed) =
+    ap (λ q. word_at q 0) (pod_behind (key_size keyed) b) ∙ front_word (drop (key_size keyed) b) 0 (omega arith) ∙ behind_word (key_size keyed) b in
+    omega arith

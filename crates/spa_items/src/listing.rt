@@ -5,7 +5,7 @@ ghost use Rattle.spa_format.specs.Front.{HasFront, front_of};
 ghost use Rattle.spa_format.specs.Pod.{AreMembers};
 ghost use Rattle.spa_format.specs.Tree.{Trees};
 ghost use Rattle.spa_format.specs.Walk.{extent_behind, walk};
-ghost use Rattle.spa_format.specs.Words.{header_size, word_at};
+ghost use Rattle.spa_format.specs.Words.{header_size, padded_size, word_at};
 ghost use Rattle.spa_events.specs.Inside.{key_size};
 ghost use Rattle.spa_items.specs.Items.{head, items_in, items_of, overlaid};
 ghost use Rattle.spa_items.specs.Puts.{ArePut, IsFirst, IsFirstListed, item_of};
@@ -15,7 +15,7 @@ use crate::contents::{child_and_flags, content};
 use crate::elements::{put, put_elements};
 use crate::item::Item;
 use spa_bytes::{HEADER_LEN, SECOND_WORD, u32_at};
-use spa_events::{inside_of, key_len, open_first};
+use spa_events::{Inside, inside_of, key_len, open_first};
 use spa_scan::{LEVELS, all_nest_within};
 
 /// How many levels of containers can wait in the short array.
@@ -24,7 +24,7 @@ const FEW: usize = 8;
 /// How many can wait in the long one, which is taken where pods nest deeper.
 const MANY: usize = LEVELS as usize;
 
-/// Pods one after another whose items are to come.
+/// Pods one after another whose items are listed.
 #[derive(Clone, Copy)]
 pub(crate) struct Level<'a> {
     /// Whether a key and flags are before each.
@@ -65,7 +65,7 @@ pub fn list_items(input: &[u8], out: &mut [Item]) -> Option<usize>
     ensures unchanged { IfNone result (out.new ≡ out.old) }
 {
     if all_nest_within(input, FEW as u32) {
-        return Some(list_within(input, out, &mut [no_level(input); FEW]));
+        return Some(list_within(input, out, &mut [unkeyed(input); FEW]));
     }
     if !all_nest_within(input, LEVELS) {
         return None;
@@ -81,26 +81,18 @@ fn list_deep(input: &[u8], out: &mut [Item]) -> usize
     ensures count { result ≡ length (items_of input.now) }
     ensures items { out.new ≡ overlaid (items_of input.now) out.old }
 {
-    list_within(input, out, &mut [no_level(input); MANY])
+    list_within(input, out, &mut [unkeyed(input); MANY])
 }
 
-/// The level of the pods of an input; in an array it is an entry at which none waits.
+/// An entry of an array at which no pods wait.
 #[inline(always)]
-fn no_level(pods: &[u8]) -> Level<'_>
-    ensures keyed { result.keyed ≡ false }
-    ensures at { result.at ≡ 0 }
-    ensures pods { result.pods.now ≡ pods.now }
-{
-    Level {
-        keyed: false,
-        at: 0,
-        pods,
-    }
+fn unkeyed(pods: &[u8]) -> Inside<'_> {
+    Inside { keyed: false, pods }
 }
 
 /// Lists pods that nest no deeper than levels can wait in the array.
 #[inline(always)]
-fn list_within<'a>(input: &'a [u8], out: &mut [Item], outer: &mut [Level<'a>]) -> usize
+fn list_within<'a>(input: &'a [u8], out: &mut [Item], outer: &mut [Inside<'a>]) -> usize
     requires room { length outer.old < 2 ^ 16 }
     requires shallow { ¬ (SomeOf (NestsDeeper (length outer.old)) (walk input.now)) }
     ensures count { result ≡ length (items_of input.now) }
@@ -123,8 +115,8 @@ pub fn front_item(input: &[u8], at: usize) -> Option<Item>
 }
 
 /// Lists pods one after another, and all pods, elements and values in them down to so many levels, from the front of the output on, and answers how
-/// many items there are. What follows a container waits while the pods in it are listed.
-fn list_pods<'a>(pods: &'a [u8], out: &mut [Item], outer: &mut [Level<'a>], levels: usize) -> usize
+/// many items there are. What follows a container waits while the pods in it are listed, and begins behind its padding.
+fn list_pods<'a>(pods: &'a [u8], out: &mut [Item], outer: &mut [Inside<'a>], levels: usize) -> usize
     requires room { length pods.now < 2 ^ 63 }
     requires some { 0 < length pods.now → 0 < levels }
     requires few { levels ≤ length outer.old + 1 }
@@ -132,24 +124,32 @@ fn list_pods<'a>(pods: &'a [u8], out: &mut [Item], outer: &mut [Level<'a>], leve
 {
     let mut place = 0;
     let mut depth = 0;
-    let mut level = no_level(pods);
+    let mut level = Level {
+        keyed: false,
+        at: 0,
+        pods,
+    };
     loop {
         match first_pod(level.keyed, level.pods) {
             Some(first) => {
                 let listed = list_pod(out, place, levels - depth, depth, level, first);
                 place = listed.place;
-                let behind = Level {
-                    at: level.at + (level.pods.len() - first.rest.len()),
-                    pods: first.rest,
-                    ..level
-                };
                 match listed.inner {
                     Some(inner) => {
-                        outer[depth] = behind;
+                        outer[depth] = Inside {
+                            keyed: level.keyed,
+                            pods: first.rest,
+                        };
                         depth += 1;
                         level = inner;
                     }
-                    None => level = behind,
+                    None => {
+                        level = Level {
+                            at: level.at + (level.pods.len() - first.rest.len()),
+                            pods: first.rest,
+                            ..level
+                        };
+                    }
                 }
             }
             None => {
@@ -157,10 +157,23 @@ fn list_pods<'a>(pods: &'a [u8], out: &mut [Item], outer: &mut [Level<'a>], leve
                     return place;
                 }
                 depth -= 1;
-                level = outer[depth];
+                let around = outer[depth];
+                level = Level {
+                    keyed: around.keyed,
+                    at: behind_padding(level.at + level.pods.len()),
+                    pods: around.pods,
+                };
             }
         }
     }
+}
+
+/// The byte at which the next pod begins, behind the padding of a body that ends at the byte `end`.
+fn behind_padding(end: usize) -> usize
+    requires { end < 2 ^ 63 }
+    ensures { result ≡ padded_size end }
+{
+    end.div_ceil(HEADER_LEN) * HEADER_LEN
 }
 
 /// Lists one pod, and the elements and values in it. The pods in it are answered where there are levels for them.
@@ -181,9 +194,8 @@ fn list_pod<'a>(
         → IsFirstListed levels depth level.entry.keyed level.entry.at b place out.old result out.new }
     ensures few { result.place ≤ place + 1 + length first.entry.body.now }
     ensures inner { IfSome result.inner (λ inner. (1 < levels) × (result.place ≡ place + 1)
-        × (length inner.pods.now ≤ length first.entry.body.now)
-        × (inner.at + length inner.pods.now
-        ≤ level.entry.at + key_size level.entry.keyed + header_size + length first.entry.body.now)) }
+        × (inner.at ≡ level.entry.at + key_size level.entry.keyed + header_size + key_size inner.keyed)
+        × (key_size inner.keyed + length inner.pods.now ≡ length first.entry.body.now)) }
 {
     let body_at = level.at + key_len(level.keyed) + HEADER_LEN;
     put(out, place, head(depth, body_at, first));

@@ -5,7 +5,7 @@ use crate::parts::spa_items::contents::{child_and_flags, content};
 use crate::parts::spa_items::elements::{put, put_elements};
 use crate::parts::spa_items::item::Item;
 use spa_pod::parts::spa_bytes::{HEADER_LEN, SECOND_WORD, u32_at};
-use spa_pod::parts::spa_events::{inside_of, key_len, open_first};
+use spa_pod::parts::spa_events::{Inside, inside_of, key_len, open_first};
 use spa_pod::parts::spa_scan::{LEVELS, all_nest_within};
 
 /// How many levels of containers can wait in the short array.
@@ -14,7 +14,7 @@ const FEW: usize = 8;
 /// How many can wait in the long one, which is taken where pods nest deeper.
 const MANY: usize = LEVELS as usize;
 
-/// Pods one after another whose items are to come.
+/// Pods one after another whose items are listed.
 #[derive(Clone, Copy)]
 pub(crate) struct Level<'a> {
     /// Whether a key and flags are before each.
@@ -48,7 +48,7 @@ pub(crate) struct First<'a> {
 /// It takes no memory: the containers that it is in wait in an array of 8 levels, or of 1000.
 pub fn list_items(input: &[u8], out: &mut [Item]) -> Option<usize> {
     if all_nest_within(input, FEW as u32) {
-        return Some(list_within(input, out, &mut [no_level(input); FEW]));
+        return Some(list_within(input, out, &mut [unkeyed(input); FEW]));
     }
     if !all_nest_within(input, LEVELS) {
         return None;
@@ -60,22 +60,18 @@ pub fn list_items(input: &[u8], out: &mut [Item]) -> Option<usize> {
 #[cold]
 #[inline(never)]
 fn list_deep(input: &[u8], out: &mut [Item]) -> usize {
-    list_within(input, out, &mut [no_level(input); MANY])
+    list_within(input, out, &mut [unkeyed(input); MANY])
 }
 
-/// The level of the pods of an input; in an array it is an entry at which none waits.
+/// An entry of an array at which no pods wait.
 #[cfg_attr(not(debug_assertions), inline(always))]
-fn no_level(pods: &[u8]) -> Level<'_> {
-    Level {
-        keyed: false,
-        at: 0,
-        pods,
-    }
+fn unkeyed(pods: &[u8]) -> Inside<'_> {
+    Inside { keyed: false, pods }
 }
 
 /// Lists pods that nest no deeper than levels can wait in the array.
 #[cfg_attr(not(debug_assertions), inline(always))]
-fn list_within<'a>(input: &'a [u8], out: &mut [Item], outer: &mut [Level<'a>]) -> usize {
+fn list_within<'a>(input: &'a [u8], out: &mut [Item], outer: &mut [Inside<'a>]) -> usize {
     list_pods(input, out, outer, input.len().min(outer.len() + 1))
 }
 
@@ -88,28 +84,36 @@ pub fn front_item(input: &[u8], at: usize) -> Option<Item> {
 }
 
 /// Lists pods one after another, and all pods, elements and values in them down to so many levels, from the front of the output on, and answers how
-/// many items there are. What follows a container waits while the pods in it are listed.
-fn list_pods<'a>(pods: &'a [u8], out: &mut [Item], outer: &mut [Level<'a>], levels: usize) -> usize {
+/// many items there are. What follows a container waits while the pods in it are listed, and begins behind its padding.
+fn list_pods<'a>(pods: &'a [u8], out: &mut [Item], outer: &mut [Inside<'a>], levels: usize) -> usize {
     let mut place = 0;
     let mut depth = 0;
-    let mut level = no_level(pods);
+    let mut level = Level {
+        keyed: false,
+        at: 0,
+        pods,
+    };
     loop {
         match first_pod(level.keyed, level.pods) {
             Some(first) => {
                 let listed = list_pod(out, place, levels - depth, depth, level, first);
                 place = listed.place;
-                let behind = Level {
-                    at: level.at + (level.pods.len() - first.rest.len()),
-                    pods: first.rest,
-                    ..level
-                };
                 match listed.inner {
                     Some(inner) => {
-                        outer[depth] = behind;
+                        outer[depth] = Inside {
+                            keyed: level.keyed,
+                            pods: first.rest,
+                        };
                         depth += 1;
                         level = inner;
                     }
-                    None => level = behind,
+                    None => {
+                        level = Level {
+                            at: level.at + (level.pods.len() - first.rest.len()),
+                            pods: first.rest,
+                            ..level
+                        };
+                    }
                 }
             }
             None => {
@@ -117,10 +121,20 @@ fn list_pods<'a>(pods: &'a [u8], out: &mut [Item], outer: &mut [Level<'a>], leve
                     return place;
                 }
                 depth -= 1;
-                level = outer[depth];
+                let around = outer[depth];
+                level = Level {
+                    keyed: around.keyed,
+                    at: behind_padding(level.at + level.pods.len()),
+                    pods: around.pods,
+                };
             }
         }
     }
+}
+
+/// The byte at which the next pod begins, behind the padding of a body that ends at the byte `end`.
+fn behind_padding(end: usize) -> usize {
+    end.div_ceil(HEADER_LEN) * HEADER_LEN
 }
 
 /// Lists one pod, and the elements and values in it. The pods in it are answered where there are levels for them.

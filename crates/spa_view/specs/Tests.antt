@@ -39,6 +39,10 @@ IsObjectPod = IsOfType object_type header_size
 abbrev pub IsSequencePod : List ℕ → Type 0
 IsSequencePod b = word_at b 4 ≡ sequence_type
 
+-- a sequence that has its unit and the word behind it, which stand before the controls
+abbrev pub HoldsControls : List ℕ → Type 0
+HoldsControls = IsOfType sequence_type header_size
+
 abbrev pub IsChoicePod : List ℕ → Type 0
 IsChoicePod = IsOfType choice_type choice_header_size
 

@@ -1,12 +1,12 @@
 //! Zero-copy views of objects, and of their properties.
-ghost use Rattle.std.specs.Prelude.{◌≡◌, ◌≤◌, ◌<◌, ◌+◌, ◌*◌, ℕ, IfNone, IfSome, drop, length};
+ghost use Rattle.std.specs.Prelude.{◌≡◌, ◌≤◌, ◌<◌, ◌+◌, ◌*◌, ℕ, IfErr, IfNone, IfOk, IfSome, OnOk, drop, length};
 ghost use Rattle.spa_format.specs.Words.{body_of, header_size, size_limit, word_at};
 ghost use Rattle.spa_format.specs.Walk.{extent_behind};
 
 use crate::flags::{DONT_FIXATE, PodPropFlags};
 use crate::pod::Pod;
 use spa_bytes::{HEADER_LEN, extent_of, u32_at};
-use spa_utils::{Id, SpaTypes};
+use spa_utils::{Errno, Id, SpaTypes};
 
 /// The offsets of the type and of the id in an object's body.
 const OBJECT_TYPE_AT: usize = 0;
@@ -92,6 +92,27 @@ impl<'a> PodObject<'a> {
             }
         }
         true
+    }
+}
+
+impl<'a> Pod<'a> {
+    ghost use Rattle.spa_view.specs.Tests.{HoldsControls};
+    ghost use Rattle.spa_view.specs.View.{pod_bytes, props_left};
+    ghost use Rattle.spa_format.specs.Walk.{properties_of, property_walk};
+
+    /// An iterator over the controls of a sequence, which are as the properties of an object: their keys are offsets, and their flags the numbers of
+    /// their types. INVAL exactly where the pod is no sequence, or has no room for the two words before the controls.
+    pub fn controls(&self) -> Result<PodObjectIter<'a>, Errno>
+        ensures ok { OnOk result (HoldsControls (pod_bytes self.now)) }
+        ensures walk { IfOk result (λ controls. props_left controls ≡ property_walk (properties_of (pod_bytes self.now))) }
+        ensures refused { IfErr result (λ e. (¬ (HoldsControls (pod_bytes self.now))) × (e ≡ Errno.INVAL)) }
+    {
+        let body = self.body();
+        if !self.is_sequence() || body.len() < HEADER_LEN {
+            return Err(Errno::INVAL);
+        }
+        let (_, left) = body.split_at(HEADER_LEN);
+        Ok(PodObjectIter { left })
     }
 }
 

@@ -391,6 +391,26 @@ fn properties_are_found(rt: HostRuntime) -> Result<(), Fail> {
     Ok(())
 }
 
+/// Whether the pod of these words is refused as a sequence.
+fn has_no_controls(alloc: Global, words: &str) -> Result<bool, Fail> {
+    let bytes = bytes_spelled(alloc, words)?;
+    Ok(pod_at(&bytes)?.controls().err() == Some(Errno::INVAL))
+}
+
+#[test]
+fn controls_of_a_sequence_are_given(rt: HostRuntime) -> Result<(), Fail> {
+    let bytes = bytes_spelled(rt.alloc(), "48 16 0 0 5 2 3 9 4209808 0 48 2 0 9")?;
+    let mut said = String::new(rt.alloc());
+    for control in pod_at(&bytes)?.controls().ok().ok_or("no sequence")? {
+        push_property(&mut said, &control)?;
+    }
+    assert_said(&rt, said.as_str(), "5:2:9:3 48:2:9:0 ", "controls");
+    for words in &["4 16 0 0", "8 15 0 0", "0 14"] {
+        assert_holds(&rt, has_no_controls(rt.alloc(), *words)?, *words);
+    }
+    Ok(())
+}
+
 fn assert_fixates(rt: &impl Abort, bytes: &mut [u8], wanted: Result<(), Errno>, words: &str) {
     assert_holds(rt, PodObject::fixate(bytes) == wanted, words);
 }

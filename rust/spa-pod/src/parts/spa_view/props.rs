@@ -4,7 +4,7 @@
 use crate::parts::spa_view::flags::{DONT_FIXATE, PodPropFlags};
 use crate::parts::spa_view::pod::Pod;
 use crate::parts::spa_bytes::{HEADER_LEN, extent_of, u32_at};
-use crate::parts::spa_utils::{Id, SpaTypes};
+use crate::parts::spa_utils::{Errno, Id, SpaTypes};
 
 /// The offsets of the type and of the id in an object's body.
 const OBJECT_TYPE_AT: usize = 0;
@@ -70,6 +70,19 @@ impl<'a> PodObject<'a> {
             }
         }
         true
+    }
+}
+
+impl<'a> Pod<'a> {
+    /// An iterator over the controls of a sequence, which are as the properties of an object: their keys are offsets, and their flags the numbers of
+    /// their types. INVAL exactly where the pod is no sequence, or has no room for the two words before the controls.
+    pub fn controls(&self) -> Result<PodObjectIter<'a>, Errno> {
+        let body = self.body();
+        if !self.is_sequence() || body.len() < HEADER_LEN {
+            return Err(Errno::INVAL);
+        }
+        let (_, left) = body.split_at(HEADER_LEN);
+        Ok(PodObjectIter { left })
     }
 }
 

@@ -1,5 +1,5 @@
 //! Objects whose properties are found by their keys, in any order.
-ghost use Rattle.std.specs.Prelude.{◌≡◌, ◌⊎◌, ℕ, List, MatchOption, false, true, ⊤, IfErr, IfOk, IsErrAnd};
+ghost use Rattle.std.specs.Prelude.{◌≡◌, ◌⊎◌, ℕ, List, MatchOption, Option, false, true, ⊤, IfErr, IfOk, IsErrAnd};
 ghost use Rattle.std.specs.Borrow.{Bor};
 ghost use Rattle.spa_fixed_sized.specs.declared.fault.DeserializeError.{DeserializeError};
 ghost use Rattle.spa_fixed_sized.specs.declared.fault.DeserializeError.TheVariants as error;
@@ -7,7 +7,7 @@ ghost use Rattle.spa_format.specs.Pod.{AreProperties};
 ghost use Rattle.spa_format.specs.Tree.{Properties, Tree};
 ghost use Rattle.spa_typed_read.specs.Exactly.{RefusesExactly};
 ghost use Rattle.spa_typed_read.specs.ExactlyLaws.{made_exactly};
-ghost use Rattle.spa_typed_read.specs.Lookup.{HasFirst, IsUnder, LacksProperty, LeadsToAll, NoneRead, ReadsObject, RefusesObjectOf, RefusesRequired, RefusesUnder, TakesIn};
+ghost use Rattle.spa_typed_read.specs.Lookup.{FindsIn, FindsUnder, HasFirst, IsUnder, LacksProperty, LeadsToAll, NoneRead, ReadsObject, RefusesObjectOf, RefusesRequired, RefusesUnder, TakesIn};
 ghost use Rattle.spa_bodies.specs.Reading.{OnFault, OnMemory};
 
 use crate::deserializer::{DeserializeSuccess, PodDeserialize, PodDeserializer};
@@ -28,7 +28,7 @@ pub trait DeserializeProperties<'de>: Sized + Drop {
     /// The results as which these properties may be read.
     ghost reads_properties: { Properties → Self → Type 0 };
 
-    /// The refusals of these properties in these bytes.
+    /// The refusals of these properties in these bytes: that of the first of them which isn't read.
     ghost refuses_properties: { List ℕ → DeserializeError (Bor (List ℕ)) → Type 0 };
 
     /// Whether their reads take memory, in these bytes.
@@ -44,7 +44,8 @@ pub trait DeserializeProperties<'de>: Sized + Drop {
 
     /// Finds these properties in an object, from `from` on: no property before that place has one of their keys.
     ///
-    /// Refusals: `PropertyMissing` where a `Required` one isn't there, else those of `find_property`.
+    /// Refusals: `PropertyMissing` where a `Required` one isn't there, else those of `find_property`; where several aren't read, that of the first
+    /// in the order of this type.
     fn find_from(
         reader: &ObjectPodDeserializer<'de>,
         from: &'de [u8],
@@ -52,7 +53,7 @@ pub trait DeserializeProperties<'de>: Sized + Drop {
         ensures found { reader.now.reader.failed ≡ false → (b : List ℕ) → LeadsToAll asks from.now b
             → IfOk result (λ x. (ps : Properties) → AreProperties ps b → reads_properties ps x) }
         ensures stays { reader.now.reader.failed ≡ true → IsErrAnd result (λ e. e ≡ error.FailedReader) }
-        // A refusal is that of the property that isn't read. Unless it is for want of memory, these bytes are no such properties.
+        // A refusal is that of the first property that isn't read. Unless it is for want of memory, these bytes are no such properties.
         ensures named { reader.now.reader.failed ≡ false → (b : List ℕ) → LeadsToAll asks from.now b
             → IfErr result (refuses_properties b) }
         ensures refused { reader.now.reader.failed ≡ false → (b : List ℕ) → LeadsToAll asks from.now b
@@ -95,7 +96,7 @@ impl<
 > DeserializeProperties<'de> for (Required<KEY, A>, R) {
     ghost reads_properties = { λ properties x. HasFirst KEY (λ value. A.reads value x.0.0) properties × R.reads_properties properties x.1 };
 
-    ghost refuses_properties = { λ b e. RefusesRequired A.refuses KEY b e ⊎ R.refuses_properties b e };
+    ghost refuses_properties = { λ b e. RefusesRequired A.refuses KEY b e ⊎ ((x : A) × FindsUnder A.reads KEY b x × R.refuses_properties b e) };
 
     ghost takes_memory = { λ b. IsUnder KEY A.takes_memory b ⊎ R.takes_memory b };
 
@@ -133,7 +134,7 @@ impl<
 > DeserializeProperties<'de> for (Optional<KEY, A>, R) {
     ghost reads_properties = { λ properties x. MatchOption x.0.0 (LacksProperty KEY properties) (λ a. HasFirst KEY (λ value. A.reads value a) properties) × R.reads_properties properties x.1 };
 
-    ghost refuses_properties = { λ b e. RefusesUnder A.refuses KEY b e ⊎ R.refuses_properties b e };
+    ghost refuses_properties = { λ b e. RefusesUnder A.refuses KEY b e ⊎ ((x : Option A) × FindsIn A.reads KEY b x × R.refuses_properties b e) };
 
     ghost takes_memory = { λ b. IsUnder KEY A.takes_memory b ⊎ R.takes_memory b };
 

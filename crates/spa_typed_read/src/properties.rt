@@ -226,14 +226,15 @@ impl<'de> ObjectPodDeserializer<'de> {
     /// Finds these properties among the remaining ones, each the first with its key, and doesn't move the reader. Where the object has them in the
     /// order in which they are asked for, one walk finds them all; each search that finds none takes one walk more.
     ///
-    /// Refusals: `PropertyMissing` where a `Required` one isn't there, else those of `find_property`.
+    /// Refusals: `PropertyMissing` where a `Required` one isn't there, else those of `find_property`; where several aren't read, that of the first
+    /// in the order in which they are asked for.
     pub fn find_properties<P: DeserializeProperties<'de>>(
         &self,
     ) -> Result<P, DeserializeError<&'de [u8]>>
         ensures found { self.now.reader.failed ≡ false
             → IfOk result (λ x. (ps : Properties) → AreProperties ps self.now.reader.left → P.reads_properties ps x) }
         ensures stays { self.now.reader.failed ≡ true → IsErrAnd result (λ e. e ≡ error.FailedReader) }
-        // A refusal is that of the property that isn't read. Unless it is for want of memory, these bytes are no such properties.
+        // A refusal is that of the first property that isn't read. Unless it is for want of memory, these bytes are no such properties.
         ensures named { self.now.reader.failed ≡ false → IfErr result (P.refuses_properties self.now.reader.left) }
         ensures refused { self.now.reader.failed ≡ false
             → IfErr result (λ e. OnFault (NoneRead P.reads_properties self.now.reader.left) e) }

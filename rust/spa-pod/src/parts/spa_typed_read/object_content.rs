@@ -21,7 +21,8 @@ pub trait DeserializeProperties<'de>: Sized {
 
     /// Finds these properties in an object, from `from` on: no property before that place has one of their keys.
     ///
-    /// Refusals: `PropertyMissing` where a `Required` one isn't there, else those of `find_property`.
+    /// Refusals: `PropertyMissing` where a `Required` one isn't there, else those of `find_property`; where several aren't read, that of the first
+    /// in the order of this type.
     fn find_from(
         reader: &ObjectPodDeserializer<'de>,
         from: &'de [u8],

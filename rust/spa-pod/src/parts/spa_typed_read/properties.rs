@@ -150,7 +150,8 @@ impl<'de> ObjectPodDeserializer<'de> {
     /// Finds these properties among the remaining ones, each the first with its key, and doesn't move the reader. Where the object has them in the
     /// order in which they are asked for, one walk finds them all; each search that finds none takes one walk more.
     ///
-    /// Refusals: `PropertyMissing` where a `Required` one isn't there, else those of `find_property`.
+    /// Refusals: `PropertyMissing` where a `Required` one isn't there, else those of `find_property`; where several aren't read, that of the first
+    /// in the order in which they are asked for.
     pub fn find_properties<P: DeserializeProperties<'de>>(
         &self,
     ) -> Result<P, DeserializeError<&'de [u8]>> {

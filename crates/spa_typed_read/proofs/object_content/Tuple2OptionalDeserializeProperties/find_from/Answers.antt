@@ -40,9 +40,12 @@ returns-in-Ok-find_from-clause-found g c = λ good b all ps m.
     )
 
 pub returns-in-Err-find_from-clause-named : goal.returns-in-Err-find_from-clause-named
-returns-in-Err-find_from-clause-named g c = λ good b all.
-    inr (c.in-Err-find_from.ensures.named good b
-    (all_from _ g.R.DeserializeProperties.asks c.args.from.now _ b (λ key a. inr a) all (c.in-Ok.ensures.next good)))
+returns-in-Err-find_from-clause-named g c = λ good b all. inr (
+  c.in-Ok.found.0,
+  finds_from g.A.PodDeserialize.reads g.row.KEY c.args.from.now b c.in-Ok.found.0 (all.each g.row.KEY (inl refl)) (c.in-Ok.ensures.found good),
+  c.in-Err-find_from.ensures.named good b
+      (all_from _ g.R.DeserializeProperties.asks c.args.from.now _ b (λ key a. inr a) all (c.in-Ok.ensures.next good)),
+)
 
 pub returns-in-Err-find_from-clause-refused : goal.returns-in-Err-find_from-clause-refused
 returns-in-Err-find_from-clause-refused g c = λ good b all.

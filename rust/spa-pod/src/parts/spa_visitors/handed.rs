@@ -15,6 +15,12 @@ pub trait Handed: Sized {
 #[derive(Debug)]
 pub struct HandedVisitor<T>(pub(crate) PhantomData<T>);
 
+impl<T> Default for HandedVisitor<T> {
+    fn default() -> HandedVisitor<T> {
+        HandedVisitor(PhantomData)
+    }
+}
+
 impl<'de, T: Handed> Visitor<'de> for HandedVisitor<T> {
     type Value = T;
 

@@ -23,6 +23,9 @@ pub fn rewrite_in_place(
 ) -> Result<usize, (usize, DeserializeError<Option<usize>>)> {
     let len = bytes.len();
     let (first, others) = canonical_stretch(bytes);
+    if others.is_empty() {
+        return Ok(len);
+    }
     let from = first.len();
     match changed_pods(others) {
         Ok(changed) => {

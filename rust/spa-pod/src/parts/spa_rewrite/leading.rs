@@ -91,6 +91,11 @@ pub(crate) fn look_for_canonical<'a>(
     if left.is_empty() {
         return CanonicalLook::Same;
     }
+    if !is_inside_first(keyed, left)
+        && let First::Differs = first_of(keyed, left)
+    {
+        return CanonicalLook::Differs;
+    }
     match look_on(keyed, left, frames) {
         CanonicalLook::Same => CanonicalLook::Same,
         CanonicalLook::Differs => CanonicalLook::Differs,

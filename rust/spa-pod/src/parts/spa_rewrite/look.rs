@@ -109,7 +109,7 @@ pub(crate) fn none_waiting(pods: &[u8]) -> Waiting<'_> {
 }
 
 /// How many lists can wait in the short array.
-pub(crate) const FEW: usize = 16;
+pub(crate) const FEW: usize = 8;
 
 /// How many can wait in the next one, which is taken where the short one is full.
 pub(crate) const SOME: usize = 64;
@@ -155,13 +155,14 @@ pub(crate) fn more_unasked(unasked: usize) -> usize {
     if unasked < BLOCK { 4 * unasked } else { BLOCK }
 }
 
-/// Finds the pods of an input up to the last one that isn't canonical, and the canonical ones behind them. It is refused as `look_at_pods` is.
+/// Finds the pods of an input up to the last one that isn't canonical, or the first one, and the canonical ones behind them: of the first it isn't asked
+/// whether it is canonical. It is refused as `look_at_pods` is.
 pub fn changed_pods(pods: &[u8]) -> Result<ChangedPods, (&[u8], Rejected<'_>)> {
     let mut frames = few_frames(pods);
     let mut left = pods;
     let mut tail = pods;
     let mut surplus = 0;
-    let (mut unasked, mut asked_from) = (1, 0);
+    let (mut unasked, mut asked_from) = (1, 1);
     loop {
         let asked = pods.len() - left.len() >= asked_from;
         let other = behind_canonical_pods(asked, left);

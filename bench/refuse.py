@@ -287,7 +287,8 @@ def refuse_in_tests(library, crates, limit):
 def built(ending):
     """The crates whose names end so and that are built."""
     found = sorted(it.parents[1].name for it in HERE.parent.glob(f"crates/*{ending}/out/*{ending}"))
-    return [it for it in found if (HERE.parent / f"crates/{it}/out/{it}{'_tests' if ending == '_tests' else ''}").is_file()]
+    found = [it for it in found if (HERE.parent / f"crates/{it}/out/{it}{'_tests' if ending == '_tests' else ''}").is_file()]
+    return found or sys.exit("refuse.py: no crate of these is built: rt ci of the Rattle kit does so; what cargo builds is tried by refuse in rust/beside")
 
 
 def main(words):

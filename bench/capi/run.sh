@@ -6,12 +6,14 @@
 set -eu
 here=$(dirname "$(readlink -f "${BASH_SOURCE[0]}")")
 root=$here/../..
+library=${SPAV_LIB:-$root/capi/out}/libspav.a
+[ -f "$library" ] || { echo "run.sh: $library isn't there: make -C capi builds it, by the Rattle kit or by cargo" >&2; exit 1; }
 room=$(mktemp -d)
 trap 'rm -rf "$room"' EXIT
 export GLIBC_TUNABLES=glibc.cpu.x86_rep_movsb_threshold=0x7fffffffffff:glibc.cpu.x86_rep_stosb_threshold=0x7fffffffffff
 gcc -O3 -g -Wall -I"$root/capi" "$here/calls.c" -c -o "$room/calls.o"
 gcc -O3 -g "$here/one_pass.c" -c -o "$room/one_pass.o"
-gcc "$room/calls.o" "$room/one_pass.o" "${SPAV_LIB:-$root/capi/out}/libspav.a" -o "$room/calls"
+gcc "$room/calls.o" "$room/one_pass.o" "$library" -o "$room/calls"
 python3 - "$root" "$room" <<'PY'
 import pathlib, struct, sys
 root, room = map(pathlib.Path, sys.argv[1:])

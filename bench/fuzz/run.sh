@@ -5,10 +5,12 @@ set -eu
 here=$(dirname "$(readlink -f "${BASH_SOURCE[0]}")")
 root=$(readlink -f "$here/../..")
 room=${2:-$root/bench/out/fuzz}
+library=${SPAV_LIB:-$root/capi/out}/libspav.a
+[ -f "$library" ] || { echo "run.sh: $library isn't there: make -C capi builds it, by the Rattle kit or by cargo" >&2; exit 1; }
 mkdir -p "$room/in"
 compile=(clang -fsanitize=fuzzer -DLIBFUZZER)
 if command -v afl-clang-fast > /dev/null; then compile=(afl-clang-fast); fi
-"${compile[@]}" -O2 -g -Wno-everything -I"$root/capi" "$here/fuzz.c" "$root/bench/capi/one_pass.c" "${SPAV_LIB:-$root/capi/out}/libspav.a" -o "$room/fuzz"
+"${compile[@]}" -O2 -g -Wno-everything -I"$root/capi" "$here/fuzz.c" "$root/bench/capi/one_pass.c" "$library" -o "$room/fuzz"
 cp "$root"/examples/*.pod "$room/in/"
 python3 - "$root" "$room/in" <<'PY'
 import pathlib, sys

@@ -40,14 +40,6 @@ pub mod pod {
     pub use crate::api::values::{WrongType, same};
     pub use crate::parts::libspa::pod::same as try_same;
     pub use crate::parts::libspa::pod::*;
-
-    /// Writing values.
-    pub mod serialize {
-        #[cfg(feature = "std")]
-        #[cfg_attr(docsrs, doc(cfg(feature = "std")))]
-        pub use crate::api::others::Buffer;
-        pub use crate::parts::libspa::pod::serialize::*;
-    }
 }
 
 /// Negotiation: the object in which two objects meet, each of whose values both admit.

@@ -1,133 +1,121 @@
-//! Other crates' types, in whose place stand some with the same shape.
-#![cfg(feature = "std")]
-use spa_pod::pod::Value;
-use spa_pod::pod::serialize::{Buffer, GenError, PodSerializer};
-use std::io::Write;
-use std::ops::{Deref, DerefMut};
+//! Other crates' types, for which stand the crates in rust/stand-ins. Those crates themselves are in rust/others.
+#![cfg(all(feature = "arrayvec", feature = "serde"))]
+use arrayvec::ArrayVec;
+use serde::de::{Deserialize, Deserializer, SeqAccess, Visitor};
+use serde::ser::{Serialize, Serializer};
+use spa_pod::pod::serialize::{GenError, PodSerializer};
+use spa_pod::pod::{MOST_LEVELS, Value};
+use std::fmt::Display;
 
-/// Bytes in an array, as the crate arrayvec has them.
-#[derive(Default)]
-struct Few {
-    room: [u8; 24],
-    len: usize,
+#[test]
+fn an_array_of_arrayvec_is_an_output() {
+    // A struct of an Int, whose size word is written behind its body.
+    let (out, len) = PodSerializer::serialize(ArrayVec::<u8, 24>::new(), &Value::Struct(vec![Value::Int(7)])).unwrap();
+    let words = [16_u32, 14, 4, 4, 7, 0];
+    assert_eq!(out.to_vec(), words.iter().flat_map(|word| word.to_le_bytes()).collect::<Vec<u8>>());
+    assert_eq!(len, 24);
+    let full = PodSerializer::serialize(ArrayVec::<u8, 24>::new(), &Value::Struct(vec![Value::Int(7), Value::None]));
+    assert_eq!(full.err(), Some(GenError::Full));
 }
 
-impl Deref for Few {
-    type Target = [u8];
+/// What a format says of a fault.
+#[derive(Debug, PartialEq)]
+struct Fault(String);
 
-    fn deref(&self) -> &[u8] {
-        &self.room[..self.len]
+impl serde::ser::Error for Fault {
+    fn custom<T: Display>(words: T) -> Fault {
+        Fault(words.to_string())
     }
 }
 
-impl DerefMut for Few {
-    fn deref_mut(&mut self) -> &mut [u8] {
-        &mut self.room[..self.len]
+impl serde::de::Error for Fault {
+    fn custom<T: Display>(words: T) -> Fault {
+        Fault(words.to_string())
     }
 }
 
-impl Write for Few {
-    fn write(&mut self, bytes: &[u8]) -> std::io::Result<usize> {
-        let count = bytes.len().min(self.room.len() - self.len);
-        self.room[self.len..self.len + count].copy_from_slice(&bytes[..count]);
-        self.len += count;
-        Ok(count)
-    }
+/// A format that has bytes as they are.
+struct Plain<'a>(&'a mut Vec<u8>);
 
-    fn flush(&mut self) -> std::io::Result<()> {
+impl Serializer for Plain<'_> {
+    type Ok = ();
+    type Error = Fault;
+
+    fn serialize_bytes(self, bytes: &[u8]) -> Result<(), Fault> {
+        self.0.extend(bytes);
         Ok(())
     }
 }
 
-#[test]
-fn a_buffer_of_another_crate_is_an_output() {
-    // A struct of an Int, whose size word is written behind its body.
-    let (Buffer(out), len) = PodSerializer::serialize(Buffer(Few::default()), &Value::Struct(vec![Value::Int(7)])).unwrap();
-    let words = [16_u32, 14, 4, 4, 7, 0];
-    assert_eq!(out.to_vec(), words.iter().flat_map(|word| word.to_le_bytes()).collect::<Vec<u8>>());
-    assert_eq!(len, 24);
-    let full = PodSerializer::serialize(Buffer(Few::default()), &Value::Struct(vec![Value::Int(7), Value::None]));
-    assert_eq!(full.err(), Some(GenError::Full));
+impl<'de> Deserializer<'de> for Plain<'de> {
+    type Error = Fault;
+
+    fn deserialize_u8<V: Visitor<'de>>(self, visitor: V) -> Result<V::Value, Fault> {
+        visitor.visit_u8(self.0.remove(0))
+    }
+
+    fn deserialize_bytes<V: Visitor<'de>>(self, visitor: V) -> Result<V::Value, Fault> {
+        visitor.visit_bytes(self.0)
+    }
 }
 
-/// The traits of serde that the module names, over sequences of numbers alone.
-mod small_serde {
-    pub mod ser {
-        pub trait Error {
-            fn custom<T: std::fmt::Display>(words: T) -> Self;
+/// A format that has no bytes, but sequences of numbers, as JSON.
+struct Numbers<'a>(std::slice::Iter<'a, u8>);
+
+impl<'de> Deserializer<'de> for Numbers<'de> {
+    type Error = Fault;
+
+    fn deserialize_u8<V: Visitor<'de>>(mut self, visitor: V) -> Result<V::Value, Fault> {
+        visitor.visit_u8(*self.0.next().expect("a number"))
+    }
+
+    fn deserialize_bytes<V: Visitor<'de>>(self, visitor: V) -> Result<V::Value, Fault> {
+        visitor.visit_seq(self)
+    }
+}
+
+impl<'de> SeqAccess<'de> for Numbers<'de> {
+    type Error = Fault;
+
+    fn next_element<T: Deserialize<'de>>(&mut self) -> Result<Option<T>, Fault> {
+        if self.0.as_slice().is_empty() {
+            return Ok(None);
         }
-    }
-
-    pub mod de {
-        pub use super::ser::Error;
-    }
-
-    pub trait Serializer {
-        type Ok;
-        type Error: ser::Error;
-        fn take(self, bytes: &[u8]) -> Result<Self::Ok, Self::Error>;
-    }
-
-    pub trait Serialize {
-        fn serialize<S: Serializer>(&self, to: S) -> Result<S::Ok, S::Error>;
-    }
-
-    pub trait Deserializer<'de> {
-        type Error: de::Error;
-        fn give(self) -> Result<Vec<u8>, Self::Error>;
-    }
-
-    pub trait Deserialize<'de>: Sized {
-        fn deserialize<D: Deserializer<'de>>(from: D) -> Result<Self, D::Error>;
-    }
-
-    impl Serialize for Vec<u8> {
-        fn serialize<S: Serializer>(&self, to: S) -> Result<S::Ok, S::Error> {
-            to.take(self)
-        }
-    }
-
-    impl<'de> Deserialize<'de> for Vec<u8> {
-        fn deserialize<D: Deserializer<'de>>(from: D) -> Result<Vec<u8>, D::Error> {
-            from.give()
-        }
+        let number = T::deserialize(Numbers(self.0.clone()))?;
+        self.0.next();
+        Ok(Some(number))
     }
 }
 
-spa_pod::pod_bytes!(mod pod_bytes by small_serde);
-
-/// Numbers with commas between them.
-struct Words(String);
-
-impl small_serde::ser::Error for String {
-    fn custom<T: std::fmt::Display>(words: T) -> String {
-        words.to_string()
-    }
-}
-
-impl small_serde::Serializer for Words {
-    type Ok = String;
-    type Error = String;
-
-    fn take(self, bytes: &[u8]) -> Result<String, String> {
-        Ok(self.0 + &bytes.iter().map(u8::to_string).collect::<Vec<_>>().join(","))
-    }
-}
-
-impl small_serde::Deserializer<'_> for Words {
-    type Error = String;
-
-    fn give(self) -> Result<Vec<u8>, String> {
-        self.0.split(',').map(|word| word.parse().map_err(|_| "no number".to_string())).collect()
-    }
+/// What serde's trait makes of these bytes, as bytes and as numbers.
+fn both(bytes: &[u8]) -> [Result<Value, Fault>; 2] {
+    [Value::deserialize(Plain(&mut bytes.to_vec())), Value::deserialize(Numbers(bytes.iter()))]
 }
 
 #[test]
 fn a_value_is_carried_as_its_bytes() {
-    let text = pod_bytes::serialize(&Value::Int(313), Words(String::new())).unwrap();
-    assert_eq!(text, "4,0,0,0,4,0,0,0,57,1,0,0,0,0,0,0");
-    assert_eq!(pod_bytes::deserialize(Words(text)), Ok(Value::Int(313)));
-    assert_eq!(pod_bytes::deserialize(Words("4,0".into())), Err("the bytes are cut short, at byte 0".into()));
-    assert_eq!(pod_bytes::deserialize(Words("x".into())), Err("no number".into()));
-    assert_eq!(pod_bytes::serialize(&Value::from("a\0"), Words(String::new())), Err("NulInText".into()));
+    let mut bytes = Vec::new();
+    Value::Int(313).serialize(Plain(&mut bytes)).unwrap();
+    assert_eq!(bytes, [4, 0, 0, 0, 4, 0, 0, 0, 57, 1, 0, 0, 0, 0, 0, 0]);
+    assert_eq!(both(&bytes), [Ok(Value::Int(313)), Ok(Value::Int(313))]);
+    let refused = |words: &str| [Err(Fault(words.into())), Err(Fault(words.into()))];
+    assert_eq!(both(&bytes[..2]), refused("the bytes are cut short, at byte 0"));
+    bytes.push(0);
+    assert_eq!(both(&bytes), refused("a pod ends at byte 16 of 17"));
+    let unwritten = Value::from("a\0").serialize(Plain(&mut Vec::new()));
+    assert_eq!(unwritten, Err(Fault("NulInText".into())));
+}
+
+#[test]
+fn values_are_carried_to_the_limit_of_depth() {
+    let mut value = Value::Struct(Vec::new());
+    for _ in 1..MOST_LEVELS {
+        value = Value::Struct(vec![value]);
+    }
+    let mut bytes = Vec::new();
+    value.serialize(Plain(&mut bytes)).unwrap();
+    assert_eq!(both(&bytes), [Ok(value.clone()), Ok(value.clone())]);
+    bytes.clear();
+    Value::Struct(vec![value]).serialize(Plain(&mut bytes)).unwrap();
+    assert!(both(&bytes).iter().all(Result::is_err));
 }

@@ -7,7 +7,10 @@ mod errors;
 pub mod faults;
 pub mod levels;
 mod numbers;
-pub mod others;
 pub mod reading;
 pub mod values;
 mod views;
+#[cfg(feature = "arrayvec")]
+mod with_arrayvec;
+#[cfg(feature = "serde")]
+mod with_serde;

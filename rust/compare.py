@@ -82,6 +82,7 @@ RULES = [
     ('laws are not public', r'', r'# [ cfg ( feature = "parts" ) ]'),
     ('exports', r'# \[ unsafe \( no_mangle \) \] pub extern "C" fn', r'pub fn'),
     ('exports', r'mod (\w+) ;', r'pub ( crate ) mod \1 ;'),
+    ('reach', r'pub', r'pub ( crate )'),
     ('asserted', r'', r'assert ! \( [^;]* \) ;'),
     ('inlined', r'', r'# [ cfg_attr ( not ( debug_assertions ) , inline ( always ) ) ]'),
     ('inlined', r'', r'# [ inline ]'),
@@ -243,7 +244,7 @@ def judge_uses(rattles, rusts, name, macros, laws):
         macro = re.fullmatch(r'(?:crate|spa_pod)::(\w+)', path)
         places = [same_place(path, name), *(path.replace('crate::shims::numerals', kit) for kit in ('hex', 'itoa', 'ryu', 'fast_float')),
                   path.replace('spa_pod::shims::numerals', 'itoa'), path.replace('spa_pod::shims::numerals', 'ryu')]
-        found = next((p for p in [*left, *may_go] if p[0] == public and (p[1] in places
+        found = next((p for p in [*left, *may_go] if (p[0] == public or (p[0], public) == ('pub ', 'crate ')) and (p[1] in places
                       or macro and p[1].split('::')[-1] == macro.group(1) and macro.group(1) in macros)), None)
         if found in may_go:
             may_go[found] -= count
@@ -253,6 +254,7 @@ def judge_uses(rattles, rusts, name, macros, laws):
         else:
             left[found] -= count
             counts['imports'] += (found[1] != path) * count
+            counts['reach'] += (found[0] != public) * count
     faults += ['- use %s%s' % key for key, count in left.items() if count > 0]
     return counts, faults
 

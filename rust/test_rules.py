@@ -257,6 +257,21 @@ impl Id {
         self.assertEqual(faults(found, source), [])
         self.assertNotEqual(faults(source.replace('deserialize_any', 'deserialize_other'), source), [])
 
+    def test_what_nobody_else_names_is_for_the_crate_alone(self):
+        file, root, others = ('spa-pod/src/parts/' + path for path in ('spa_x/a.rs', 'spa_x/mod.rs', 'libspa/z.rs'))
+        made = {
+            file: 'pub fn ours() {}\n\npub fn theirs() {}\n\npub const ALSO: u32 = 1;\n\npub struct Type;\n',
+            root: 'pub use a::{Type, ours, theirs};\npub use a::ALSO;\n',
+            others: 'pub fn b() {}\n',
+            'spav/src/parts/y.rs': 'theirs',
+        }
+        found = erase.close(dict(made), ['// ours', 'ALSO'])
+        self.assertEqual(found, {**made, file: made[file].replace('pub fn ours', 'pub(crate) fn ours'),
+                                 root: 'pub(crate) use a::ours;\npub use a::{Type, theirs};\npub use a::ALSO;\n'})
+        for path in (file, root):
+            self.assertEqual(faults(found[path], made[path]), [])
+            self.assertNotEqual(faults(made[path], found[path]), [])
+
     def test_a_place_that_stands_nowhere_is_an_error(self):
         self.assertRaises(ValueError, surface.surfaced, 'spa-pod/src/parts/spa_view/settled.rs', 'text')
 

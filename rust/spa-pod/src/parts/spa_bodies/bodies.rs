@@ -7,7 +7,7 @@ use crate::parts::spa_fixed_sized::{CanonicalFixedSizedPod, Refusal};
 use core::str;
 
 /// Reads the value of type `T` with this body. Refused as `WrongSize` where the body has another length than those of the type.
-pub fn read_fixed<T: CanonicalFixedSizedPod>(body: &[u8]) -> Result<T, Refusal> {
+pub(crate) fn read_fixed<T: CanonicalFixedSizedPod>(body: &[u8]) -> Result<T, Refusal> {
     if body.len() != T::SIZE {
         return Err(Refusal::WrongSize);
     }
@@ -35,7 +35,7 @@ pub fn text_of(body: &[u8]) -> Option<&str> {
 const ADDRESS_AT: usize = 8;
 
 /// Reads the type and the address of a pointer with this body. Refused as `WrongSize` where the body has neither 12 nor 16 bytes.
-pub fn read_pointer(body: &[u8]) -> Result<(u32, u64), Refusal> {
+pub(crate) fn read_pointer(body: &[u8]) -> Result<(u32, u64), Refusal> {
     match body.len() {
         SHORT_POINTER_LEN => Ok((u32_at(body, 0), u64::from(u32_at(body, ADDRESS_AT)))),
         POINTER_LEN => Ok((u32_at(body, 0), u64_at(body, ADDRESS_AT))),

@@ -9,11 +9,11 @@ use crate::parts::spa_utils::{Fd, Float32, Float64, Fraction, Id, Rectangle, Spa
 pub const CHOICE_HEADER_LEN: usize = 16;
 
 /// The offset in a choice's body of the type of its values.
-pub const VALUE_TYPE_AT: usize = 12;
+pub(crate) const VALUE_TYPE_AT: usize = 12;
 
 /// Checks that the body is that of an array over any of the ten types. Refused as `InvalidType` or `WrongSize`, where that fault stands. It asks for
 /// no memory.
-pub fn check_array(body: &[u8]) -> Result<(), Refusal> {
+pub(crate) fn check_array(body: &[u8]) -> Result<(), Refusal> {
     if body.len() < HEADER_LEN {
         return Err(Refusal::WrongSize);
     }
@@ -42,7 +42,7 @@ fn check_array_of<T: CanonicalFixedSizedPod>(body: &[u8]) -> Result<(), Refusal>
 
 /// Checks that the body is that of a choice over any of the nine types. Refused as `InvalidType`, `InvalidChoiceType`, `MissingChoiceValues` or
 /// `WrongSize`, where that fault stands, and as `OutOfMemory`.
-pub fn check_choice(body: &[u8]) -> Result<(), Refusal> {
+pub(crate) fn check_choice(body: &[u8]) -> Result<(), Refusal> {
     if body.len() < CHOICE_HEADER_LEN {
         return Err(Refusal::WrongSize);
     }

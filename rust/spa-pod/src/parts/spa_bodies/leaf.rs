@@ -7,7 +7,7 @@ use crate::parts::spa_utils::Choice;
 
 /// Appends the encoding of a value of fixed size.
 #[cfg_attr(not(debug_assertions), inline(always))]
-pub fn put_number<T: CanonicalFixedSizedPod, S: PodSink>(
+pub(crate) fn put_number<T: CanonicalFixedSizedPod, S: PodSink>(
     sink: &mut S,
     value: &T,
 ) -> Result<(), GenError> {
@@ -23,7 +23,7 @@ pub fn put_elements<T: CanonicalFixedSizedPod, S: PodSink>(
 }
 
 /// Appends the encoding of a choice over one type of fixed size.
-pub fn put_alternatives<T: ChoiceElement, S: PodSink>(
+pub(crate) fn put_alternatives<T: ChoiceElement, S: PodSink>(
     sink: &mut S,
     choice: &Choice<T>,
 ) -> Result<(), GenError> {

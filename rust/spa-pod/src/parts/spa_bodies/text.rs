@@ -21,7 +21,7 @@ pub fn put_text<S: PodSink>(sink: &mut S, text: &str) -> Result<(), GenError> {
 
 /// Appends the encoding of a text that can be written.
 #[cfg_attr(not(debug_assertions), inline(always))]
-pub fn put_clean_text<S: PodSink>(sink: &mut S, text: &str) -> Result<(), GenError> {
+pub(crate) fn put_clean_text<S: PodSink>(sink: &mut S, text: &str) -> Result<(), GenError> {
     let bytes = text.as_bytes();
     let size = bytes.len() + 1;
     put_two(sink, size as u32, SpaTypes::String.0)?;

@@ -43,14 +43,14 @@ pub fn two_words(first: u32, second: u32) -> [u8; 8] {
 
 /// The four bytes of a word, and four zeros.
 #[inline]
-pub fn word_body(number: u32) -> [u8; 8] {
+pub(crate) fn word_body(number: u32) -> [u8; 8] {
     let [a, b, c, d] = number.to_le_bytes();
     [a, b, c, d, 0, 0, 0, 0]
 }
 
 /// The eight bytes of a number.
 #[inline]
-pub fn wide_body(number: u64) -> [u8; 8] {
+pub(crate) fn wide_body(number: u64) -> [u8; 8] {
     number.to_le_bytes()
 }
 

@@ -16,7 +16,7 @@ pub struct Inside<'a> {
 /// Whether pods of this type are containers: structs or objects.
 #[cfg_attr(not(debug_assertions), inline(always))]
 #[must_use]
-pub fn is_container(type_: u32) -> bool {
+pub(crate) fn is_container(type_: u32) -> bool {
     type_ == SpaTypes::Struct.0 || type_ == SpaTypes::Object.0
 }
 
@@ -24,7 +24,7 @@ pub fn is_container(type_: u32) -> bool {
 /// and id.
 #[cfg_attr(not(debug_assertions), inline(always))]
 #[must_use]
-pub fn keyed_inside(type_: u32, size: usize) -> Option<bool> {
+pub(crate) fn keyed_inside(type_: u32, size: usize) -> Option<bool> {
     if type_ == SpaTypes::Struct.0 {
         return Some(false);
     }
@@ -58,7 +58,7 @@ pub fn key_len(keyed: bool) -> usize {
 /// The bytes behind the first key and flags, where these are before each pod, and else all. None: key and flags aren't there.
 #[cfg_attr(not(debug_assertions), inline(always))]
 #[must_use]
-pub fn behind_key(keyed: bool, left: &[u8]) -> Option<&[u8]> {
+pub(crate) fn behind_key(keyed: bool, left: &[u8]) -> Option<&[u8]> {
     if !keyed {
         return Some(left);
     }

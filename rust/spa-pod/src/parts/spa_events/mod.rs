@@ -6,5 +6,6 @@ mod level;
 mod listing;
 
 pub use event::{Event, NO_PARENT};
-pub use inside::{Inside, behind_key, inside_of, is_container, key_len, keyed_inside, open_first};
+pub(crate) use inside::{behind_key, is_container, keyed_inside};
+pub use inside::{Inside, inside_of, key_len, open_first};
 pub use listing::list_events;

@@ -25,7 +25,7 @@ const TWO_WORDS: usize = 8;
 /// Refused as `Unsupported` of the key where no common value is sought for one of the two values or for such a pair; else as `Disjoint` of the
 /// key where no value is admitted by both; as `TooLarge` where a size word of the outcome would be 4294967296 or more; and as `OutOfMemory`.
 /// After a refusal bytes may have been appended.
-pub fn put_common(
+pub(crate) fn put_common(
     key: u32,
     out: &mut Vec<u8>,
     a: &[u8],

@@ -12,9 +12,10 @@ mod support;
 mod types;
 mod values;
 
-pub use common_pods::put_common;
+pub(crate) use common_pods::put_common;
 pub use error::FilterError;
 pub use filtering::filter;
-pub use settling::{into_settled, settle, settled};
+pub(crate) use settling::into_settled;
+pub use settling::{settle, settled};
 pub use crate::parts::spa_keyed_objects::Side;
-pub use values::common;
+pub(crate) use values::common;

@@ -46,7 +46,7 @@ pub fn settled(value: &Value) -> Result<Value, AllocError> {
 
 /// The value itself where it is plain, and the default where it is a choice.
 #[must_use]
-pub fn into_settled(value: Value) -> Value {
+pub(crate) fn into_settled(value: Value) -> Value {
     match value {
         Value::Choice(choice) => settled_choice(&choice),
         plain => plain,

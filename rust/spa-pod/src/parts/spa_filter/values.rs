@@ -12,7 +12,7 @@ use crate::shims::memory::AllocError;
 ///
 /// The refusals: `Unsupported` where no common value is sought for one of the two or for both side by side, before `Disjoint` where
 /// no value is admitted by both.
-pub fn common(key: u32, a: &Value, b: &Value) -> Result<Value, FilterError> {
+pub(crate) fn common(key: u32, a: &Value, b: &Value) -> Result<Value, FilterError> {
     if !is_supported(a) || !is_supported(b) || !are_sayable(a, b) {
         return Err(FilterError::Unsupported(key));
     }

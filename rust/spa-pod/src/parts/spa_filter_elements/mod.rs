@@ -13,4 +13,5 @@ pub use first::{first_multiple, first_signed};
 pub use lattice::Lattice;
 pub use number_steps::{NumberSteps, narrowed};
 pub use ordered::Ordered;
-pub use stepped::{Stepped, Steps, is_in_steps, multiples_of_both, within};
+pub(crate) use stepped::{is_in_steps, multiples_of_both};
+pub use stepped::{Stepped, Steps, within};

@@ -36,7 +36,7 @@ pub trait Stepped: Lattice {
 
 /// Whether an element is one of these multiples.
 #[must_use]
-pub fn is_in_steps<T: Stepped>(steps: &Steps<T>, x: &T) -> bool {
+pub(crate) fn is_in_steps<T: Stepped>(steps: &Steps<T>, x: &T) -> bool {
     steps.low.is_at_most(x) && x.is_at_most(&steps.high) && x.is_multiple(&steps.step)
 }
 
@@ -52,7 +52,7 @@ pub fn within<T: Stepped>(steps: &Steps<T>, low: &T, high: &T) -> Steps<T> {
 
 /// The multiples that both lists of steps have.
 #[must_use]
-pub fn multiples_of_both<T: Stepped>(steps: &Steps<T>, others: &Steps<T>) -> Steps<T> {
+pub(crate) fn multiples_of_both<T: Stepped>(steps: &Steps<T>, others: &Steps<T>) -> Steps<T> {
     T::narrowed(&within(steps, &others.low, &others.high), &others.step)
 }
 

@@ -205,7 +205,7 @@ fn index_of<T: Element>(
 }
 
 /// The search keys of an element and of others. Refused only for want of memory.
-pub fn index_of_all<T: Element>(
+pub(crate) fn index_of_all<T: Element>(
     first: &T,
     others: &[T],
 ) -> Result<BTreeSet<Numbers>, AllocError> {

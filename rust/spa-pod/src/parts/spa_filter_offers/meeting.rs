@@ -13,7 +13,7 @@ use crate::shims::memory::AllocError;
 /// The value that admits exactly the elements that both offers admit: a plain value where one offer is one, else an Enum where one is one, else a
 /// Range, a Step or Flags. None: no element is admitted by both. Refused only for want of memory.
 #[inline(never)]
-pub fn meet<T: Element>(
+pub(crate) fn meet<T: Element>(
     a: &Offer<'_, T>,
     b: &Offer<'_, T>,
 ) -> Result<Option<Value>, AllocError> {
@@ -64,7 +64,7 @@ fn meet_wide<T: Element>(a: &Offer<'_, T>, b: &Offer<'_, T>) -> Option<Value> {
 
 /// The element as a value, where both offers admit it; no other element may be admitted by both. None: no element is.
 #[must_use]
-pub fn meet_only<T: Element>(a: &Offer<'_, T>, b: &Offer<'_, T>, x: &T) -> Option<Value> {
+pub(crate) fn meet_only<T: Element>(a: &Offer<'_, T>, b: &Offer<'_, T>, x: &T) -> Option<Value> {
     if admits(a, x) && admits(b, x) {
         return Some(x.value());
     }

@@ -8,7 +8,8 @@ mod numbers;
 mod offer;
 
 pub use element::Element;
-pub use kept::index_of_all;
-pub use meeting::{meet, meet_only};
+pub(crate) use kept::index_of_all;
+pub(crate) use meeting::{meet, meet_only};
 pub use numbers::Numbers;
-pub use offer::{Offer, admits, default_of, is_among, is_same, offer_of};
+pub(crate) use offer::{admits, default_of, is_among, offer_of};
+pub use offer::{Offer, is_same};

@@ -22,7 +22,7 @@ pub enum Offer<'a, T> {
 
 /// The offer of a choice. The choice's own flags don't count.
 #[must_use]
-pub fn offer_of<T: Element>(choice: &ChoiceEnum<T>) -> Offer<'_, T> {
+pub(crate) fn offer_of<T: Element>(choice: &ChoiceEnum<T>) -> Offer<'_, T> {
     match choice {
         ChoiceEnum::None(default) => Offer::Only(*default),
         ChoiceEnum::Range { default, min, max } => Offer::Between(*default, *min, *max),
@@ -49,7 +49,7 @@ pub fn offer_of<T: Element>(choice: &ChoiceEnum<T>) -> Offer<'_, T> {
 
 /// The default of an offer.
 #[must_use]
-pub fn default_of<T: Element>(offer: &Offer<'_, T>) -> T {
+pub(crate) fn default_of<T: Element>(offer: &Offer<'_, T>) -> T {
     match offer {
         Offer::Only(default) => *default,
         Offer::Among(default, _) => *default,
@@ -67,7 +67,7 @@ pub fn is_same<T: Element>(x: &T, y: &T) -> bool {
 
 /// Whether an element is one of these, by a linear search.
 #[must_use]
-pub fn is_among<T: Element>(x: &T, elements: &[T]) -> bool {
+pub(crate) fn is_among<T: Element>(x: &T, elements: &[T]) -> bool {
     for element in elements {
         if is_same(x, element) {
             return true;
@@ -87,7 +87,7 @@ fn is_one_of<T: Element>(x: &T, first: &T, others: &[T]) -> bool {
 /// Whether an offer admits an element. The alternatives of an Enum are searched one by one.
 #[inline(never)]
 #[must_use]
-pub fn admits<T: Element>(offer: &Offer<'_, T>, x: &T) -> bool {
+pub(crate) fn admits<T: Element>(offer: &Offer<'_, T>, x: &T) -> bool {
     match offer {
         Offer::Only(default) => is_same(x, default),
         Offer::Among(default, others) => is_one_of(x, default, others),

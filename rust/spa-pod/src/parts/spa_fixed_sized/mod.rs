@@ -16,5 +16,6 @@ pub use choice::{
 pub use fault::{DeserializeError, Fault, FaultKind, Refusal};
 pub use fixed::{CanonicalFixedSizedPod, ChoiceElement};
 pub use fixed_sized::FixedSizedPod;
-pub use pod::{LONGEST_POD_LEN, pod_bytes, put_fixed};
-pub use sizes::{array_size, choice_size, pod_len};
+pub(crate) use pod::{LONGEST_POD_LEN, pod_bytes};
+pub use pod::put_fixed;
+pub(crate) use sizes::{array_size, choice_size, pod_len};

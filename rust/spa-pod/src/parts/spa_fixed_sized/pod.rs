@@ -6,7 +6,7 @@ use crate::parts::spa_bytes::{HEADER_LEN, extent_of, two_words};
 use crate::parts::spa_sink::{GenError, PodSink};
 
 /// The length in bytes of the longest pod of a type of fixed size: a header, and a body with its padding.
-pub const LONGEST_POD_LEN: usize = 16;
+pub(crate) const LONGEST_POD_LEN: usize = 16;
 
 /// Appends the encoding of a value of fixed size, in one call of the sink. Refused only with the sink's error.
 pub fn put_fixed<T: CanonicalFixedSizedPod, S: PodSink>(
@@ -18,7 +18,7 @@ pub fn put_fixed<T: CanonicalFixedSizedPod, S: PodSink>(
 
 /// The encoding of a value of fixed size, and zeros behind it up to sixteen bytes.
 #[cfg_attr(not(debug_assertions), inline(always))]
-pub fn pod_bytes<T: CanonicalFixedSizedPod>(value: &T) -> [u8; LONGEST_POD_LEN] {
+pub(crate) fn pod_bytes<T: CanonicalFixedSizedPod>(value: &T) -> [u8; LONGEST_POD_LEN] {
     let mut pod = [0; LONGEST_POD_LEN];
     let (header, body) = pod.split_at_mut(HEADER_LEN);
     body.copy_from_slice(&value.padded_body());

@@ -8,19 +8,19 @@ use crate::parts::spa_utils::{Choice, ChoiceEnum};
 
 /// The length in bytes of the encoding of a value of fixed size.
 #[must_use]
-pub fn pod_len<T: CanonicalFixedSizedPod>(_value: &T) -> usize {
+pub(crate) fn pod_len<T: CanonicalFixedSizedPod>(_value: &T) -> usize {
     extent_of(T::SIZE as u32)
 }
 
 /// The length in bytes of the body of an array's encoding. None: it is 4294967296 or more.
 #[must_use]
-pub fn array_size<T: CanonicalFixedSizedPod>(values: &[T]) -> Option<u32> {
+pub(crate) fn array_size<T: CanonicalFixedSizedPod>(values: &[T]) -> Option<u32> {
     body_len::<T>(HEADER_LEN, values.len())
 }
 
 /// The length in bytes of the body of a choice's encoding. None: it is 4294967296 or more.
 #[must_use]
-pub fn choice_size<T: ChoiceElement>(choice: &Choice<T>) -> Option<u32> {
+pub(crate) fn choice_size<T: ChoiceElement>(choice: &Choice<T>) -> Option<u32> {
     body_len::<T>(2 * HEADER_LEN, value_count(choice))
 }
 

@@ -46,7 +46,7 @@ fn places_of(properties: &[Property]) -> Result<BTreeMap<u32, usize>, AllocError
 }
 
 /// Adds a key to the set, and answers whether it is new there. Refused only for want of memory.
-pub fn add_key(keys: &mut BTreeSet<u32>, key: u32) -> Result<bool, AllocError> {
+pub(crate) fn add_key(keys: &mut BTreeSet<u32>, key: u32) -> Result<bool, AllocError> {
     let is_new = keys.try_insert(key)?;
     Ok(is_new)
 }

@@ -5,6 +5,7 @@ mod keyed;
 mod met;
 mod side;
 
-pub use keyed::{Keyed, add_key};
+pub(crate) use keyed::add_key;
+pub use keyed::Keyed;
 pub use met::{Met, push};
 pub use side::Side;

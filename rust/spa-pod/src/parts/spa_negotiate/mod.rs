@@ -9,7 +9,8 @@ mod support;
 mod views;
 
 pub use error::NegotiateError;
-pub use negotiation::{common, negotiate};
+pub(crate) use negotiation::common;
+pub use negotiation::negotiate;
 pub use pods::negotiate_pods;
 pub use crate::parts::spa_keyed_objects::Side;
 pub use support::is_supported;

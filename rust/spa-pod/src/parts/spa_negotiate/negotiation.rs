@@ -87,7 +87,7 @@ fn settle(property: &Property, others: &Keyed<'_>) -> Result<Value, NegotiateErr
 ///
 /// Refused as `Unsupported` of the key where no common value is sought for one of the two, else as `Disjoint` of the key where no value is
 /// admitted by both, and as `OutOfMemory`.
-pub fn common(key: u32, a: &Value, b: &Value) -> Result<Value, NegotiateError> {
+pub(crate) fn common(key: u32, a: &Value, b: &Value) -> Result<Value, NegotiateError> {
     if !is_supported(a) || !is_supported(b) {
         return Err(NegotiateError::Unsupported(key));
     }

@@ -10,18 +10,18 @@ use crate::parts::spa_utils::SpaTypes;
 const PROPERTIES_AT: usize = 16;
 
 /// Appends the header of an object with a size word of 0, which `finish` sets, and its type and its id.
-pub fn put_header(out: &mut Vec<u8>, type_: u32, id: u32) -> bool {
+pub(crate) fn put_header(out: &mut Vec<u8>, type_: u32, id: u32) -> bool {
     let header = joined(two_words(0, SpaTypes::Object.0), two_words(type_, id));
     out.try_extend_from_slice(&header).is_ok()
 }
 
 /// Appends the key and the flags of a property.
-pub fn put_key(out: &mut Vec<u8>, key: u32, flags: u32) -> bool {
+pub(crate) fn put_key(out: &mut Vec<u8>, key: u32, flags: u32) -> bool {
     out.try_extend_from_slice(&two_words(key, flags)).is_ok()
 }
 
 /// Appends the bytes of a pod.
-pub fn put_pod(out: &mut Vec<u8>, pod: &[u8]) -> bool {
+pub(crate) fn put_pod(out: &mut Vec<u8>, pod: &[u8]) -> bool {
     out.try_extend_from_slice(pod).is_ok()
 }
 

@@ -89,7 +89,7 @@ impl<'a> Keyed<'a> {
 /// The bound raised so that this key is below it, too.
 #[cfg_attr(not(debug_assertions), inline(always))]
 #[must_use]
-pub fn raised(bound: u64, key: u32) -> u64 {
+pub(crate) fn raised(bound: u64, key: u32) -> u64 {
     let key = u64::from(key);
     if key < bound { bound } else { key + 1 }
 }

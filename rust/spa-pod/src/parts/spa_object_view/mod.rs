@@ -7,9 +7,13 @@ mod keyed;
 mod object_view;
 mod pods;
 
-pub use answer::{finish, put_header, put_key, put_pod};
-pub use apart::first_apart;
-pub use front::{NoObject, ObjectPod, object_pod};
-pub use keyed::{Keyed, raised};
-pub use object_view::{ObjectView, PropertyView, first_property};
+pub(crate) use answer::{put_header, put_key, put_pod};
+pub use answer::finish;
+pub(crate) use apart::first_apart;
+pub(crate) use front::object_pod;
+pub use front::{NoObject, ObjectPod};
+pub(crate) use keyed::raised;
+pub use keyed::Keyed;
+pub(crate) use object_view::first_property;
+pub use object_view::{ObjectView, PropertyView};
 pub use pods::{are_same, is_plain};

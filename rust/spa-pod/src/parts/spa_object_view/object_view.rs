@@ -30,7 +30,7 @@ pub struct PropertyView<'a> {
 /// The property at the front of the bytes. None: there is no whole one.
 #[cfg_attr(not(debug_assertions), inline(always))]
 #[must_use]
-pub fn first_property(properties: &[u8]) -> Option<PropertyView<'_>> {
+pub(crate) fn first_property(properties: &[u8]) -> Option<PropertyView<'_>> {
     if properties.len() < HEADER_LEN {
         return None;
     }

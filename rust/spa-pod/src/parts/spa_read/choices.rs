@@ -10,7 +10,7 @@ use crate::parts::spa_value::ChoiceValue;
 /// Reads the choice, over any of the nine types, with this body. Refused as `InvalidType`, `InvalidChoiceType`, `MissingChoiceValues` and
 /// `WrongSize`, each where that fault stands, and as `OutOfMemory`.
 #[cfg_attr(not(debug_assertions), inline(always))]
-pub fn read_any_choice(body: &[u8]) -> Result<ChoiceValue, Refusal> {
+pub(crate) fn read_any_choice(body: &[u8]) -> Result<ChoiceValue, Refusal> {
     if body.len() < CHOICE_HEADER_LEN {
         return Err(Refusal::WrongSize);
     }

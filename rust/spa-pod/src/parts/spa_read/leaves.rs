@@ -100,7 +100,7 @@ fn put_choice<T: Takes>(body: &[u8], to: &mut T) -> Result<(), Refusal> {
 ///
 /// Only texts, bytes, bitmaps, arrays and choices ask for memory. Refused as `Text`, `InvalidType`, `InvalidChoiceType`, `MissingChoiceValues` and
 /// `WrongSize`, each where that fault stands in the body, and as `OutOfMemory`. A type number that isn't of the format is `InvalidType`.
-pub fn read_leaf(type_: u32, body: &[u8]) -> Result<Value, Refusal> {
+pub(crate) fn read_leaf(type_: u32, body: &[u8]) -> Result<Value, Refusal> {
     let mut read = None;
     if let Err(why) = read_leaf_into(type_, body, &mut read) {
         drop(read);

@@ -10,7 +10,7 @@ mod nest;
 mod refused;
 mod value;
 
-pub use choices::read_any_choice;
-pub use leaves::read_leaf;
+pub(crate) use choices::read_any_choice;
+pub(crate) use leaves::read_leaf;
 pub use refused::Refused;
 pub use value::{read_value, read_value_leniently};

@@ -42,7 +42,7 @@ struct Run {
 
 /// Replaces pods one after another by their encodings, which are put at the front, and returns how many bytes these take. Of bytes that aren't such pods it
 /// promises nothing.
-pub fn emit(bytes: &mut [u8]) -> usize {
+pub(crate) fn emit(bytes: &mut [u8]) -> usize {
     let mut list = OpenList {
         keyed: false,
         end: bytes.len(),
@@ -127,7 +127,7 @@ fn encode_leaves(keyed: bool, pods: &mut [u8]) -> Run {
 
 /// Copies so many bytes down to a place before them, where they aren't there already.
 #[cfg_attr(not(debug_assertions), inline(always))]
-pub fn move_down(from: usize, len: usize, to: usize, bytes: &mut [u8]) {
+pub(crate) fn move_down(from: usize, len: usize, to: usize, bytes: &mut [u8]) {
     if from > to {
         bytes.copy_within(from..from + len, to);
     }

@@ -157,7 +157,7 @@ pub(crate) fn more_unasked(unasked: usize) -> usize {
 
 /// Finds the pods of an input up to the last one that isn't canonical, or the first one, and the canonical ones behind them: of the first it isn't asked
 /// whether it is canonical. It is refused as `look_at_pods` is.
-pub fn changed_pods(pods: &[u8]) -> Result<ChangedPods, (&[u8], Rejected<'_>)> {
+pub(crate) fn changed_pods(pods: &[u8]) -> Result<ChangedPods, (&[u8], Rejected<'_>)> {
     let mut frames = few_frames(pods);
     let mut left = pods;
     let mut tail = pods;

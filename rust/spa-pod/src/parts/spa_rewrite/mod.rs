@@ -12,9 +12,9 @@ mod surplus;
 
 pub use canonical::is_canonical;
 pub use deep::find_fault;
-pub use emitting::{emit, move_down};
-pub use leading::{canonical_front, canonical_stretch};
-pub use look::{
-    AcceptedPod, AcceptedPods, ChangedPods, Rejected, changed_pods, look_at_pod, look_at_pods,
-};
+pub(crate) use emitting::{emit, move_down};
+pub(crate) use leading::canonical_front;
+pub use leading::canonical_stretch;
+pub(crate) use look::changed_pods;
+pub use look::{AcceptedPod, AcceptedPods, ChangedPods, Rejected, look_at_pod, look_at_pods};
 pub use rewriting::{accept_all, rewrite, rewrite_all, rewrite_in_parts};

@@ -39,7 +39,7 @@ pub(crate) fn ends_in_zeros(bytes: &[u8], at: usize) -> bool {
 /// What follows the pod at the front, where that is canonical and of a kind of fixed size, None aside.
 #[cfg_attr(not(debug_assertions), inline(always))]
 #[must_use]
-pub fn fixed_front(input: &[u8]) -> Option<&[u8]> {
+pub(crate) fn fixed_front(input: &[u8]) -> Option<&[u8]> {
     if input.len() < SHORT_POD {
         return None;
     }
@@ -84,7 +84,7 @@ pub(crate) fn is_word_type(type_: u32) -> bool {
 /// How long the bodies of this type are, in bytes, where it is a kind of fixed size, and else a number past all of these.
 #[cfg_attr(not(debug_assertions), inline(always))]
 #[must_use]
-pub fn fixed_len(type_: u32) -> u32 {
+pub(crate) fn fixed_len(type_: u32) -> u32 {
     match SpaTypes(type_) {
         SpaTypes::None => 0,
         SpaTypes::Bool => ONE_WORD,

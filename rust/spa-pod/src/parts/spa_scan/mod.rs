@@ -6,7 +6,8 @@ mod nesting;
 mod scan;
 mod text;
 
-pub use front::{fixed_front, fixed_len};
+pub(crate) use front::{fixed_front, fixed_len};
 pub use nesting::{all_nest_within, nests_within};
-pub use scan::{LEVELS, leaf_body_front, leaf_front, leaf_members, leaf_properties};
-pub use text::is_text;
+pub(crate) use scan::{leaf_body_front, leaf_front, leaf_members, leaf_properties};
+pub use scan::LEVELS;
+pub(crate) use text::is_text;

@@ -14,7 +14,7 @@ pub const LEVELS: u32 = 1000;
 /// What follows the pod at the front, where that is canonical and neither a struct nor an object.
 #[cfg_attr(not(debug_assertions), inline(always))]
 #[must_use]
-pub fn leaf_front(input: &[u8]) -> Option<&[u8]> {
+pub(crate) fn leaf_front(input: &[u8]) -> Option<&[u8]> {
     if let Some(rest) = fixed_front(input) {
         return Some(rest);
     }
@@ -24,7 +24,7 @@ pub fn leaf_front(input: &[u8]) -> Option<&[u8]> {
 /// What follows the pod at the front, where that is canonical, not of fixed size, and neither a struct nor an object.
 #[cfg_attr(not(debug_assertions), inline(always))]
 #[must_use]
-pub fn leaf_body_front(input: &[u8]) -> Option<&[u8]> {
+pub(crate) fn leaf_body_front(input: &[u8]) -> Option<&[u8]> {
     let Some(front) = open(input) else {
         return None;
     };
@@ -60,7 +60,7 @@ fn leaf_property(input: &[u8]) -> Option<&[u8]> {
 /// The first members of a struct, as many as `leaf_front` passes, and what follows them.
 #[cfg_attr(not(debug_assertions), inline(always))]
 #[must_use]
-pub fn leaf_members(input: &[u8]) -> (&[u8], &[u8]) {
+pub(crate) fn leaf_members(input: &[u8]) -> (&[u8], &[u8]) {
     let mut left = input;
     while let Some(rest) = leaf_front(left) {
         left = rest;
@@ -71,7 +71,7 @@ pub fn leaf_members(input: &[u8]) -> (&[u8], &[u8]) {
 /// The first properties of an object, as many as `leaf_front` passes the pods of, and what follows them.
 #[cfg_attr(not(debug_assertions), inline(always))]
 #[must_use]
-pub fn leaf_properties(input: &[u8]) -> (&[u8], &[u8]) {
+pub(crate) fn leaf_properties(input: &[u8]) -> (&[u8], &[u8]) {
     let mut left = input;
     while let Some(rest) = leaf_property(left) {
         left = rest;

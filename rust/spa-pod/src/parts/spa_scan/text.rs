@@ -8,7 +8,7 @@ use core::str;
 /// Whether the body of a string is a text without NUL, and one NUL behind it.
 #[cfg_attr(not(debug_assertions), inline(always))]
 #[must_use]
-pub fn is_text(body: &[u8]) -> bool {
+pub(crate) fn is_text(body: &[u8]) -> bool {
     let Some((last, text)) = body.split_last() else {
         return false;
     };

@@ -23,7 +23,7 @@ pub fn print_pretty_then_read(value: &Value) -> Result<Value, AllocError> {
 }
 
 /// Prints a value, reads what is printed, and prints what is read: of a value without floats the same text, unless memory runs out.
-pub fn print_again(value: &Value) -> Result<(Vec<u8>, Vec<u8>), AllocError> {
+pub(crate) fn print_again(value: &Value) -> Result<(Vec<u8>, Vec<u8>), AllocError> {
     let mut first = Vec::new();
     print(value, &mut first)?;
     let again = read_again(first.as_slice())?;

@@ -68,6 +68,6 @@ pub fn bare(type_: u32) -> Scalar {
 
 /// Whether a bare text is a number there.
 #[must_use]
-pub fn takes_text(type_: u32) -> bool {
+pub(crate) fn takes_text(type_: u32) -> bool {
     type_ == 3 || type_ == 6 || type_ == 7
 }

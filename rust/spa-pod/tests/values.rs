@@ -1,4 +1,5 @@
 //! Values made of Rust's, looked into, compared and printed; views as values. Bytes are hand-made words of docs/FORMAT.md.
+use spa_pod::names::keys;
 use spa_pod::pod::{Bitmap, ChoiceValue, Object, Pod, Property, PropertyFlags, Value, ValueArray, WrongType, same, try_same};
 use spa_pod::utils::{Choice, ChoiceEnum, ChoiceFlags, Fd, Float32, Float64, Fraction, Id, Rectangle, SpaTypes};
 use std::collections::HashSet;
@@ -81,6 +82,22 @@ fn each_look_finds_its_own_type_alone() {
             assert_eq!(finds(&value), type_ == number, "{name} of {value:?}");
         }
     }
+}
+
+#[test]
+fn a_rate_is_changed() {
+    let pod = |rate| bytes(&[56, 15, 262_147, 4, 1, 0, 4, 3, 1, 0, 65539, 0, 4, 4, rate, 0]);
+    let (mut value, taken) = spa_pod::read(&pod(44100)).unwrap();
+    value.as_object_mut().unwrap().set(keys::FORMAT_AUDIO_RATE, 48000);
+    assert_eq!((spa_pod::write(&value), taken), (Ok(pod(48000)), 64));
+}
+
+#[test]
+fn values_and_views_go_from_thread_to_thread() {
+    fn is_shared<T: Send + Sync>() {}
+    is_shared::<Value>();
+    is_shared::<Pod<'_>>();
+    is_shared::<spa_pod::ReadError>();
 }
 
 #[test]

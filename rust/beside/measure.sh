@@ -1,7 +1,8 @@
 #!/usr/bin/env bash
 # measure.sh: instructions a byte of the Rust crate, counted by callgrind, on the corpora of bench/make.py at a twentieth of their sizes, of strings
 # on the whole, whose texts begin with their numbers. A count is half of the difference of one round and three. Without the tunables valgrind
-# counts long copies by their bytes.
+# counts long copies by their bytes. As a program is built that doesn't ask for link-time optimization:
+#   CARGO_PROFILE_RELEASE_LTO=false CARGO_PROFILE_RELEASE_CODEGEN_UNITS=16 measure.sh
 set -eu
 here=$(dirname "$(readlink -f "${BASH_SOURCE[0]}")")
 room=$(mktemp -d)

@@ -3,6 +3,7 @@ use crate::pod::serialize::{GenError, PodOutput, PodSink};
 use arrayvec::ArrayVec;
 
 /// Refused as `Full` where the bytes don't fit: then none of them is appended.
+#[cfg_attr(docsrs, doc(cfg(feature = "arrayvec")))]
 impl<const N: usize> PodSink for ArrayVec<u8, N> {
     fn append(&mut self, bytes: &[u8]) -> Result<(), GenError> {
         self.try_extend_from_slice(bytes).map_err(|_| GenError::Full)
@@ -13,6 +14,7 @@ impl<const N: usize> PodSink for ArrayVec<u8, N> {
     }
 }
 
+#[cfg_attr(docsrs, doc(cfg(feature = "arrayvec")))]
 impl<const N: usize> PodOutput for ArrayVec<u8, N> {
     fn len(&self) -> usize {
         self.as_slice().len()

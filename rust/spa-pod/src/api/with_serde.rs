@@ -8,6 +8,7 @@ use serde::ser::Error as _;
 use serde::{Deserialize, Deserializer, Serialize, Serializer};
 
 /// The bytes of its pod. Refused as [`write`](crate::write) refuses it.
+#[cfg_attr(docsrs, doc(cfg(feature = "serde")))]
 impl Serialize for Value {
     fn serialize<S: Serializer>(&self, to: S) -> Result<S::Ok, S::Error> {
         match crate::write(self) {
@@ -18,6 +19,7 @@ impl Serialize for Value {
 }
 
 /// Read of bytes, or of a sequence of bytes, that are one pod of at most [`MOST_LEVELS`](crate::pod::MOST_LEVELS) levels.
+#[cfg_attr(docsrs, doc(cfg(feature = "serde")))]
 impl<'de> Deserialize<'de> for Value {
     fn deserialize<D: Deserializer<'de>>(from: D) -> Result<Value, D::Error> {
         from.deserialize_bytes(OnePod)

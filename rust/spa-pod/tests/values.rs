@@ -133,6 +133,8 @@ fn an_object_is_changed_by_its_keys() {
     assert_eq!(object.into_iter().last().map(|property| property.value), Some(Value::None));
 }
 
+// With the feature `parts` they print as their bits, as in the proved tests.
+#[cfg(not(feature = "parts"))]
 #[test]
 fn floats_print_as_numbers_and_are_equal_by_their_bits() {
     assert_eq!(format!("{:?}", Value::from(440.0_f32)), "Float(440.0)");

@@ -1,6 +1,6 @@
 //! `measure WORK ROUNDS < PODS`: the work of bench/library.rs with this crate, a line for each round, with its nanoseconds and a number
-//! that the work came to. WORK is `none`, `read`, `write`, `rewrite`, `clone`, `equal` or `walk`.
-use spa_pod::pod::{Pod, Value, deserialize::PodDeserializer, rewrite_all, serialize::PodSerializer};
+//! that the work came to. WORK is `none`, `read`, `write`, `rewrite`, `clone`, `equal` or `walk`, or, with a call for each pod, `appended` or `in-place`.
+use spa_pod::pod::{Pod, Value, deserialize::PodDeserializer, rewrite_all, rewrite_in_place, serialize::PodSerializer};
 use std::io::Read;
 use std::time::Instant;
 
@@ -15,6 +15,17 @@ fn read_each(mut bytes: &[u8], mut take: impl FnMut(Value)) -> usize {
         take(value);
         bytes = rest;
         count += 1;
+    }
+    count
+}
+
+/// Does this to each pod by itself, and counts the bytes that it answers.
+fn each_alone(mut bytes: &mut [u8], mut take: impl FnMut(&mut [u8]) -> usize) -> usize {
+    let mut count = 0;
+    while let Some(extent) = Pod::from_bytes(bytes).map(|pod| pod.extent()) {
+        let (pod, rest) = bytes.split_at_mut(extent);
+        count += take(pod);
+        bytes = rest;
     }
     count
 }
@@ -58,6 +69,15 @@ fn main() {
             "rewrite" => {
                 rewrite_all(&bytes, &mut out).expect("pods that are read");
                 out.len()
+            }
+            "appended" => each_alone(&mut bytes, |pod| {
+                out.clear();
+                rewrite_all(pod, &mut out).expect("pods that are read");
+                out.len()
+            }),
+            "in-place" => {
+                out.extend_from_slice(&bytes);
+                each_alone(&mut out, |pod| rewrite_in_place(pod).expect("pods that are read"))
             }
             "clone" => values.iter().map(|value| drop(value.clone())).count(),
             "equal" => values.iter().zip(&copies).filter(|(one, other)| one == other).count(),

@@ -107,6 +107,8 @@ def memory_before_output(command, path):
 
 
 def main():
+    if len(COMMANDS) == 1:
+        sys.exit("beside_cat.py: no program is built here: ./pod builds it with the Rattle kit; without, POD and PODTOOL name those that cargo built")
     for name in sys.argv[1:] or NAMES:
         path = pathlib.Path(name) if name.endswith(".pod") else INPUTS / f"{name}.pod"
         path.read_bytes()

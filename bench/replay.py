@@ -122,4 +122,4 @@ def main():
 
 
 if __name__ == "__main__":
-    main()
+    main() if sys.argv[1:] else sys.exit(__doc__)

@@ -52,6 +52,8 @@ INPUTS = {
 
 
 if __name__ == "__main__":
+    if len(sys.argv) != 2:
+        sys.exit(__doc__)
     os.makedirs(sys.argv[1], exist_ok=True)
     for name, made in INPUTS.items():
         with open(os.path.join(sys.argv[1], name + ".pod"), "wb") as file:

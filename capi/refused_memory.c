@@ -199,19 +199,22 @@ static void refuse_joining(bool filters) {
 	}
 }
 
-/* A struct with another one in it, which has a text and an array. */
+/* A struct with another one in it, which has a text, an array and a pod. */
 static void refuse_building(void) {
-	const struct spav_call calls[] = { spav_push_struct(), spav_push_struct(), spav_add_string(0, 100), spav_add_array(SPAV_TYPE_Int, 0, 25), spav_pop(), spav_pop() };
+	const struct spav_call calls[] = { spav_push_struct(), spav_push_struct(), spav_add_string(8, 92), spav_add_array(SPAV_TYPE_Int, 0, 25), spav_add_pod(0, 8),
+		spav_pop(), spav_pop() };
+	const size_t count = sizeof calls / sizeof *calls;
 	static uint8_t texts[100], wanted[256], out[256], before[256];
 	size_t len, written, at;
 	memset(texts, 'a', sizeof texts);
+	memcpy(texts, (const uint32_t[]){ 0, SPAV_TYPE_Struct }, 8);
 	memset(before, 0xee, sizeof before);
 	refuse_at = 0;
-	SEE(spav_build(calls, 6, texts, sizeof texts, wanted, sizeof wanted, &len, &at) == 0 && held == 0);
+	SEE(spav_build(calls, count, texts, sizeof texts, wanted, sizeof wanted, &len, &at) == 0 && held == 0);
 	for (refuse_at = 1;; refuse_at++) {
 		asked = 0;
 		memset(out, 0xee, sizeof out);
-		int32_t answer = spav_build(calls, 6, texts, sizeof texts, out, sizeof out, &written, &at);
+		int32_t answer = spav_build(calls, count, texts, sizeof texts, out, sizeof out, &written, &at);
 		SEE(held == 0);
 		if (asked < refuse_at) {
 			SEE(answer == 0 && refuse_at > 1);

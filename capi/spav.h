@@ -18,7 +18,8 @@
  *
  * What a call keeps to. It reads and writes no other bytes than those. It ends, whatever the bytes are. It keeps no
  * pointer and no state, takes no lock, prints nothing and never ends the process, so threads may call on different
- * memory at once. It asks for memory only where that is said, and gives it back before it answers.
+ * memory at once. It asks for memory only where that is said, and gives it back before it answers. It takes 32 KiB of
+ * stack at most, however deep pods nest; so it was measured, and isn't proved.
  *
  * Fields named `reserved` are for later versions: a call writes 0 into them, and refuses one that isn't 0. */
 #ifndef SPAV_H
@@ -367,7 +368,7 @@ int32_t spav_filter(const void *a, size_t n, const void *b, size_t m, void *out,
  * by call", says which can follow which. */
 
 /* What a call is that is no type's. */
-enum spav_word { SPAV_WORD_Prop = 256, SPAV_WORD_Pop = 257, SPAV_WORD_Array = 258 };
+enum spav_word { SPAV_WORD_Prop = 256, SPAV_WORD_Pop = 257, SPAV_WORD_Array = 258, SPAV_WORD_Pod = 259 };
 
 struct spav_call {
 	uint32_t what;  /* the type of the value that is added, or of the pod that is begun; else one of enum spav_word */
@@ -376,17 +377,18 @@ struct spav_call {
 	uint32_t second; /* a height, a denominator, an object's id, the flags of a choice or a property */
 	int32_t number;  /* an Int */
 	int64_t wide;    /* a Long, the number of a file descriptor */
-	uint64_t bits;   /* a Double's bits, an address, where in `texts` a text or elements begin, a frame or 0 */
-	uint64_t len;    /* how many bytes a text has, or elements an array */
+	uint64_t bits;   /* a Double's bits, an address, where in `texts` a text, elements or a pod begin, a frame or 0 */
+	uint64_t len;    /* how many bytes a text or a pod has, or elements an array */
 	uint64_t reserved; /* 0 */
 };
 
-/* Writes the pods that `count` calls build. Strings, bytes and the elements of whole arrays are parts of the n bytes
- * `texts`.
+/* Writes the pods that `count` calls build. Strings, bytes, the elements of whole arrays, and whole pods are parts of
+ * the n bytes `texts`.
  *   0           *written bytes were written
  *   -ENOSPC     `cap` is less than *written, their length
  *   -EINVAL     calls[*at] can't come there or is no call: a string isn't UTF-8 or holds NUL, a part runs past `texts`,
- *               elements have no fixed size, .. Where *at is `count`, a pod is begun and not closed
+ *               elements have no fixed size, a whole pod isn't canonical, .. Where *at is `count`, a pod is begun and
+ *               not closed
  *   -EOVERFLOW  by calls[*at] the size of a pod is 2^32 or more
  *   -ENOMEM     memory was asked for and refused */
 int32_t spav_build(const struct spav_call *calls, size_t count, const void *texts, size_t n, void *out, size_t cap,
@@ -457,6 +459,11 @@ SPAV_INLINE struct spav_call spav_add_prop(uint32_t key, uint32_t flags) {
  * of None has none, whatever `count` is. */
 SPAV_INLINE struct spav_call spav_add_array(uint32_t element_type, size_t from, size_t count) {
 	return spav_call_at(SPAV_WORD_Array, element_type, from, count);
+}
+/* Adds the value of a pod: the `len` bytes of `texts` from the byte `from` on, which are one canonical pod, as
+ * spav_rewrite and spav_build write it, in which structs and objects nest at most 1000 deep. */
+SPAV_INLINE struct spav_call spav_add_pod(size_t from, size_t len) {
+	return spav_call_at(SPAV_WORD_Pod, 0, from, len);
 }
 /* Closes the innermost pod that is begun. */
 SPAV_INLINE struct spav_call spav_pop(void) { return spav_call_of(SPAV_WORD_Pop, 0, 0); }

@@ -86,12 +86,18 @@ CALL(fixate, in, n)
 CALL(filter, in, n, in, n, out, n, &written, &kind)
 CALL(negotiate, in, n, in, n, out, n, &written, &kind)
 CALL(build, calls_made, 1, NULL, 0, out, 16, &written, &at)
+/* A struct in which the pod is. */
+static int32_t build_of_a_pod(void) {
+	const struct spav_call calls[] = { spav_push_struct(), spav_add_pod(0, n), spav_pop() };
+	return spav_build(calls, 3, in, n, out, n + 8, &written, &at);
+}
 static const struct row {
 	const char *name;
 	int32_t (*call)(void);
 } rows[] = { ROW(rewrite), { "spav_rewrite_without_room", rewrite_without_room }, ROW(rewrite_leniently), ROW(rewrite_in_place),
-	ROW(rewrite_in_place_leniently), ROW(check), ROW(is_canonical), ROW(nests_within), ROW(fault), ROW(read), ROW(front_item), ROW(settled_item), ROW(element), ROW(set_int), ROW(same), ROW(find),
-	ROW(member), ROW(front_elements), ROW(object), ROW(int), ROW(string), ROW(fixate), ROW(filter), ROW(negotiate), ROW(build) };
+	ROW(rewrite_in_place_leniently), ROW(check), ROW(is_canonical), ROW(nests_within), ROW(fault), ROW(read), ROW(front_item),
+	ROW(settled_item), ROW(element), ROW(set_int), ROW(same), ROW(find), ROW(member), ROW(front_elements), ROW(object), ROW(int),
+	ROW(string), ROW(fixate), ROW(filter), ROW(negotiate), ROW(build), { "spav_build_of_a_pod", build_of_a_pod } };
 
 /* Where the stack is at a call. */
 static uint8_t *top;
@@ -130,7 +136,7 @@ int main(void) {
 	const size_t room = 12 * 4 * levels[3] + 64;
 	in = malloc(room);
 	copy = malloc(room);
-	out = malloc(room);
+	out = malloc(room + 8);
 	if (!in || !copy || !out)
 		return 2;
 	const size_t of_probe = taken(&known);

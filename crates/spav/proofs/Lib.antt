@@ -5,3 +5,4 @@ mod Written
 mod FirstFaults
 mod ItemsRead
 mod Placed
+mod WholePods

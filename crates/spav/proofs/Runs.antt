@@ -18,7 +18,7 @@ use Rattle.spa_builder.specs.Answers.{Makes}
 use Rattle.spa_builder.specs.Replay.{IsAnswered}
 use Rattle.spa_utils.specs.declared.errno.Errno.{Errno}
 use Rattle.spa_utils.specs.declared.errno.TheConstants.Errno.{NOMEM, INVAL, NOSPC}
-use Rattle.spav.specs.Building.{StopsAt, adds, array_in, elements_in, outcome_in, outcome_of, part_of, said_by, state_from, text_of}
+use Rattle.spav.specs.Building.{ComesTo, Leads, StopsAt, adds, array_in, elements_in, outcome_of, part_of, said_by, text_of}
 use Rattle.spav.specs.declared.building.Call.{Call}
 
 added_text : (p : Option (List ℕ)) → (elim (option_map string p) as (λ _. Option builder.Call) [ Some v ↦ Some (add v) | None ↦ None ]) ≡
@@ -109,26 +109,11 @@ refuses A (Accepts t) old new e m = m.0
 refuses A Inval old new e m = m.0
 refuses A Nospc old new e m = m.0
 
-goes_on : (texts : List ℕ) (cs : List Call) (o : Outcome) (t : State) → o ≡ Accepts t →
-    (elim o as (λ _. Option State) [ Accepts u ↦ state_from texts u cs | Inval ↦ None | Nospc ↦ None ]) ≡ state_from texts t cs
-goes_on texts cs o t e = ap (λ p. elim p as (λ _. Option State) [ Accepts u ↦ state_from texts u cs | Inval ↦ None | Nospc ↦ None ]) e
-
-more_from : (texts : List ℕ) (o : Outcome) (cs : List Call) (c : Call) (s t : State)
-    (more : (u : State) → state_from texts u cs ≡ Some s → state_from texts u (cs ++ c ∷ []) ≡ Some t) →
-    (elim o as (λ _. Option State) [ Accepts u ↦ state_from texts u cs | Inval ↦ None | Nospc ↦ None ]) ≡ Some s →
-    (elim o as (λ _. Option State) [ Accepts u ↦ state_from texts u (cs ++ c ∷ []) | Inval ↦ None | Nospc ↦ None ]) ≡ Some t
-more_from texts (Accepts u) cs c s t more e = more u e
-more_from texts Inval cs c s t more e = absurd (cc)
-more_from texts Nospc cs c s t more e = absurd (cc)
-
-same_state : {A : Type 0} (x y : A) → Some x ≡ Some y → x ≡ y
-same_state x y e = cc
-
 -- one call more is accepted
-pub one_more : (texts : List ℕ) (u : State) (cs : List Call) (c : Call) (s t : State) → state_from texts u cs ≡ Some s →
-    outcome_in texts s c ≡ Accepts t → state_from texts u (cs ++ c ∷ []) ≡ Some t
-one_more texts u [] c s t e a = goes_on texts [] (outcome_in texts u c) t (ap (λ v. outcome_in texts v c) (same_state u s e) ∙ a)
-one_more texts u (d ∷ cs) c s t e a = more_from texts (outcome_in texts u d) cs c s t (λ v f. one_more texts v cs c s t f a) e
+pub one_more : (texts : List ℕ) (u : State) (cs : List Call) (c : Call) (s t : State) → Leads texts u cs s → ComesTo texts s c (Accepts t) →
+    Leads texts u (cs ++ c ∷ []) t
+one_more texts u [] c s t e a = (t, subst (λ v. ComesTo texts v c (Accepts t)) (sym e) a, refl)
+one_more texts u (d ∷ cs) c s t e a = (e.0, e.1, one_more texts e.0 cs c s t e.2 a)
 
 -- errors with other numbers are others
 differ : (e f : Errno) → e.0 ≢ f.0 → e ≡ f → ⊥
@@ -158,37 +143,48 @@ stops_as texts calls at P Q f h = record {
   before = h.before;
   call = h.call;
   here = h.here;
-  comes = f _ h.comes;
+  outcome = h.outcome;
+  comes = h.comes;
+  such = f _ h.such;
 }
+
+-- what is made of a call is what it comes to
+abbrev pub IsMade : {A : Type 0} → List ℕ → State → Call → BuilderFields → BuilderFields → Result A Errno → Type 0
+IsMade texts s c old new r = (o : Outcome) × ComesTo texts s c o × Makes o old new r
 
 -- the next call of a list is accepted
 pub goes_further : {A : Type 0} (texts : List ℕ) (calls : List Call) (at : ℕ) (d : Call) (old new : BuilderFields) (x : A) → at < length calls →
-    (s : State) × (state_from texts start (take at calls) ≡ Some s) × IsAt old s →
-    ((s : State) → IsAt old s → Makes (outcome_in texts s (get_or calls at d)) old new (Ok x)) →
-    (s : State) × (state_from texts start (take (at + 1) calls) ≡ Some s) × IsAt new s
+    (s : State) × Leads texts start (take at calls) s × IsAt old s →
+    ((s : State) → IsAt old s → IsMade texts s (get_or calls at d) old new (Ok x)) →
+    (s : State) × Leads texts start (take (at + 1) calls) s × IsAt new s
 goes_further texts calls at d old new x l h m =
     let c = get_or calls at d in
-    let a = accepts (outcome_in texts h.0 c) old new x (m h.0 h.2) in
-    (a.0, ap (state_from texts start) (take_more calls at d l) ∙ one_more texts start (take at calls) c h.0 a.0 h.1 a.1, a.2)
+    let made = m h.0 h.2 in
+    let a = accepts made.0 old new x made.2 in
+    let comes = subst (ComesTo texts h.0 c) a.1 made.1 in
+    (a.0, subst (λ cs. Leads texts start cs a.0) (sym (take_more calls at d l)) (one_more texts start (take at calls) c h.0 a.0 h.1 comes), a.2)
 
 -- the next call of a list isn't accepted
 pub stops_here : (A : Type 0) (texts : List ℕ) (calls : List Call) (at : ℕ) (d : Call) (old new : BuilderFields) (e : Errno) → at < length calls →
-    (s : State) × (state_from texts start (take at calls) ≡ Some s) × IsAt old s →
-    ((s : State) → IsAt old s → Makes {A = A} (outcome_in texts s (get_or calls at d)) old new (Err e)) →
+    (s : State) × Leads texts start (take at calls) s × IsAt old s →
+    ((s : State) → IsAt old s → IsMade {A = A} texts s (get_or calls at d) old new (Err e)) →
     StopsAt texts calls at (λ o. IsAnswered o (Err e))
-stops_here A texts calls at d old new e l h m = record {
-  state = h.0;
-  before = h.1;
-  call = get_or calls at d;
-  here = take_more calls at d l;
-  comes = refuses A (outcome_in texts h.0 (get_or calls at d)) old new e (m h.0 h.2);
-}
+stops_here A texts calls at d old new e l h m =
+    let made = m h.0 h.2 in
+    record {
+      state = h.0;
+      before = h.1;
+      call = get_or calls at d;
+      here = take_more calls at d l;
+      outcome = made.0;
+      comes = made.1;
+      such = refuses A made.0 old new e made.2;
+    }
 
 -- all calls of a list are accepted
 pub ends : (texts : List ℕ) (calls : List Call) (at : ℕ) (now : BuilderFields) → length calls ≤ at →
-    (s : State) × (state_from texts start (take at calls) ≡ Some s) × IsAt now s →
-    (s : State) × (state_from texts start calls ≡ Some s) × IsAt now s
-ends texts calls at now l h = (h.0, ap (state_from texts start) (sym (take_all at calls l)) ∙ h.1, h.2)
+    (s : State) × Leads texts start (take at calls) s × IsAt now s → (s : State) × Leads texts start calls s × IsAt now s
+ends texts calls at now l h = (h.0, subst (λ cs. Leads texts start cs h.0) (take_all at calls l) h.1, h.2)
 
 -- why a list stopped, by the error
 pub stopped_invalid : (texts : List ℕ) (calls : List Call) (at : ℕ) (e : Errno) → StopsAt texts calls at (λ o. IsAnswered o (Err e)) → e ≡ INVAL →

@@ -1,15 +1,17 @@
 -- Pods that are built by a list of calls, in the caller's memory: docs/CAPI.md, "Building".
-use Rattle.std.specs.Prelude.{◌≡◌, ◌≢◌, ◌+◌, ◌*◌, ℕ, List, [], ◌∷◌, ◌++◌, length, map, take, drop, not, nat_eq, nat_le, if◌then◌else◌, Option, Some, None}
+use Rattle.std.specs.Prelude.{◌≡◌, ◌≢◌, ◌≤◌, ◌⊎◌, ◌+◌, ◌*◌, ℕ, List, [], ◌∷◌, ◌++◌, length, map, take, drop, not, nat_eq, nat_le, if◌then◌else◌, Option, Some, None}
 use Rattle.std.specs.Option.{option_map}
 use Rattle.std.specs.Simd.{first_chunks}
 use Rattle.std.specs.Str.{is_utf8}
-use Rattle.spa_format.specs.Encoding.{member_encodings}
+use Rattle.spa_format.specs.Encoding.{encoding_of, member_encodings}
 use Rattle.spa_format.specs.Kind.{Fixed, Kind, body_size, content, none, bool, id, int, long, float, double, rectangle, fraction, fd, type_number, none_kind, bool_kind, id_kind, int_kind, long_kind, float_kind, double_kind, rectangle_kind, fraction_kind, fd_kind}
 use Rattle.spa_format.specs.Normal.{kept_elements}
+use Rattle.spa_format.specs.Pod.{IsPod}
 use Rattle.spa_format.specs.Tree.{Tree, array, fixed, string, bytes, pointer, string_type, bytes_type, array_type, struct_type, object_type, pointer_type, choice_type}
 use Rattle.spa_builder.specs.State.{State, start}
 use Rattle.spa_builder.specs.Step as builder
-use Rattle.spa_builder.specs.Step.{Outcome, Accepts, Inval, Nospc, add, add_prop, pop, push_array, push_choice, push_object, push_struct, step}
+use Rattle.spa_builder.specs.Step.{Outcome, Accepts, Inval, add, add_prop, pop, push_array, push_choice, push_object, push_struct, step}
+use Rattle.spa_scan.specs.Depth.{depth_of, levels_looked_into}
 use Rattle.spav.specs.declared.building.Call.{Call}
 
 -- the number of a call that adds a key; those of calls that add a value or open a container are the numbers of its type
@@ -23,6 +25,10 @@ pop_number = 257
 -- the number of a call that adds a whole array
 abbrev pub array_number : ℕ
 array_number = 258
+
+-- the number of a call that adds a whole pod
+abbrev pub pod_number : ℕ
+pod_number = 259
 
 -- the `len` bytes of the texts at the offset `from`; None where the texts are shorter
 abbrev pub part_of : List ℕ → (from len : ℕ) → Option (List ℕ)
@@ -103,33 +109,52 @@ abbrev pub outcome_of : State → Option builder.Call → Outcome
 outcome_of s None = Inval
 outcome_of s (Some call) = step s call
 
--- the outcome of a call over these texts; one whose reserved field isn't 0 is none
+-- the outcome of a call over these texts that adds no whole pod; one whose reserved field isn't 0 is none
 abbrev pub outcome_in : List ℕ → State → Call → Outcome
 outcome_in texts s c = if nat_eq c.reserved 0 then outcome_of s (said_by s c.what texts c) else Inval
 
--- the state after these calls; None where one isn't accepted
-abbrev pub state_from : List ℕ → State → List Call → Option State
-state_from texts s [] = Some s
-state_from texts s (c ∷ cs) = elim (outcome_in texts s c) as (λ _. Option State) [ Accepts t ↦ state_from texts t cs | Inval ↦ None | Nospc ↦ None ]
+-- these bytes are the canonical pod of this value, which nests in so many levels as are looked into
+pub record IsPodOf (b : List ℕ) (v : Tree) : Type 0 where
+  pub pod : IsPod b v
+  pub own : b ≡ encoding_of v
+  pub shallow : depth_of v ≤ levels_looked_into
+
+-- the outcome of a call that adds these bytes as a pod: that of adding their value; where they are no such pod it is refused
+abbrev pub AddsPod : State → Option (List ℕ) → Outcome → Type 0
+AddsPod s None o = o ≡ Inval
+AddsPod s (Some b) o = ((v : Tree) × IsPodOf b v × (o ≡ step s (add v))) ⊎ (((v : Tree) → ¬ (IsPodOf b v)) × (o ≡ Inval))
+
+-- the outcome of a call over these texts
+abbrev pub ComesTo : List ℕ → State → Call → Outcome → Type 0
+ComesTo texts s c o =
+    ((c.what ≡ pod_number) × (c.reserved ≡ 0) × AddsPod s (part_of texts c.bits c.len) o)
+    ⊎ ((c.what ≡ pod_number → c.reserved ≢ 0) × (o ≡ outcome_in texts s c))
+
+-- each of these calls is accepted, and they lead from one state to another
+abbrev pub Leads : List ℕ → State → List Call → State → Type 0
+Leads texts s [] t = s ≡ t
+Leads texts s (c ∷ cs) t = (u : State) × ComesTo texts s c (Accepts u) × Leads texts u cs t
 
 -- each call is accepted, no pod is open at the end, and these bytes are the encodings of the trees
 pub record Builds (texts : List ℕ) (calls : List Call) (bytes : List ℕ) : Type 0 where
   pub state : State
-  pub spelled : state_from texts start calls ≡ Some state
+  pub leads : Leads texts start calls state
   pub all_closed : state.opened ≡ []
   pub encodings : bytes ≡ member_encodings state.closed
 
 -- the calls before the one at the index `at` are accepted, and the outcome of that one is such
 pub record StopsAt (texts : List ℕ) (calls : List Call) (at : ℕ) (IsOutcome : Outcome → Type 0) : Type 0 where
   pub state : State
-  pub before : state_from texts start (take at calls) ≡ Some state
+  pub before : Leads texts start (take at calls) state
   pub call : Call
   pub here : take (at + 1) calls ≡ take at calls ++ call ∷ []
-  pub comes : IsOutcome (outcome_in texts state call)
+  pub outcome : Outcome
+  pub comes : ComesTo texts state call outcome
+  pub such : IsOutcome outcome
 
 -- each call is accepted, and a pod is still open after the last
 pub record LeavesOpen (texts : List ℕ) (calls : List Call) (at : ℕ) : Type 0 where
   pub state : State
-  pub spelled : state_from texts start calls ≡ Some state
+  pub leads : Leads texts start calls state
   pub left : state.opened ≢ []
   pub last : at ≡ length calls

@@ -5,14 +5,15 @@ ghost use Rattle.spa_builder.specs.Answers.{Makes};
 ghost use Rattle.spa_builder.specs.Fields.{IsAt};
 ghost use Rattle.spa_builder.specs.Replay.{IsAnswered};
 ghost use Rattle.spa_builder.specs.State.{State, start};
-ghost use Rattle.spa_builder.specs.Step.{Accepts, Inval, Nospc, pop, step};
+ghost use Rattle.spa_builder.specs.Step.{Accepts, Inval, Nospc, Outcome, pop, step};
 ghost use Rattle.spa_utils.specs.declared.errno.TheConstants.Errno.{INVAL, NOSPC};
 ghost use Rattle.spav.specs.Answers.{IsBuilt, IsDone, IsInvalid, IsNoMemory, IsNoRoom, IsPast, IsStopped};
-ghost use Rattle.spav.specs.Building.{Builds, LeavesOpen, StopsAt, adds, array_in, array_number, begun_by, frame_of, outcome_in, outcome_of, part_of, said_by, state_from};
+ghost use Rattle.spav.specs.Building.{Builds, ComesTo, Leads, LeavesOpen, StopsAt, adds, array_in, array_number, begun_by, frame_of, outcome_of, part_of, said_by};
 ghost use Rattle.spav.specs.Lists.{IsWritten};
 
 use crate::answers::{INVALID, NO_MEMORY, PAST};
 use crate::lists::put_front;
+use crate::pods::add_pod;
 use spa_builder::Builder;
 use spa_fixed_sized::CanonicalFixedSizedPod;
 use spa_utils::{Errno, Fd, Float32, Float64, Fraction, Frame, Id, Rectangle, SpaTypes};
@@ -28,11 +29,14 @@ const POP: u32 = 257;
 /// The number of a call that adds a whole array.
 const ARRAY: u32 = 258;
 
+/// The number of a call that adds a whole pod.
+const POD: u32 = 259;
+
 /// A call of a builder.
 #[repr(C)]
 #[derive(Clone, Copy)]
 pub struct Call {
-    /// The type of the value that is added, or of the pod that is begun; or KEY, or POP, or ARRAY.
+    /// The type of the value that is added, or of the pod that is begun; or KEY, POP, ARRAY or POD.
     pub what: u32,
     /// An Id, a truth value (0 is false), the bits of a Float, a width, a numerator, a pointer's type, an object's type, a choice's shape, a key, or
     /// the type of an array's elements.
@@ -43,17 +47,17 @@ pub struct Call {
     pub number: i32,
     /// A Long, or the number of a file descriptor.
     pub wide: i64,
-    /// The bits of a Double, a pointer's address, the byte of the texts at which a text or the elements of an array begin, the frame of the pod that
-    /// is closed, or 0 for the innermost.
+    /// The bits of a Double, a pointer's address, the byte of the texts at which a text, the elements of an array or a pod begin, the frame of the pod
+    /// that is closed, or 0 for the innermost.
     pub bits: u64,
-    /// How many bytes a text has, or how many elements an array has.
+    /// How many bytes a text or a pod has, or how many elements an array has.
     pub len: u64,
     /// 0.
     pub reserved: u64,
 }
 
-/// Writes the pods that a list of calls builds, one after another, to the front of `out`. The texts of strings, bytes, and the elements of whole
-/// arrays, without padding between, are parts of `texts`.
+/// Writes the pods that a list of calls builds, one after another, to the front of `out`. The texts of strings, bytes, the elements of whole arrays,
+/// without padding between, and whole pods are parts of `texts`. A whole pod has to be canonical, and to nest at most 1000 deep.
 ///
 /// 0: `written` is their length in bytes, and `out` is unchanged behind them. -ENOSPC: their length, `written`, is more than `out` has. -EINVAL:
 /// the call at the index `at` of the list isn't allowed there, or is none; where `at` is the number of calls, a pod is still open behind the
@@ -114,8 +118,7 @@ fn answer_of(cause: Errno) -> i32
 /// Makes the calls. Refused at the first that isn't accepted, with its index and the cause.
 fn run(builder: &mut Builder, texts: &[u8], calls: &[Call]) -> Result<(), (usize, Errno)>
     requires { IsAt builder.old start }
-    ensures all { IfOk result (λ _. (s : State) × (state_from texts.now start calls.now ≡ Some s)
-        × IsAt builder.new s) }
+    ensures all { IfOk result (λ _. (s : State) × Leads texts.now start calls.now s × IsAt builder.new s) }
     ensures stops { IfErr result (λ r. StopsAt texts.now calls.now r.0 (λ o. IsAnswered o (Err r.1))) }
 {
     let mut at = 0;
@@ -130,16 +133,19 @@ fn run(builder: &mut Builder, texts: &[u8], calls: &[Call]) -> Result<(), (usize
 
 /// Makes one call. One whose reserved field isn't 0 is none.
 fn make(builder: &mut Builder, texts: &[u8], call: &Call) -> Result<(), Errno>
-    ensures { (s : State) → IsAt builder.old s
-        → Makes (outcome_in texts.now s call.now) builder.old builder.new result }
+    ensures { (s : State) → IsAt builder.old s → (o : Outcome) × ComesTo texts.now s call.now o
+        × Makes o builder.old builder.new result }
 {
     if call.reserved != 0 {
         return Err(Errno::INVAL);
     }
+    if call.what == POD {
+        return add_pod(builder, texts, call);
+    }
     make_known(builder, texts, call)
 }
 
-/// Makes a call of the header's words.
+/// Makes a call of the header's words that adds no whole pod.
 fn make_known(builder: &mut Builder, texts: &[u8], call: &Call) -> Result<(), Errno>
     ensures { (s : State) → IsAt builder.old s
         → Makes (outcome_of s (said_by s call.now.what texts.now call.now)) builder.old builder.new result }
@@ -208,7 +214,7 @@ fn close_pod(builder: &mut Builder, call: &Call) -> Result<(), Errno>
 }
 
 /// The `len` bytes of the texts from the offset `from` on. None: the texts are shorter.
-fn part(texts: &[u8], from: usize, len: usize) -> Option<&[u8]>
+pub(crate) fn part(texts: &[u8], from: usize, len: usize) -> Option<&[u8]>
     ensures some { IfSome result (λ text. part_of texts.now from len ≡ Some text.now) }
     ensures none { IfNone result (part_of texts.now from len ≡ None) }
 {

@@ -15,6 +15,7 @@ mod items;
 mod lenient;
 mod lists;
 mod negotiation;
+mod pods;
 mod questions;
 mod reading;
 mod setting;

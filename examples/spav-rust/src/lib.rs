@@ -374,6 +374,8 @@ pub enum Call<'a> {
     Double(f64),
     String(&'a str),
     Bytes(&'a [u8]),
+    /// A canonical pod, which is added whole.
+    Pod(&'a [u8]),
     /// Width and height.
     Rectangle(u32, u32),
     /// Numerator and denominator.
@@ -435,6 +437,7 @@ fn raw_call(call: &Call, texts: &mut Vec<u8>) -> RawCall {
         Call::PushChoice(shape, flags) => words(19, shape, flags, 0),
         Call::Prop(key, flags) => words(256, key, flags, 0),
         Call::Pop(frame) => words(257, 0, 0, frame),
+        Call::Pod(pod) => text(259, pod),
     }
 }
 
@@ -776,6 +779,13 @@ mod tests {
         assert_eq!(build_into(&calls, &mut out[..111]), Err(BuildError::NoRoom(112)));
         assert_eq!(build_into(&calls[..11], &mut out), Err(BuildError::Refused(11)));
         assert_eq!(build_into(&[Call::PushStruct, Call::Pop(2)], &mut out), Err(BuildError::Refused(1)));
+    }
+
+    #[test]
+    fn a_pod_is_added_whole() {
+        let (pod, mut out) = (object(), [9; 120]);
+        assert_eq!(build_into(&[Call::PushStruct, Call::Pod(&pod), Call::Pop(1)], &mut out).unwrap()[8..], pod[..]);
+        assert_eq!(build_into(&[Call::PushStruct, Call::Pod(&pod[..104])], &mut out), Err(BuildError::Refused(1)));
     }
 
     #[test]

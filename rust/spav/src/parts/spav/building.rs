@@ -4,6 +4,7 @@
 use spa_pod::shims::prelude::*;
 use crate::parts::spav::answers::{INVALID, NO_MEMORY, PAST};
 use crate::parts::spav::lists::put_front;
+use crate::parts::spav::pods::add_pod;
 use spa_pod::parts::spa_builder::Builder;
 use spa_pod::parts::spa_fixed_sized::CanonicalFixedSizedPod;
 use spa_pod::parts::spa_utils::{Errno, Fd, Float32, Float64, Fraction, Frame, Id, Rectangle, SpaTypes};
@@ -18,11 +19,14 @@ const POP: u32 = 257;
 /// The number of a call that adds a whole array.
 const ARRAY: u32 = 258;
 
+/// The number of a call that adds a whole pod.
+const POD: u32 = 259;
+
 /// A call of a builder.
 #[repr(C)]
 #[derive(Clone, Copy)]
 pub struct Call {
-    /// The type of the value that is added, or of the pod that is begun; or KEY, or POP, or ARRAY.
+    /// The type of the value that is added, or of the pod that is begun; or KEY, POP, ARRAY or POD.
     pub what: u32,
     /// An Id, a truth value (0 is false), the bits of a Float, a width, a numerator, a pointer's type, an object's type, a choice's shape, a key, or
     /// the type of an array's elements.
@@ -33,17 +37,17 @@ pub struct Call {
     pub number: i32,
     /// A Long, or the number of a file descriptor.
     pub wide: i64,
-    /// The bits of a Double, a pointer's address, the byte of the texts at which a text or the elements of an array begin, the frame of the pod that
-    /// is closed, or 0 for the innermost.
+    /// The bits of a Double, a pointer's address, the byte of the texts at which a text, the elements of an array or a pod begin, the frame of the pod
+    /// that is closed, or 0 for the innermost.
     pub bits: u64,
-    /// How many bytes a text has, or how many elements an array has.
+    /// How many bytes a text or a pod has, or how many elements an array has.
     pub len: u64,
     /// 0.
     pub reserved: u64,
 }
 
-/// Writes the pods that a list of calls builds, one after another, to the front of `out`. The texts of strings, bytes, and the elements of whole
-/// arrays, without padding between, are parts of `texts`.
+/// Writes the pods that a list of calls builds, one after another, to the front of `out`. The texts of strings, bytes, the elements of whole arrays,
+/// without padding between, and whole pods are parts of `texts`. A whole pod has to be canonical, and to nest at most 1000 deep.
 ///
 /// 0: `written` is their length in bytes, and `out` is unchanged behind them. -ENOSPC: their length, `written`, is more than `out` has. -EINVAL:
 /// the call at the index `at` of the list isn't allowed there, or is none; where `at` is the number of calls, a pod is still open behind the
@@ -98,10 +102,13 @@ fn make(builder: &mut Builder, texts: &[u8], call: &Call) -> Result<(), Errno> {
     if call.reserved != 0 {
         return Err(Errno::INVAL);
     }
+    if call.what == POD {
+        return add_pod(builder, texts, call);
+    }
     make_known(builder, texts, call)
 }
 
-/// Makes a call of the header's words.
+/// Makes a call of the header's words that adds no whole pod.
 fn make_known(builder: &mut Builder, texts: &[u8], call: &Call) -> Result<(), Errno> {
     match SpaTypes(call.what) {
         SpaTypes::None => builder.add_none(),
@@ -161,7 +168,7 @@ fn close_pod(builder: &mut Builder, call: &Call) -> Result<(), Errno> {
 }
 
 /// The `len` bytes of the texts from the offset `from` on. None: the texts are shorter.
-fn part(texts: &[u8], from: usize, len: usize) -> Option<&[u8]> {
+pub(crate) fn part(texts: &[u8], from: usize, len: usize) -> Option<&[u8]> {
     if from > texts.len() || texts.len() - from < len {
         return None;
     }

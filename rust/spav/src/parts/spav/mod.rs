@@ -13,6 +13,7 @@ pub(crate) mod items;
 pub(crate) mod lenient;
 pub(crate) mod lists;
 pub(crate) mod negotiation;
+pub(crate) mod pods;
 pub(crate) mod questions;
 pub(crate) mod reading;
 pub(crate) mod setting;

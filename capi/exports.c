@@ -86,6 +86,14 @@ int32_t spav_fault(const void *in, size_t n, uint32_t *kind, size_t *top, size_t
 	return lacks(in, n) ? -EFAULT : proved_spav_fault(some(in), n, kind, top, at);
 }
 
+int32_t proved_spav_check_leniently(const void *, size_t, size_t *);
+int32_t spav_check_leniently(const void *in, size_t n, size_t *at) { return lacks(in, n) ? -EFAULT : proved_spav_check_leniently(some(in), n, at); }
+
+int32_t proved_spav_fault_leniently(const void *, size_t, uint32_t *, size_t *);
+int32_t spav_fault_leniently(const void *in, size_t n, uint32_t *kind, size_t *top) {
+	return lacks(in, n) ? -EFAULT : proved_spav_fault_leniently(some(in), n, kind, top);
+}
+
 const char *spav_fault_text(uint32_t kind) {
 	static const char *const texts[] = {
 		"no fault",
@@ -181,6 +189,16 @@ int32_t proved_spav_read(const void *, size_t, struct spav_item *, size_t, size_
 int32_t spav_read(const void *in, size_t n, struct spav_item *out, size_t room, size_t *count, uint32_t *kind, size_t *at) {
 	const int32_t error = lacks(out, room) ? -EFAULT : error_of(in, n, out, room * sizeof *out);
 	return error ? error : proved_spav_read(some(in), n, some(out), room, count, kind, at);
+}
+
+int32_t proved_spav_read_leniently(const void *, size_t, void *, size_t, struct spav_item *, size_t, size_t *, size_t *, size_t *);
+int32_t spav_read_leniently(const void *in, size_t n, void *out, size_t cap, struct spav_item *items, size_t room, size_t *written, size_t *count, size_t *at) {
+	const int32_t first = error_of(in, n, out, cap), second = lacks(items, room) ? -EFAULT : error_of(in, n, items, room * sizeof *items);
+	if (first == -EFAULT || second == -EFAULT)
+		return -EFAULT;
+	if (first || second || error_of(out, cap, items, room * sizeof *items))
+		return -EINVAL;
+	return proved_spav_read_leniently(some(in), n, some(out), cap, some(items), room, written, count, at);
 }
 
 int32_t proved_spav_settled_item(const void *, size_t, struct spav_item *);

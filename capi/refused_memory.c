@@ -1,11 +1,7 @@
 /* Each request for memory is refused in turn, alone or with all after it. From it on refused, the answer is -ENOMEM and the output is as it was;
  * refused alone, the answer may also be that of a call with memory, since what isn't got at once is asked for bit by bit. All memory is
  * given back. None is asked for to rewrite pods that aren't deep and are canonical, or are rewritten in place or into as much room. Linked with --wrap=malloc, --wrap=realloc and --wrap=free. */
-#include <errno.h>
-#include <stdio.h>
-#include <stdlib.h>
-#include <string.h>
-#include "spav.h"
+#include "see.h"
 
 void *__real_malloc(size_t n);
 void *__real_realloc(void *block, size_t n);
@@ -34,8 +30,6 @@ void __wrap_free(void *block) {
 	held -= block != NULL;
 	__real_free(block);
 }
-
-#define SEE(fact) do { if (!(fact)) { fprintf(stderr, "line %d: %s\n", __LINE__, #fact); exit(1); } } while (0)
 
 /* A None choice over an Array of Ids in a struct, between texts with two NULs. */
 static const uint32_t lenient[] = { 4, 8, 0x6261, 0, 40, 14, 32, 19, 0, 5, 16, 13, 4, 3, 3, 4, 4, 8, 0x6261, 0 };
@@ -76,11 +70,12 @@ static void refuse_each(rewriting *rewrite, const void *in, size_t n, size_t cap
 	SEE(may_ask == (refuse_at > 1));
 }
 
-static void refuse_check(const void *in, size_t n, bool may_ask) {
+/* Of what writes nothing. */
+static void refuse_check(int32_t (*check)(const void *, size_t, size_t *), const void *in, size_t n, bool may_ask) {
 	size_t at;
 	for (refuse_at = 1;; refuse_at++) {
 		asked = 0;
-		int32_t answer = spav_check(in, n, &at);
+		int32_t answer = check(in, n, &at);
 		SEE(held == 0);
 		if (asked < refuse_at) {
 			SEE(answer == 0);
@@ -89,6 +84,26 @@ static void refuse_check(const void *in, size_t n, bool may_ask) {
 		SEE(answer == -ENOMEM || (answer == 0 && !and_after));
 	}
 	SEE(may_ask == (refuse_at > 1));
+}
+
+static int32_t fault_leniently(const void *in, size_t n, size_t *at) {
+	uint32_t kind = 99;
+	size_t top = 99;
+	*at = 0;
+	int32_t answer = spav_fault_leniently(in, n, &kind, &top);
+	SEE(top == 99 && kind == (answer ? 99 : SPAV_FAULT_NONE));
+	return answer;
+}
+
+/* Reads a few items, too. */
+static int32_t read_leniently(const void *in, size_t n, void *out, size_t cap, size_t *written, size_t *at) {
+	static struct spav_item items[32], before[32];
+	size_t count = 99;
+	memset(items, 0xee, sizeof items);
+	memset(before, 0xee, sizeof before);
+	int32_t answer = spav_read_leniently(in, n, out, cap, items, 32, written, &count, at);
+	SEE(answer ? count == 99 && !memcmp(items, before, sizeof items) : count && items[0].type != 0xeeeeeeee);
+	return answer;
 }
 
 /* The same in place. */
@@ -241,9 +256,15 @@ int main(void) {
 		refuse_each(spav_rewrite_leniently, dirty, sizeof dirty, sizeof dirty, false);
 		refuse_each(spav_rewrite_leniently, dirty, sizeof dirty, written, true);
 		refuse_each(spav_rewrite_leniently, lenient, sizeof lenient, sizeof lenient, true);
-		refuse_check(dirty, sizeof dirty, false);
-		refuse_check(own, written, false);
-		refuse_check(dirty, 16, false);
+		refuse_check(spav_check, dirty, sizeof dirty, false);
+		refuse_check(spav_check, own, written, false);
+		refuse_check(spav_check, dirty, 16, false);
+		refuse_check(spav_check_leniently, dirty, sizeof dirty, false);
+		refuse_check(spav_check_leniently, lenient, sizeof lenient, true);
+		refuse_check(fault_leniently, dirty, sizeof dirty, false);
+		refuse_check(fault_leniently, lenient, sizeof lenient, true);
+		refuse_each(read_leniently, dirty, sizeof dirty, sizeof dirty, false);
+		refuse_each(read_leniently, lenient, sizeof lenient, sizeof lenient, true);
 		refuse_in_place(spav_rewrite_in_place, dirty, 16, false);
 		refuse_in_place(spav_rewrite_in_place, dirty, sizeof dirty, false);
 		refuse_in_place(spav_rewrite_in_place_leniently, dirty, sizeof dirty, false);

@@ -8,8 +8,8 @@
  *
  * Regions. A region is a pointer and how many bytes, or elements, it has. It may be NULL where it is empty; NULL with
  * another length is answered by -EFAULT. `in` is only read. `out` is written from its front on, only where the answer
- * is 0, and behind what is written it stays as it is, but for what rewriting says below. One that overlaps a region
- * that is read is answered by -EINVAL, with `written`, `at` and the like as they were.
+ * is 0 or the call says so, and behind what is written it stays as it is, but for what rewriting says below. One that
+ * overlaps a region that is read is answered by -EINVAL, with `written`, `at` and the like as they were.
  *
  * What a caller keeps to, which nothing checks. A region's bytes are there, and are PTRDIFF_MAX at most. No other
  * thread or process changes them during the call. What an answer is put into (`written`, `at`, a value) isn't NULL, and
@@ -150,6 +150,13 @@ int32_t spav_rewrite_in_place_leniently(void *bytes, size_t n, size_t *written, 
  *            one another */
 int32_t spav_check(const void *in, size_t n, size_t *at) SPAV_MUST_USE SPAV_NONNULL(3);
 
+/* Whether spav_rewrite_leniently accepts `in`.
+ *   0        it does
+ *   -EINVAL  `in` doesn't convey values one after another: nothing is conveyed at the byte *at
+ *   -ENOMEM  memory was asked for and refused. None is asked for where `in` is pods, and structs and objects stand at
+ *            most 1000 deep in one another */
+int32_t spav_check_leniently(const void *in, size_t n, size_t *at) SPAV_MUST_USE SPAV_NONNULL(3);
+
 /* What is wrong with bytes. */
 enum spav_fault_kind {
 	SPAV_FAULT_NONE,
@@ -175,6 +182,13 @@ enum spav_fault_kind {
  * After a lenient call was refused, the fault may be one that the lenient reading accepts. */
 int32_t spav_fault(const void *in, size_t n, uint32_t *kind, size_t *top, size_t *at)
 	SPAV_MUST_USE SPAV_NONNULL(3, 4, 5);
+
+/* Which fault keeps the lenient calls from accepting `in`.
+ *   0        *kind is its kind; it stands in what begins at the byte *top, where nothing is conveyed. At which byte of
+ *            that isn't said. Or *kind is SPAV_FAULT_NONE: `in` conveys values one after another, and *top is as it was
+ *   -ENOMEM  memory was asked for and refused. None is asked for where `in` is pods, and structs and objects stand at
+ *            most 1000 deep in one another */
+int32_t spav_fault_leniently(const void *in, size_t n, uint32_t *kind, size_t *top) SPAV_MUST_USE SPAV_NONNULL(3, 4);
 
 /* The kind of a fault in words, for people; of a number that is none, "no fault". */
 const char *spav_fault_text(uint32_t kind);
@@ -210,8 +224,9 @@ int32_t spav_same(const void *a, size_t n, const void *b, size_t m, bool *same, 
  *   -EINVAL  no whole pod of the type Object is at the front */
 int32_t spav_fixate(void *pod, size_t n) SPAV_MUST_USE;
 
-/* Reading. None of these calls asks for memory. But for spav_read, which goes by the exact reading, they look at types
- * and sizes alone, so the bytes may be anything, and write a value only where the answer says that there is one. */
+/* Reading. But for spav_read_leniently none of these calls asks for memory. But for this one and spav_read, which goes
+ * by the exact reading, they look at types and sizes alone, so the bytes may be anything, and write a value only where
+ * the answer says that there is one. */
 
 /* The pod at the front of `in`.
  *   0        *type is its type, *size the size of its body, which begins at the byte 8, *whole its length with header
@@ -284,6 +299,20 @@ struct spav_item {
  *   -ELOOP   structs and objects stand more than 1000 deep in one another */
 int32_t spav_read(const void *in, size_t n, struct spav_item *out, size_t room, size_t *count, uint32_t *kind,
 	size_t *at) SPAV_MUST_USE SPAV_NONNULL(5, 6, 7);
+
+/* Reads all that `in` conveys in the lenient reading: writes to `out` what spav_rewrite_leniently writes, and to
+ * `items` what spav_read reads of that. So the bytes of which items say the number are bytes of `out`, and not of `in`.
+ * `cap` = n is room enough. `out` and `items` that overlap are answered by -EINVAL, too.
+ *   0        *written bytes and *count items were written. Where `cap` is n or more, the others of the first n bytes of
+ *            `out` may have changed, too
+ *   -ENOSPC  `cap` is less than *written: no byte and no item was written, and *count is as it was. Or it isn't: the
+ *            bytes were written, and there are *count items, more than `room`: `items` is full of the first of them
+ *   -EINVAL  `in` doesn't convey values one after another: nothing is conveyed at the byte *at
+ *   -ELOOP   *written bytes were written, and no items: structs and objects stand more than 1000 deep in one another
+ *   -ENOMEM  memory was asked for and refused. None is asked for where `in` is pods, structs and objects stand at most
+ *            1000 deep in one another, and `cap` is n or more */
+int32_t spav_read_leniently(const void *in, size_t n, void *out, size_t cap, struct spav_item *items, size_t room,
+	size_t *written, size_t *count, size_t *at) SPAV_MUST_USE SPAV_NONNULL(7, 8, 9);
 
 /* The item of the pod at the front of `in`, of a choice with its shape and its flags; and where that is a None choice,
  * by spav_settled_item that of its value. The pod may be malformed: a number that goes past its body is 0, and a text

@@ -66,6 +66,10 @@ CALL(rewrite_leniently, in, n, out, n, &written, &at)
 CALL(rewrite_in_place, in, n, &written, &at)
 CALL(rewrite_in_place_leniently, in, n, &written, &at)
 CALL(check, in, n, &at)
+CALL(check_leniently, in, n, &at)
+CALL(fault_leniently, in, n, &kind, &at)
+static struct spav_item items[1];
+CALL(read_leniently, in, n, out, n, items, 1, &written, &at, &at)
 static bool truth;
 CALL(is_canonical, in, n, &truth)
 CALL(nests_within, in, n, 1000, &truth)
@@ -95,9 +99,9 @@ static const struct row {
 	const char *name;
 	int32_t (*call)(void);
 } rows[] = { ROW(rewrite), { "spav_rewrite_without_room", rewrite_without_room }, ROW(rewrite_leniently), ROW(rewrite_in_place),
-	ROW(rewrite_in_place_leniently), ROW(check), ROW(is_canonical), ROW(nests_within), ROW(fault), ROW(read), ROW(front_item),
-	ROW(settled_item), ROW(element), ROW(set_int), ROW(same), ROW(find), ROW(member), ROW(front_elements), ROW(object), ROW(int),
-	ROW(string), ROW(fixate), ROW(filter), ROW(negotiate), ROW(build), { "spav_build_of_a_pod", build_of_a_pod } };
+	ROW(rewrite_in_place_leniently), ROW(check), ROW(check_leniently), ROW(fault_leniently), ROW(read_leniently), ROW(is_canonical), ROW(nests_within),
+	ROW(fault), ROW(read), ROW(front_item), ROW(settled_item), ROW(element), ROW(set_int), ROW(same), ROW(find), ROW(member), ROW(front_elements),
+	ROW(object), ROW(int), ROW(string), ROW(fixate), ROW(filter), ROW(negotiate), ROW(build), { "spav_build_of_a_pod", build_of_a_pod } };
 
 /* Where the stack is at a call. */
 static uint8_t *top;

@@ -65,6 +65,10 @@ IsUnfound answer = IsInvalid answer ⊎ IsMissing answer
 abbrev pub IsFound : ℤ → Type 0
 IsFound answer = IsDone answer ⊎ IsUnfound answer
 
+-- the answers of a rewriting that is read, too
+abbrev pub IsReadLeniently : ℤ → Type 0
+IsReadLeniently answer = IsRewritten answer ⊎ IsTooDeep answer
+
 -- the answers of a read of all items
 abbrev pub IsListRead : ℤ → Type 0
 IsListRead answer = IsPut answer ⊎ IsInvalid answer ⊎ IsTooDeep answer

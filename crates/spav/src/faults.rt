@@ -44,7 +44,7 @@ pub extern "C" fn spav_fault(input: &[u8], kind: &mut u32, top: &mut usize, at: 
 }
 
 /// The number of a fault.
-fn number_of(why: Refusal) -> u32
+pub(crate) fn number_of(why: Refusal) -> u32
     requires { why ≢ refusal.OutOfMemory }
     ensures said { Says (λ k. result ≡ fault_number k) ⊥ why }
     ensures some { result ≢ 0 }

@@ -50,6 +50,9 @@ export! {
     lists spav_check(read input: u8, to at: usize);
     lenient spav_rewrite_leniently(read input: u8, write out: u8, to written: usize, to at: usize);
     lenient spav_rewrite_in_place_leniently(write bytes: u8, to written: usize, to at: usize);
+    lenient spav_check_leniently(read input: u8, to at: usize);
+    lenient spav_fault_leniently(read input: u8, to kind: u32, to top: usize);
+    lenient spav_read_leniently(read input: u8, write out: u8, write items: Item, to written: usize, to count: usize, to at: usize);
     in_place spav_rewrite_in_place(write bytes: u8, to written: usize, to at: usize);
     faults spav_fault(read input: u8, to kind: u32, to top: usize, to at: usize);
     questions spav_is_canonical(read input: u8, to canonical: bool);

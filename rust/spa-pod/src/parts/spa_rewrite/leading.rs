@@ -35,7 +35,7 @@ enum First<'a> {
 /// `None` says that it isn't, or that more than 1000 structs and objects stand in one another: such a pod may not be looked into, and may still be
 /// canonical.
 #[must_use]
-pub(crate) fn canonical_front(input: &[u8]) -> Option<&[u8]> {
+pub fn canonical_front(input: &[u8]) -> Option<&[u8]> {
     next_canonical(input, &mut no_frames(input))
 }
 

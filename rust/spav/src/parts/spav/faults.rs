@@ -29,7 +29,7 @@ pub fn spav_fault(input: &[u8], kind: &mut u32, top: &mut usize, at: &mut usize)
 }
 
 /// The number of a fault.
-fn number_of(why: Refusal) -> u32 {
+pub(crate) fn number_of(why: Refusal) -> u32 {
     match why {
         Refusal::Short => 1,
         Refusal::Text => 2,

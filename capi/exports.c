@@ -271,3 +271,25 @@ int32_t spav_build(const struct spav_call *calls, size_t count, const void *text
 		return -EFAULT;
 	return first || second ? -EINVAL : proved_spav_build(some(calls), count, some(texts), n, some(out), cap, written, at);
 }
+
+int32_t proved_spav_name(uint32_t, uint32_t, uint32_t, uint32_t, char *, size_t, size_t *);
+int32_t spav_name(uint32_t names, uint32_t type, uint32_t key, uint32_t number, char *out, size_t cap, size_t *len) {
+	return lacks(out, cap) ? -EFAULT : proved_spav_name(names, type, key, number, some(out), cap, len);
+}
+
+int32_t proved_spav_number(uint32_t, uint32_t, uint32_t, const char *, size_t, uint32_t *);
+int32_t spav_number(uint32_t names, uint32_t type, uint32_t key, const char *name, size_t n, uint32_t *number) {
+	return lacks(name, n) ? -EFAULT : proved_spav_number(names, type, key, some(name), n, number);
+}
+
+int32_t proved_spav_json(const void *, size_t, char *, size_t, size_t *);
+int32_t spav_json(const void *in, size_t n, char *out, size_t cap, size_t *len) {
+	const int32_t error = error_of(in, n, out, cap);
+	return error ? error : proved_spav_json(some(in), n, some(out), cap, len);
+}
+
+int32_t proved_spav_from_json(const char *, size_t, void *, size_t, size_t *, size_t *);
+int32_t spav_from_json(const char *text, size_t n, void *out, size_t cap, size_t *written, size_t *at) {
+	const int32_t error = error_of(text, n, out, cap);
+	return error ? error : proved_spav_from_json(some(text), n, some(out), cap, written, at);
+}

@@ -184,52 +184,48 @@ static void refuse_deep_in_place(void) {
 static const uint32_t ours[] = { 80, 15, 5, 3, 1, 0, 24, 19, 3, 0, 4, 4, 7, 9, 2, 0, 16, 14, 4, 4, 6, 0 };
 static const uint32_t theirs[] = { 32, 15, 5, 7, 1, 0, 4, 4, 9, 0 };
 
-/* The object in which they meet, or to which they are filtered. */
-static int32_t join(bool filters, void *out, size_t cap, size_t *written) {
+/* What is made of what isn't given. */
+typedef int32_t making(void *out, size_t cap, size_t *written);
+
+/* The object in which they meet, and that to which they are filtered. */
+static int32_t meet(void *out, size_t cap, size_t *written) {
 	uint32_t key_or_side;
-	if (filters)
-		return spav_filter(ours, sizeof ours, theirs, sizeof theirs, out, cap, written, &key_or_side);
 	return spav_negotiate(ours, sizeof ours, theirs, sizeof theirs, out, cap, written, &key_or_side);
 }
+static int32_t filter(void *out, size_t cap, size_t *written) {
+	uint32_t key_or_side;
+	return spav_filter(ours, sizeof ours, theirs, sizeof theirs, out, cap, written, &key_or_side);
+}
 
-static void refuse_joining(bool filters) {
+/* A struct with another one in it, which has a text, an array and a pod. */
+static int32_t build(void *out, size_t cap, size_t *written) {
+	const struct spav_call calls[] = { spav_push_struct(), spav_push_struct(), spav_add_string(8, 92), spav_add_array(SPAV_TYPE_Int, 0, 25), spav_add_pod(0, 8),
+		spav_pop(), spav_pop() };
+	static uint8_t texts[100];
+	size_t at;
+	memset(texts, 'a', sizeof texts);
+	memcpy(texts, (const uint32_t[]){ 0, SPAV_TYPE_Struct }, 8);
+	return spav_build(calls, sizeof calls / sizeof *calls, texts, sizeof texts, out, cap, written, &at);
+}
+
+/* The text of a pod, and the pod of a text. */
+static int32_t print_text(void *out, size_t cap, size_t *written) { return spav_json(ours, sizeof ours, out, cap, written); }
+static int32_t read_text(void *out, size_t cap, size_t *written) {
+	static const char text[] = "[{\"type\":262147,\"id\":3,\"props\":{\"rate\":{\"choice\":\"Enum\",\"values\":[1,2]}}},\"a\",{\"bytes\":\"00ff\"},[{\"float\":0.5}]]";
+	size_t at;
+	return spav_from_json(text, sizeof text - 1, out, cap, written, &at);
+}
+
+static void refuse_making(making *make) {
 	static uint8_t wanted[256], out[256], before[256];
 	size_t len, written;
 	memset(before, 0xee, sizeof before);
 	refuse_at = 0;
-	SEE(join(filters, wanted, sizeof wanted, &len) == 0 && held == 0);
+	SEE(make(wanted, sizeof wanted, &len) == 0 && held == 0);
 	for (refuse_at = 1;; refuse_at++) {
 		asked = 0;
 		memset(out, 0xee, sizeof out);
-		int32_t answer = join(filters, out, sizeof out, &written);
-		SEE(held == 0);
-		if (asked < refuse_at) {
-			SEE(answer == 0 && refuse_at > 1);
-			break;
-		}
-		if (answer == 0)
-			SEE(!and_after && written == len && !memcmp(out, wanted, len));
-		else
-			SEE(answer == -ENOMEM && !memcmp(out, before, sizeof out));
-	}
-}
-
-/* A struct with another one in it, which has a text, an array and a pod. */
-static void refuse_building(void) {
-	const struct spav_call calls[] = { spav_push_struct(), spav_push_struct(), spav_add_string(8, 92), spav_add_array(SPAV_TYPE_Int, 0, 25), spav_add_pod(0, 8),
-		spav_pop(), spav_pop() };
-	const size_t count = sizeof calls / sizeof *calls;
-	static uint8_t texts[100], wanted[256], out[256], before[256];
-	size_t len, written, at;
-	memset(texts, 'a', sizeof texts);
-	memcpy(texts, (const uint32_t[]){ 0, SPAV_TYPE_Struct }, 8);
-	memset(before, 0xee, sizeof before);
-	refuse_at = 0;
-	SEE(spav_build(calls, count, texts, sizeof texts, wanted, sizeof wanted, &len, &at) == 0 && held == 0);
-	for (refuse_at = 1;; refuse_at++) {
-		asked = 0;
-		memset(out, 0xee, sizeof out);
-		int32_t answer = spav_build(calls, count, texts, sizeof texts, out, sizeof out, &written, &at);
+		int32_t answer = make(out, sizeof out, &written);
 		SEE(held == 0);
 		if (asked < refuse_at) {
 			SEE(answer == 0 && refuse_at > 1);
@@ -272,9 +268,11 @@ int main(void) {
 		refuse_deep_in_place();
 		refuse_deep(false);
 		refuse_deep(true);
-		refuse_joining(false);
-		refuse_joining(true);
-		refuse_building();
+		refuse_making(meet);
+		refuse_making(filter);
+		refuse_making(build);
+		refuse_making(print_text);
+		refuse_making(read_text);
 	}
 	return 0;
 }

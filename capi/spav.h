@@ -371,6 +371,54 @@ int32_t spav_set_fd(void *pod, size_t n, uint32_t key, int64_t value) SPAV_MUST_
 int32_t spav_set_rectangle(void *pod, size_t n, uint32_t key, uint32_t width, uint32_t height) SPAV_MUST_USE;
 int32_t spav_set_fraction(void *pod, size_t n, uint32_t key, uint32_t num, uint32_t denom) SPAV_MUST_USE;
 
+/* Names and text. These four calls are in a shared library of their own, libspav-text, for which a program is linked
+ * with -lspav-text; libspav.a has them, too. The names are PipeWire's short ones, of the tables of PipeWire 0.3.65:
+ * docs/TEXT.md, "Names". */
+
+/* Of which numbers names are. */
+enum spav_names {
+	SPAV_NAMES_TYPES,    /* types of pods and of objects: "Int", "Format" */
+	SPAV_NAMES_SHAPES,   /* shapes of choices: "Range" */
+	SPAV_NAMES_CONTROLS, /* types of the controls of a sequence: "Midi" */
+	SPAV_NAMES_KEYS,     /* keys of objects of the type `type`: "rate" */
+	SPAV_NAMES_IDS,      /* ids of objects of the type `type`: "EnumFormat" */
+	SPAV_NAMES_VALUES    /* Ids under the key `key` of objects of the type `type`, also in arrays: "S16LE" */
+};
+
+/* The name of a number among `names`, which is one of enum spav_names: it and one NUL go to `out`. `type` and `key` are
+ * looked at only where that says so. No name has more than 32 bytes.
+ *   0        *len bytes and the NUL were written
+ *   -ENOSPC  `cap` isn't more than *len
+ *   -ENOENT  the number has no name there */
+int32_t spav_name(uint32_t names, uint32_t type, uint32_t key, uint32_t number, char *out, size_t cap, size_t *len)
+	SPAV_MUST_USE SPAV_NONNULL(7);
+
+/* The number of the name of n bytes, without a NUL, among `names`. Several names may have one number: spav_name gives
+ * one of them.
+ *   0        *number is it
+ *   -EINVAL  the name isn't UTF-8
+ *   -ENOENT  no number has the name there */
+int32_t spav_number(uint32_t names, uint32_t type, uint32_t key, const char *name, size_t n, uint32_t *number)
+	SPAV_MUST_USE SPAV_NONNULL(6);
+
+/* The text of the pod at the front of `in`, as docs/TEXT.md has it: one line of JSON, in UTF-8, with names where there
+ * are any. The text and one NUL go to `out`. spav_from_json makes a pod of the same value of it.
+ *   0        *len bytes and the NUL were written
+ *   -ENOSPC  `cap` isn't more than *len
+ *   -EINVAL  no pod is at the front
+ *   -ENOMEM  memory was asked for and refused */
+int32_t spav_json(const void *in, size_t n, char *out, size_t cap, size_t *len) SPAV_MUST_USE SPAV_NONNULL(5);
+
+/* Writes the pod of the value whose text the n bytes `text`, without a NUL, are.
+ *   0           *written bytes were written
+ *   -ENOSPC     `cap` is less than *written, its length
+ *   -EINVAL     `text` isn't UTF-8, or isn't the text of a value: it was read up to the byte *at. Or a string in that
+ *               value holds NUL: *at is 0
+ *   -EOVERFLOW  a size in the pod is 2^32 or more
+ *   -ENOMEM     memory was asked for and refused */
+int32_t spav_from_json(const char *text, size_t n, void *out, size_t cap, size_t *written, size_t *at)
+	SPAV_MUST_USE SPAV_NONNULL(5, 6);
+
 /* Negotiation. The rules are those of docs/NEGOTIATION.md. What follows the two objects at the fronts of `a` and `b`
  * doesn't count. */
 

@@ -95,13 +95,19 @@ static int32_t build_of_a_pod(void) {
 	const struct spav_call calls[] = { spav_push_struct(), spav_add_pod(0, n), spav_pop() };
 	return spav_build(calls, 3, in, n, out, n + 8, &written, &at);
 }
+static char *text;
+CALL(json, in, n, (char *)out, n, &written)
+CALL(from_json, text, n / 8, out, n, &written, &at)
+CALL(name, SPAV_NAMES_VALUES, 0x40003, 0x10001, 259, (char *)out, 16, &written)
+CALL(number, SPAV_NAMES_VALUES, 0x40003, 0x10001, "S16LE", 5, &kind)
 static const struct row {
 	const char *name;
 	int32_t (*call)(void);
 } rows[] = { ROW(rewrite), { "spav_rewrite_without_room", rewrite_without_room }, ROW(rewrite_leniently), ROW(rewrite_in_place),
 	ROW(rewrite_in_place_leniently), ROW(check), ROW(check_leniently), ROW(fault_leniently), ROW(read_leniently), ROW(is_canonical), ROW(nests_within),
 	ROW(fault), ROW(read), ROW(front_item), ROW(settled_item), ROW(element), ROW(set_int), ROW(same), ROW(find), ROW(member), ROW(front_elements),
-	ROW(object), ROW(int), ROW(string), ROW(fixate), ROW(filter), ROW(negotiate), ROW(build), { "spav_build_of_a_pod", build_of_a_pod } };
+	ROW(object), ROW(int), ROW(string), ROW(fixate), ROW(filter), ROW(negotiate), ROW(build), { "spav_build_of_a_pod", build_of_a_pod },
+	ROW(json), ROW(from_json), ROW(name), ROW(number) };
 
 /* Where the stack is at a call. */
 static uint8_t *top;
@@ -141,8 +147,10 @@ int main(void) {
 	in = malloc(room);
 	copy = malloc(room);
 	out = malloc(room + 8);
-	if (!in || !copy || !out)
+	text = malloc(room);
+	if (!in || !copy || !out || !text)
 		return 2;
+	memset(text, '[', room);
 	const size_t of_probe = taken(&known);
 	if (of_probe < PROBE || of_probe > PROBE + 4096)
 		return 3;

@@ -77,6 +77,10 @@ IsListRead answer = IsPut answer ⊎ IsInvalid answer ⊎ IsTooDeep answer
 abbrev pub IsRead : ℤ → Type 0
 IsRead answer = IsDone answer ⊎ IsOther answer ⊎ IsUnfound answer
 
+-- the answers of a look-up of a name
+abbrev pub IsNamed : ℤ → Type 0
+IsNamed answer = IsPut answer ⊎ IsMissing answer
+
 -- the answers of a search for the body of a value
 abbrev pub IsUnset : ℤ → Type 0
 IsUnset answer = IsOther answer ⊎ IsUnfound answer
@@ -96,6 +100,10 @@ IsDisjoint answer = IsFailure 61 answer
 -- -EOVERFLOW
 abbrev pub IsPast : ℤ → Type 0
 IsPast answer = IsFailure 75 answer
+
+-- the answers of a text that becomes a pod
+abbrev pub IsJsonRead : ℤ → Type 0
+IsJsonRead answer = IsRewritten answer ⊎ IsPast answer
 
 -- the answers where two inputs don't meet
 abbrev pub IsApart : ℤ → Type 0

@@ -4,6 +4,8 @@ pub mod Faults
 pub mod Items
 pub mod Lenient
 pub mod Lists
+pub mod Names
 pub mod Reading
 pub mod Setting
 pub mod Sides
+pub mod Text

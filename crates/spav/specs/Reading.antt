@@ -1,5 +1,5 @@
 -- Reads of the front of an input, and of a property of the object there: docs/CAPI.md, "Reading".
-use Rattle.std.specs.Prelude.{◌≡◌, ℕ, List, drop, Option, None, Some}
+use Rattle.std.specs.Prelude.{◌≡◌, ◌+◌, ◌++◌, ◌∷◌, [], ℕ, List, drop, length, Option, None, Some}
 use Rattle.spa_format.specs.Words.{body_of, header_size, word_at}
 use Rattle.spa_format.specs.Kind.{Kind, Fixed, content}
 use Rattle.spa_format.specs.Front.{HasFront, front_of}
@@ -55,3 +55,8 @@ HasTextUnder key input text = HasUnder key input (λ pod. IsNulEnded pod × (tex
 -- the value under this key isn't a string whose body ends in NUL
 abbrev pub HasNoTextUnder : ℕ → List ℕ → Type 0
 HasNoTextUnder key input = HasUnder key input (λ pod. ¬ (IsNulEnded pod))
+
+-- the front of the output became this text and one NUL, `len` is the text's length, and the output is unchanged behind the NUL
+pub record TextIsPut (text : List ℕ) (len : ℕ) (old new : List ℕ) : Type 0 where
+  pub counted : len ≡ length text
+  pub front : new ≡ (text ++ 0 ∷ []) ++ drop (length text + 1) old

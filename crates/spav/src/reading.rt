@@ -1,13 +1,13 @@
 //! Reads the pod at the front of the caller's bytes, and the properties of the object there.
 //!
 //! A read looks only at type and size, as the views of PipeWire do: the bytes may be anything.
-ghost use Rattle.std.specs.Prelude.{◌≡◌, ◌≤◌, ◌+◌, ◌↔◌, ◌++◌, ◌∷◌, [], List, ℕ, IfErr, IfOk, drop, length};
+ghost use Rattle.std.specs.Prelude.{◌≡◌, ◌≤◌, ◌↔◌, List, ℕ, IfErr, IfOk, length};
 ghost use Rattle.spa_format.specs.Front.{HasFront};
 ghost use Rattle.spa_format.specs.Kind as k;
 ghost use Rattle.spa_format.specs.Words.{extent, word_at};
 ghost use Rattle.spa_view.specs.View.{pod_bytes};
 ghost use Rattle.spav.specs.Answers.{IsChanged, IsDone, IsInvalid, IsMissing, IsNoRoom, IsOther, IsPut, IsRead, IsTextRead, IsUnfound};
-ghost use Rattle.spav.specs.Reading.{BeginsObject, HasNoTextUnder, HasNoneUnder, HasOtherUnder, HasTextUnder, IsUnder, SaysObject, SaysUnder};
+ghost use Rattle.spav.specs.Reading.{BeginsObject, HasNoTextUnder, HasNoneUnder, HasOtherUnder, HasTextUnder, IsUnder, SaysObject, SaysUnder, TextIsPut};
 
 use crate::answers::{DONE, INVALID, MISSING, NO_ROOM, OTHER};
 use spa_bytes::{extent_of, open, u32_at};
@@ -316,8 +316,7 @@ pub extern "C" fn spav_fraction(input: &[u8], key: u32, num: &mut u32, denom: &m
 /// property has the key. -EPROTO: the first that has it isn't a string that ends in NUL. Where the answer isn't 0, `out` is unchanged.
 #[unsafe(no_mangle)]
 pub extern "C" fn spav_string(input: &[u8], key: u32, out: &mut [u8], len: &mut usize) -> i32
-    ensures text { IsDone result → (text : List ℕ) × HasTextUnder key input.now text × (len.new ≡ length text) ×
-        (out.new ≡ (text ++ 0 ∷ []) ++ drop (length text + 1) out.old) }
+    ensures text { IsDone result → (text : List ℕ) × HasTextUnder key input.now text × TextIsPut text len.new out.old out.new }
     ensures room { IsNoRoom result → (text : List ℕ) × HasTextUnder key input.now text × (len.new ≡ length text) ×
         (length out.old ≤ length text) }
     ensures other { IsOther result → HasNoTextUnder key input.now }
@@ -336,8 +335,8 @@ pub extern "C" fn spav_string(input: &[u8], key: u32, out: &mut [u8], len: &mut 
 }
 
 /// Copies a text and one NUL to the front of the output where they fit, and the text's length to `len` in any case.
-fn put_text(text: &[u8], out: &mut [u8], len: &mut usize) -> i32
-    ensures done { IsDone result → out.new ≡ (text.now ++ 0 ∷ []) ++ drop (length text.now + 1) out.old }
+pub(crate) fn put_text(text: &[u8], out: &mut [u8], len: &mut usize) -> i32
+    ensures done { IsDone result → TextIsPut text.now len.new out.old out.new }
     ensures counted { len.new ≡ length text.now }
     ensures room { IsNoRoom result → length out.old ≤ length text.now }
     ensures answers { IsPut result }

@@ -89,6 +89,10 @@ export! {
     setting spav_set_fraction(write bytes: u8, by key: u32, by num: u32, by denom: u32);
     negotiation spav_negotiate(read ours: u8, read theirs: u8, write out: u8, to written: usize, to key_or_side: u32);
     filtering spav_filter(read ours: u8, read theirs: u8, write out: u8, to written: usize, to key_or_side: u32);
+    naming spav_name(by names: u32, by type_: u32, by key: u32, by number: u32, write out: u8, to len: usize);
+    naming spav_number(by names: u32, by type_: u32, by key: u32, read name: u8, to number: u32);
+    text spav_json(read input: u8, write out: u8, to len: usize);
+    text spav_from_json(read text: u8, write out: u8, to written: usize, to at: usize);
     building spav_build(read calls: Call, read texts: u8, write out: u8, to written: usize, to at: usize);
 }
 

@@ -228,7 +228,7 @@ pub fn spav_string(input: &[u8], key: u32, out: &mut [u8], len: &mut usize) -> i
 }
 
 /// Copies a text and one NUL to the front of the output where they fit, and the text's length to `len` in any case.
-fn put_text(text: &[u8], out: &mut [u8], len: &mut usize) -> i32 {
+pub(crate) fn put_text(text: &[u8], out: &mut [u8], len: &mut usize) -> i32 {
     *len = text.len();
     if out.len() <= text.len() {
         return NO_ROOM;

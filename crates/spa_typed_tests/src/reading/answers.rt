@@ -12,7 +12,8 @@ use crate::reading::structs::{Idle, Stubborn};
 use crate::reading::visitors::called;
 use crate::reads::DECLARED;
 use example_types::{
-    AudioFormat, Capture, Curve, Device, Gain, Level, Mode, Profile, Screen, Song, Tagged,
+    AudioFormat, Capture, Curve, Device, Gain, Level, Media, Mode, Pair, Profile, Screen, Song,
+    Tagged,
 };
 use libspa::pod::serialize::{GenError, PodSerialize};
 use spa_fixed_sized::{ChoiceElement, DeserializeError};
@@ -214,6 +215,8 @@ fn declared(alloc: Global, name: &str, input: &[u8]) -> Result<String, AllocErro
         "latency" => latency_said(alloc, input),
         "capture" => shown::<Capture>(alloc, input),
         "gain" => answer::<Gain>(alloc, input),
+        "media" => shown::<Media>(alloc, input),
+        "pair" => again::<Pair>(alloc, input),
         "profile" => profile_said(alloc, input),
         _ => own(alloc, name, input),
     }
@@ -236,6 +239,7 @@ fn own(alloc: Global, name: &str, input: &[u8]) -> Result<String, AllocError> {
         "settled rectangle" => settled_said::<Rectangle>(alloc, input),
         "stream" => stream_said(alloc, input),
         "capture and gain" => verdict::<StructOf<(Capture, (Gain, ()))>>(alloc, input),
+        "media and pair" => verdict::<StructOf<(Media, (Pair, ()))>>(alloc, input),
         _ => call_said(alloc, name, input),
     }
 }
@@ -397,8 +401,8 @@ steps | 20 13 4 4 10 15 19 0 | [10, 15, 19]
 marks | 8 13 0 1 | 0
 first mark | 8 13 0 1 | NoElementLeft"#;
 
-/// A struct and an object that visitors of their own read: whole, without what may be missing, and with each cause for which they are
-/// refused; and both as the members of a declared struct.
+/// A struct, an object, an Id and an array that visitors read: whole, without what may be missing, and with each cause for which they are
+/// refused; and both kinds as the members of a declared struct.
 const VISITED: &str =
     r#"capture | 32 14 8 10 640 480 8 11 25 1 | Capture { size: Rectangle { width: 640, height: 480 }, rate: Some(Fraction { num: 25, denom: 1 }) }
 capture | 16 14 8 10 640 480 | Capture { size: Rectangle { width: 640, height: 480 }, rate: None }
@@ -422,7 +426,23 @@ gain | 56 15 262146 2 65539 0 4 6 1036831949 0 65540 0 4 2 1 0 | UnreadMembers
 gain | 4 15 262146 0 | WrongSize
 gain | 16 14 4 4 3 0 | Tag
 capture and gain | 64 14 16 14 8 10 640 480 32 15 262146 2 65539 16 4 6 1036831949 0 | accepted
-capture and gain | 64 14 16 14 8 10 640 480 32 15 262146 2 65540 16 4 6 1036831949 0 | not 65540"#;
+capture and gain | 64 14 16 14 8 10 640 480 32 15 262146 2 65540 16 4 6 1036831949 0 | not 65540
+media | 4 3 1 0 | Audio
+media | 4 3 2 0 | Video
+media | 4 3 3 0 | UnsupportedType
+media | 4 4 1 0 | Tag
+media | 8 3 1 0 | WrongSize
+media | 4 3 1 | Short
+pair | 16 13 4 4 7 4294967295 | 0 left
+pair | 8 13 4 4 | UnsupportedType
+pair | 12 13 4 4 7 0 | UnsupportedType
+pair | 20 13 4 4 7 8 9 0 | UnsupportedType
+pair | 16 13 4 3 7 8 | Tag
+pair | 16 13 8 4 7 8 | WrongSize
+pair | 4 4 7 0 | Tag
+media and pair | 40 14 4 3 2 0 16 13 4 4 7 8 | accepted
+media and pair | 40 14 4 3 9 0 16 13 4 4 7 8 | UnsupportedType
+media and pair | 40 14 4 3 2 0 12 13 4 4 7 0 | UnsupportedType"#;
 
 const TABLES: &[&str] = &[
     READ, CALLS, OWN, VISITED, SETTLED, BUILT, DECLARED, LATENCIES, PROFILES,

@@ -6,7 +6,8 @@ use Rattle.spa_format.specs.Encoding.{encoding_of}
 use Rattle.spa_format.specs.Pod.{IsPod}
 use Rattle.spa_format.specs.Writable.{IsTooLarge}
 use Rattle.spa_bodies.specs.Reading.{MayLackMemory}
-pub use Rattle.spa_object_view.specs.Fronts.{BeginBoth, BeginsObject, BeginsOther}
+pub use Rattle.spa_object_view.specs.Fronts.{BeginBoth, BeginsObject, BeginsObjectOf, BeginsOther}
+use Rattle.spa_object_view.specs.declared.front.ObjectPod.{ObjectPod}
 use Rattle.spa_filter.specs.Filtering.{IsFilter}
 use Rattle.spa_filter.specs.Refusals.{AreRefused}
 use Rattle.spa_keyed_objects.specs.declared.side.Side.{Side}
@@ -38,6 +39,10 @@ AreFrontsRefused a b OutOfMemory =
     MayLackMemory a ⊎ (BeginsObject a × MayLackMemory b)
     ⊎ BeginBoth a b (λ v w. AreRefused v w OutOfMemory)
 AreFrontsRefused a b e = BeginBoth a b (λ v w. AreRefused v w e)
+
+-- the fact holds of any two inputs with the pods of these objects at their fronts
+abbrev pub OfViewed : (ours theirs : ObjectPod) → (List ℕ → List ℕ → Type 0) → Type 0
+OfViewed ours theirs Holds = (a b : List ℕ) → BeginsObjectOf a ours → BeginsObjectOf b theirs → Holds a b
 
 -- the fact holds unless the refusal is for want of memory or for the size of the answer
 abbrev pub OnNoFilter : Type 0 → FilterError → Type 0

@@ -6,5 +6,5 @@ mod common_pods;
 mod pods;
 mod views;
 
-pub use pods::filter_pods;
+pub use pods::{filter_pods, filter_viewed};
 pub use spa_filter::{FilterError, Side};

@@ -1,7 +1,7 @@
 //! Filters the objects of two pods.
 ghost use Rattle.std.specs.Prelude.{IfErr, IfOk, OnOk};
 ghost use Rattle.spa_filter.specs.Filtering.{CanFilter};
-ghost use Rattle.spa_filter_pods.specs.Fronts.{AreFrontsRefused, FilterIn, IsFrontRefused, OnNoFilter};
+ghost use Rattle.spa_filter_pods.specs.Fronts.{AreFrontsRefused, FilterIn, IsFrontRefused, OfViewed, OnNoFilter};
 ghost use Rattle.spa_object_view.specs.Fronts.{BeginBoth, BeginsObjectOf};
 
 use crate::views::filter_objects;
@@ -29,13 +29,30 @@ pub fn filter_pods(alloc: Global, a: &[u8], b: &[u8]) -> Result<Vec<u8>, FilterE
     pods_have_one_value();
     let first = object_at(alloc, a, Side::First)?;
     let second = object_at(alloc, b, Side::Second)?;
-    let Some(ours) = first.view() else {
-        unreachable!()
+    filter_viewed(alloc, &first, &second)
+}
+
+/// Filters two objects that `object_pod` has viewed: answers what `filter_pods` does of any two inputs at whose fronts they are. So
+/// an object that is filtered with many is looked at once.
+pub fn filter_viewed(
+    alloc: Global,
+    ours: &ObjectPod<'_>,
+    theirs: &ObjectPod<'_>,
+) -> Result<Vec<u8>, FilterError>
+    ensures accepted { OnOk result (OfViewed ours.now theirs.now (λ a b. BeginBoth a b CanFilter)) }
+    ensures refused { IfErr result (λ e. OfViewed ours.now theirs.now (λ a b. OnNoFilter (¬ (BeginBoth a b CanFilter)) e)) }
+    ensures value { IfOk result (λ bytes. OfViewed ours.now theirs.now (λ a b. BeginBoth a b (FilterIn bytes.items))) }
+    ensures cause { IfErr result (λ e. OfViewed ours.now theirs.now (λ a b. AreFrontsRefused a b e)) }
+{
+    pods_have_one_value();
+    // Bytes that a caller took for a rewriting may hold no object.
+    let Some(first) = ours.view() else {
+        return Err(FilterError::Unread(Side::First));
     };
-    let Some(theirs) = second.view() else {
-        unreachable!()
+    let Some(second) = theirs.view() else {
+        return Err(FilterError::Unread(Side::Second));
     };
-    filter_objects(alloc, &ours, &theirs)
+    filter_objects(alloc, &first, &second)
 }
 
 /// The object at the front of a side's bytes. Refused as `Unread` or `NotObject` of the side, and as `OutOfMemory`.

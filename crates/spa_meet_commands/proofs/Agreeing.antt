@@ -37,13 +37,9 @@ pub unfiltered_apart : (work : Work) (a b : List ℕ) (e : FilterError) → OnNo
     ArentAgreed work a b e
 unfiltered_apart work a b e apart stands = record { stands = unfiltered work stands; apart = apart }
 
--- the two filter to an object
-pub filtered : (a b pod : List ℕ) → BeginBoth a b (FilterIn pod) → (v : Tree) × IsPod pod v × IsObject v
-filtered a b pod h = (h.holds.met, h.holds.pod, met_object h.ours h.theirs h.holds.met h.holds.filter)
-
--- and meet in that with its choices settled
+-- two that filter to an object meet in that with its choices settled
 pub meet : (a b pod out : List ℕ) → FiltersSettle → BeginBoth a b (FilterIn pod) →
-    ((v : Tree) → IsPod pod v → out ≡ encoding_of (settled_of v)) → BeginBoth a b (SettleIn out)
+    ((v : Tree) → IsPod pod v → IsObject v → out ≡ encoding_of (settled_of v)) → BeginBoth a b (SettleIn out)
 meet a b pod out law h e = record {
   ours = h.ours;
   theirs = h.theirs;
@@ -52,15 +48,15 @@ meet a b pod out law h e = record {
   holds = record {
     met = h.holds.met;
     filter = h.holds.filter;
-    encoding = e h.holds.met h.holds.pod;
+    encoding = e h.holds.met h.holds.pod (met_object h.ours h.theirs h.holds.met h.holds.filter);
     fixed = law h.ours h.theirs h.holds.met h.holds.filter;
   };
 }
 
 -- or it can't be written
-pub unsettled_apart : (a b pod : List ℕ) (e : FilterError) → BeginBoth a b (FilterIn pod) → ((v : Tree) → IsPod pod v → IsUnsettled v e) →
+pub unsettled_apart : (a b pod : List ℕ) (e : FilterError) → BeginBoth a b (FilterIn pod) → ((v : Tree) → IsPod pod v → IsObject v → IsUnsettled v e) →
     ArentAgreed Negotiate a b e
-unsettled_apart a b pod e h why = apart e (why h.holds.met h.holds.pod)
+unsettled_apart a b pod e h why = apart e (why h.holds.met h.holds.pod (met_object h.ours h.theirs h.holds.met h.holds.filter))
   where
     large : IsUnsettled h.holds.met TooLarge → BeginBoth a b SettleTooLarge
     large w = record {

@@ -1,6 +1,6 @@
 -- The steps of passing a list, and of looking for the first pair of two.
-use Rattle.std.proofs.Common.{◌≡◌, ◌<◌, ◌+◌, ◌-◌, ℕ, List, [], ◌∷◌, ◌++◌, refl, sym, inl, inr, arith, take, drop, length, ◌∙◌, ap, subst, Option, Some, None, length-drop, append_assoc, append-nil}
-use Rattle.std.specs.Prelude.{Result, IfNone}
+use Rattle.std.proofs.Common.{◌≡◌, ◌<◌, ◌+◌, ◌-◌, ℕ, List, [], ◌∷◌, ◌++◌, refl, sym, inl, inr, arith, drop, length, ◌∙◌, ap, subst, length-drop, append_assoc, append-nil}
+use Rattle.std.specs.Prelude.{Result}
 use Rattle.std.proofs.lemmas.List.{drop-drop, length-take-le, take-append-drop}
 use Rattle.spa_format.specs.Words.{extent, word_at}
 use Rattle.spa_format.specs.Front.{HasFront, IsRefused, front_of, rest_of}
@@ -10,39 +10,42 @@ use Rattle.spa_format.proofs.WalkLemmas.{walk-end, walk-there}
 use Rattle.spa_filter.specs.declared.error.FilterError.{FilterError}
 use Rattle.spa_filter.specs.declared.error.FilterError.TheVariants as cause
 use Rattle.spa_keyed_objects.specs.declared.side.Side.{Side}
-use Rattle.spa_object_view.specs.Fronts.{BeginsObject, BeginsOther}
+use Rattle.spa_object_view.specs.Fronts.{BeginsObjectOf, BeginsOther}
+use Rattle.spa_object_view.specs.declared.front.ObjectPod.{ObjectPod}
+use Rattle.spa_object_view.specs.declared.front.ObjectPod.TheVariants.{Borrowed, Rewritten}
+use Rattle.spa_object_view.proofs.ObjectPods.{begins_object}
+use Rattle.spa_filter_pods.specs.Fronts.{OfViewed}
 use Rattle.spa_meet_commands.specs.Agreeing.{Agree, ArentAgreed}
-use Rattle.spa_meet_commands.specs.Lists.{AgreesWithNone, AreApart, AreOfObjects, FirstGives, FirstPairGives, Gives, IsBehindObjects, IsList, IsNoList, IsOfDisagreement, NoneAgree, StopsAt}
+use Rattle.spa_meet_commands.specs.Lists.{AgreesWithNone, AreApart, AreOfObjects, AreViewed, FirstGives, FirstPairGives, Gives, IsBehindObjects, IsList, IsNoList, IsOfDisagreement, NoneAgree, OfBoth, OfOne, StopsAt}
+use Rattle.spa_meet_commands.proofs.Agreeing.{pod_begins}
 use Rattle.spa_meet_commands.specs.declared.pair.Work.{Work}
 use Rattle.spa_meet_commands.specs.declared.answer.Failure.{Failure}
 use Rattle.spa_meet_commands.specs.declared.answer.Failure.TheVariants.{Apart, More, NoPair, NoPod, NoObject, OutOfMemory}
 
--- the walk goes on behind the front,
-pub walk_next : (left pod next behind : List ℕ) (n : ℕ) → HasFront left → pod ≡ front_of left → n ≡ length pod → next ≡ take n left →
-    behind ≡ drop n left → walk left ≡ next ∷ walk behind
-walk_next left pod next behind n there is size front rest =
-    let l = length-take-le (extent (word_at left 0)) left there.whole in
-    let e : n ≡ extent (word_at left 0) = size ∙ ap length is ∙ l in
-    walk-there left there
-    ∙ ap (λ m. take m left ∷ walk (drop m left)) (sym e)
-    ∙ ap (λ z. z ∷ walk (drop n left)) (sym front)
-    ∙ ap (λ z. next ∷ walk z) (sym rest)
+-- the object at the front of an input is that of its front
+front_viewed : (left : List ℕ) (object : ObjectPod) → BeginsObjectOf left object → BeginsObjectOf (front_of left) object
+front_viewed left (Borrowed view) h = record { values = h.values; begins = pod_begins (front_of left) _ h.begins.pod; written = h.written }
+front_viewed left (Rewritten bytes) h =
+    record { type = h.type; id = h.id; values = h.values; begins = pod_begins (front_of left) _ h.begins.pod; written = h.written }
 
--- and ends where none is
-pub walk_none : {A : Type 0} (r : Option A) (left : List ℕ) → ¬ (HasFront left) → IfNone r (walk left ≡ [])
-walk_none (Some x) left absent = tt
-walk_none None left absent = walk-end left absent
+viewed_more : (ps : List (List ℕ)) (objects : List ObjectPod) (p : List ℕ) (object : ObjectPod) → AreViewed ps objects → BeginsObjectOf p object →
+    AreViewed (ps ++ p ∷ []) (objects ++ object ∷ [])
+viewed_more [] [] p object h i = (i, tt)
+viewed_more (q ∷ ps) (other ∷ objects) p object h i = (h.0, viewed_more ps objects p object h.1 i)
+viewed_more [] (other ∷ objects) p object h i = absurd h
+viewed_more (q ∷ ps) [] p object h i = absurd h
 
--- how far a list was passed: up to what is left, some first pods, all of objects
-pub record Passed (input left : List ℕ) : Type 0 where
+-- how far a list was passed: up to what is left, some first pods, all of objects, which were viewed
+pub record Passed (input left : List ℕ) (viewed : List ObjectPod) : Type 0 where
   pub before : List (List ℕ)
   pub objects : AreOfObjects before
+  pub views : AreViewed before viewed
   pub order : walk input ≡ before ++ walk left
   pub size : walk_size before + length left ≡ length input
   pub rest : left ≡ drop (walk_size before) input
 
-pub begins : (input : List ℕ) → Passed input input
-begins input = record { before = []; objects = tt; order = refl; size = omega arith; rest = refl }
+pub begins : (input : List ℕ) → Passed input input []
+begins input = record { before = []; objects = tt; views = tt; order = refl; size = omega arith; rest = refl }
 
 objects_more : (ps : List (List ℕ)) (p : List ℕ) → AreOfObjects ps → AreOfObjects (p ∷ []) → AreOfObjects (ps ++ p ∷ [])
 objects_more [] p h i = i
@@ -53,8 +56,10 @@ size_more [] p = omega arith
 size_more (q ∷ ps) p = let r = size_more ps p in omega (arith, r)
 
 -- one more was passed
-pub passes : (input left behind : List ℕ) → Passed input left → BeginsObject left → behind ≡ rest_of left → Passed input behind
-passes input left behind so object is =
+pub passes : (input left behind : List ℕ) (viewed : List ObjectPod) (next : ObjectPod) → Passed input left viewed → BeginsObjectOf left next →
+    behind ≡ rest_of left → Passed input behind (viewed ++ next ∷ [])
+passes input left behind viewed next so there is =
+    let object = begins_object left next there in
     let begun = object.begins in
     let front = front_of left in
     let n = extent (word_at left 0) in
@@ -67,6 +72,7 @@ passes input left behind so object is =
     record {
       before = so.before ++ front ∷ [];
       objects = objects_more so.before front so.objects (record { value = object.value; pod = begun.pod; object = object.is_object }, tt);
+      views = viewed_more so.before viewed front next so.views (front_viewed left next there);
       order =
           so.order
           ∙ ap (λ z. so.before ++ z) (walk-there left begun.there)
@@ -81,21 +87,25 @@ passes input left behind so object is =
     }
 
 -- the whole list was
-pub ends : (input left : List ℕ) → left ≡ [] → Passed input left → IsList input
-ends input left none so =
+passed_whole : (input left : List ℕ) (viewed : List ObjectPod) → left ≡ [] → (so : Passed input left viewed) → walk input ≡ so.before
+passed_whole input left viewed none so =
     let none_behind : walk left ≡ [] = ap walk none ∙ walk-end [] (λ f. let x = f.header in absurd (omega arith)) in
-    let same : walk input ≡ so.before = so.order ∙ ap (λ z. so.before ++ z) none_behind ∙ append-nil so.before in
+    so.order ∙ ap (λ z. so.before ++ z) none_behind ∙ append-nil so.before
+
+pub ends : (input left : List ℕ) (viewed : List ObjectPod) → left ≡ [] → Passed input left viewed → IsList input
+ends input left viewed none so =
+    let same = passed_whole input left viewed none so in
     let l = ap length none in
     let s = so.size in
-    record {
-      whole = ap walk_size same ∙ omega (arith, l, s);
-      objects = subst AreOfObjects (sym same) so.objects;
-    }
+    record { whole = ap walk_size same ∙ omega (arith, l, s); objects = subst AreOfObjects (sym same) so.objects }
+
+pub all_viewed : (input left : List ℕ) (viewed : List ObjectPod) → left ≡ [] → Passed input left viewed → AreViewed (walk input) viewed
+all_viewed input left viewed none so = subst (λ ps. AreViewed ps viewed) (sym (passed_whole input left viewed none so)) so.views
 
 -- or it stops where something is left
-behind : (input left : List ℕ) (place : ℕ) → place ≡ length input - length left → 0 < length left → Passed input left →
-    IsBehindObjects input place × (left ≡ drop place input)
-behind input left place is some so =
+behind : (input left : List ℕ) (viewed : List ObjectPod) (place : ℕ) → place ≡ length input - length left → 0 < length left →
+    Passed input left viewed → IsBehindObjects input place × (left ≡ drop place input)
+behind input left viewed place is some so =
     let s = so.size in
     let same : place ≡ walk_size so.before = omega (arith, is, s) in
     let rest : left ≡ drop place input = so.rest ∙ ap (λ m. drop m input) (sym same) in (
@@ -109,67 +119,105 @@ behind input left place is some so =
       rest,
     )
 
-pub stops : (input left : List ℕ) (side : Side) (place : ℕ) (why : Failure) → place ≡ length input - length left → 0 < length left →
-    Passed input left → StopsAt side place why left → IsNoList side why input
-stops input left side place (NoPod s k) is some so stop =
-    let b = behind input left k (stop.1 ∙ is) some so in (b.0, (stop.0, refl, subst IsRefused b.1 stop.2))
-stops input left side place (NoObject s k) is some so stop =
-    let b = behind input left k (stop.1 ∙ is) some so in (b.0, (stop.0, refl, subst BeginsOther b.1 stop.2))
-stops input left side place OutOfMemory is some so stop = tt
-stops input left side place (Apart type e) is some so stop = absurd stop
-stops input left side place More is some so stop = absurd stop
-stops input left side place NoPair is some so stop = absurd stop
+pub stops : (input left : List ℕ) (viewed : List ObjectPod) (side : Side) (place : ℕ) (why : Failure) → place ≡ length input - length left →
+    0 < length left → Passed input left viewed → StopsAt side place why left → IsNoList side why input
+stops input left viewed side place (NoPod s k) is some so stop =
+    let b = behind input left viewed k (stop.1 ∙ is) some so in (b.0, (stop.0, refl, subst IsRefused b.1 stop.2))
+stops input left viewed side place (NoObject s k) is some so stop =
+    let b = behind input left viewed k (stop.1 ∙ is) some so in (b.0, (stop.0, refl, subst BeginsOther b.1 stop.2))
+stops input left viewed side place OutOfMemory is some so stop = tt
+stops input left viewed side place (Apart type e) is some so stop = absurd stop
+stops input left viewed side place More is some so stop = absurd stop
+stops input left viewed side place NoPair is some so stop = absurd stop
 
--- how far the second list was looked through: what comes of one pod and what is left comes of it and the whole, and where it agrees
+-- how far the second list was looked through: what comes of one object and those that are left comes of it and all, and where it agrees
 -- with none that is left it does with none
-pub record Sought (work : Work) (p all left : List ℕ) : Type 0 where
-  pub gives : (r : Result (List ℕ) FilterError) → FirstGives work p (walk left) r → FirstGives work p (walk all) r
-  pub none : AgreesWithNone p (walk left) → AgreesWithNone p (walk all)
+pub record Sought (work : Work) (ours : ObjectPod) (all left : List ObjectPod) : Type 0 where
+  pub gives : (r : Result (List ℕ) FilterError) → OfOne ours left (λ p qs. FirstGives work p qs r) → OfOne ours all (λ p qs. FirstGives work p qs r)
+  pub none : OfOne ours left AgreesWithNone → OfOne ours all AgreesWithNone
 
-pub seeks : (work : Work) (p all : List ℕ) → Sought work p all all
-seeks work p all = record { gives = λ r h. h; none = λ h. h }
+pub seeks : (work : Work) (ours : ObjectPod) (all : List ObjectPod) → Sought work ours all all
+seeks work ours all = record { gives = λ r h. h; none = λ h. h }
 
 -- the next one disagrees
-pub seeks_on : (work : Work) (p all left next behind : List ℕ) → Sought work p all left → walk left ≡ next ∷ walk behind →
-    ¬ (Agree p next) → Sought work p all behind
-seeks_on work p all left next behind so e apart =
+pub seeks_on : (work : Work) (ours : ObjectPod) (all left : List ObjectPod) (next : ObjectPod) (behind : List ObjectPod) →
+    Sought work ours all left → left ≡ next ∷ behind → OfViewed ours next (λ p q. ¬ (Agree p q)) → Sought work ours all behind
+seeks_on work ours all left next behind so e apart =
     record {
-      gives = λ r h. so.gives r (subst (λ z. FirstGives work p z r) (sym e) (inr (apart, h)));
-      none = λ h. so.none (subst (AgreesWithNone p) (sym e) (apart, h));
+      gives = λ r h. so.gives r (subst (λ objects. OfOne ours objects (λ p qs. FirstGives work p qs r)) (sym e) (gives r h));
+      none = λ h. so.none (subst (λ objects. OfOne ours objects AgreesWithNone) (sym e) (none h));
     }
+  where
+    gives : (r : Result (List ℕ) FilterError) → OfOne ours behind (λ p qs. FirstGives work p qs r) → (p : List ℕ) (qs : List (List ℕ)) →
+        BeginsObjectOf p ours → AreViewed qs (next ∷ behind) → FirstGives work p qs r
+    gives r h p [] o t = absurd t
+    gives r h p (q ∷ qs) o t = inr (apart p q o t.0, h p qs o t.1)
+
+    none : OfOne ours behind AgreesWithNone → (p : List ℕ) (qs : List (List ℕ)) → BeginsObjectOf p ours → AreViewed qs (next ∷ behind) →
+        AgreesWithNone p qs
+    none h p [] o t = absurd t
+    none h p (q ∷ qs) o t = (apart p q o t.0, h p qs o t.1)
 
 -- or gives something
-pub seeks_found : (work : Work) (p all left next behind : List ℕ) (r : Result (List ℕ) FilterError) → Sought work p all left → walk left ≡ next ∷ walk behind →
-    Gives work p next r → FirstGives work p (walk all) r
-seeks_found work p all left next behind r so e gives =
-    so.gives r (subst (λ z. FirstGives work p z r) (sym e) (inl gives))
+pub seeks_found : (work : Work) (ours : ObjectPod) (all left : List ObjectPod) (next : ObjectPod) (behind : List ObjectPod)
+    (r : Result (List ℕ) FilterError) → Sought work ours all left → left ≡ next ∷ behind → OfViewed ours next (λ p q. Gives work p q r) →
+    OfOne ours all (λ p qs. FirstGives work p qs r)
+seeks_found work ours all left next behind r so e gives =
+    so.gives r (subst (λ objects. OfOne ours objects (λ p qs. FirstGives work p qs r)) (sym e) found)
+  where
+    found : (p : List ℕ) (qs : List (List ℕ)) → BeginsObjectOf p ours → AreViewed qs (next ∷ behind) → FirstGives work p qs r
+    found p [] o t = absurd t
+    found p (q ∷ qs) o t = inl (gives p q o t.0)
 
-pub seeks_none : (work : Work) (p all left : List ℕ) → Sought work p all left → walk left ≡ [] → AgreesWithNone p (walk all)
-seeks_none work p all left so e = so.none (subst (AgreesWithNone p) (sym e) tt)
+pub seeks_none : (work : Work) (ours : ObjectPod) (all left : List ObjectPod) → Sought work ours all left → left ≡ [] → OfOne ours all AgreesWithNone
+seeks_none work ours all left so e = so.none (subst (λ objects. OfOne ours objects AgreesWithNone) (sym e) ended)
+  where
+    ended : (p : List ℕ) (qs : List (List ℕ)) → BeginsObjectOf p ours → AreViewed qs [] → AgreesWithNone p qs
+    ended p [] o t = tt
+    ended p (q ∷ qs) o t = absurd t
 
--- a search for a pair that agrees has come to `left` in the first list `all`, and found none so far
-pub record Paired (work : Work) (qs : List (List ℕ)) (all left : List ℕ) : Type 0 where
-  pub gives : (r : Result (List ℕ) FilterError) → FirstPairGives work (walk left) qs r → FirstPairGives work (walk all) qs r
-  pub none : NoneAgree (walk left) qs → NoneAgree (walk all) qs
+-- a search for a pair that agrees has come to `left` of the first list's objects, and found none so far
+pub record Paired (work : Work) (theirs all left : List ObjectPod) : Type 0 where
+  pub gives : (r : Result (List ℕ) FilterError) → OfBoth left theirs (λ ps qs. FirstPairGives work ps qs r) →
+      OfBoth all theirs (λ ps qs. FirstPairGives work ps qs r)
+  pub none : OfBoth left theirs NoneAgree → OfBoth all theirs NoneAgree
 
-pub pairs : (work : Work) (qs : List (List ℕ)) (all : List ℕ) → Paired work qs all all
-pairs work qs all = record { gives = λ r h. h; none = λ h. h }
+pub pairs : (work : Work) (theirs all : List ObjectPod) → Paired work theirs all all
+pairs work theirs all = record { gives = λ r h. h; none = λ h. h }
 
-pub pairs_on : (work : Work) (qs : List (List ℕ)) (all left next behind : List ℕ) → Paired work qs all left → walk left ≡ next ∷ walk behind →
-    AgreesWithNone next qs → Paired work qs all behind
-pairs_on work qs all left next behind so e apart =
+pub pairs_on : (work : Work) (theirs all left : List ObjectPod) (next : ObjectPod) (behind : List ObjectPod) → Paired work theirs all left →
+    left ≡ next ∷ behind → OfOne next theirs AgreesWithNone → Paired work theirs all behind
+pairs_on work theirs all left next behind so e apart =
     record {
-      gives = λ r h. so.gives r (subst (λ z. FirstPairGives work z qs r) (sym e) (inr (apart, h)));
-      none = λ h. so.none (subst (λ z. NoneAgree z qs) (sym e) (apart, h));
+      gives = λ r h. so.gives r (subst (λ objects. OfBoth objects theirs (λ ps qs. FirstPairGives work ps qs r)) (sym e) (gives r h));
+      none = λ h. so.none (subst (λ objects. OfBoth objects theirs NoneAgree) (sym e) (none h));
     }
+  where
+    gives : (r : Result (List ℕ) FilterError) → OfBoth behind theirs (λ ps qs. FirstPairGives work ps qs r) → (ps qs : List (List ℕ)) →
+        AreViewed ps (next ∷ behind) → AreViewed qs theirs → FirstPairGives work ps qs r
+    gives r h [] qs o t = absurd o
+    gives r h (p ∷ ps) qs o t = inr (apart p qs o.0 t, h ps qs o.1 t)
 
-pub pairs_found : (work : Work) (qs : List (List ℕ)) (all left next behind : List ℕ) (r : Result (List ℕ) FilterError) → Paired work qs all left →
-    walk left ≡ next ∷ walk behind → FirstGives work next qs r → FirstPairGives work (walk all) qs r
-pairs_found work qs all left next behind r so e gives =
-    so.gives r (subst (λ z. FirstPairGives work z qs r) (sym e) (inl gives))
+    none : OfBoth behind theirs NoneAgree → (ps qs : List (List ℕ)) → AreViewed ps (next ∷ behind) → AreViewed qs theirs → NoneAgree ps qs
+    none h [] qs o t = absurd o
+    none h (p ∷ ps) qs o t = (apart p qs o.0 t, h ps qs o.1 t)
 
-pub pairs_none : (work : Work) (qs : List (List ℕ)) (all left : List ℕ) → Paired work qs all left → walk left ≡ [] → NoneAgree (walk all) qs
-pairs_none work qs all left so e = so.none (subst (λ z. NoneAgree z qs) (sym e) tt)
+pub pairs_found : (work : Work) (theirs all left : List ObjectPod) (next : ObjectPod) (behind : List ObjectPod) (r : Result (List ℕ) FilterError) →
+    Paired work theirs all left → left ≡ next ∷ behind → OfOne next theirs (λ p qs. FirstGives work p qs r) →
+    OfBoth all theirs (λ ps qs. FirstPairGives work ps qs r)
+pairs_found work theirs all left next behind r so e gives =
+    so.gives r (subst (λ objects. OfBoth objects theirs (λ ps qs. FirstPairGives work ps qs r)) (sym e) found)
+  where
+    found : (ps qs : List (List ℕ)) → AreViewed ps (next ∷ behind) → AreViewed qs theirs → FirstPairGives work ps qs r
+    found [] qs o t = absurd o
+    found (p ∷ ps) qs o t = inl (gives p qs o.0 t)
+
+pub pairs_none : (work : Work) (theirs all left : List ObjectPod) → Paired work theirs all left → left ≡ [] → OfBoth all theirs NoneAgree
+pairs_none work theirs all left so e = so.none (subst (λ objects. OfBoth objects theirs NoneAgree) (sym e) ended)
+  where
+    ended : (ps qs : List (List ℕ)) → AreViewed ps [] → AreViewed qs theirs → NoneAgree ps qs
+    ended [] qs o t = tt
+    ended (p ∷ ps) qs o t = absurd o
 
 -- a refusal for such a cause says that the two don't agree
 pub disagrees : (work : Work) (p q : List ℕ) (e : FilterError) → ArentAgreed work p q e → IsOfDisagreement e → ¬ (Agree p q)

@@ -5,7 +5,8 @@ use Rattle.spa_format.specs.Pod.{IsPod}
 use Rattle.spa_format.specs.Front.{IsRefused, rest_of}
 use Rattle.spa_format.specs.Walk.{walk}
 use Rattle.spa_format.specs.Fixation.{walk_size}
-use Rattle.spa_object_view.specs.Fronts.{BeginsOther, IsObject}
+use Rattle.spa_object_view.specs.Fronts.{BeginsObjectOf, BeginsOther, IsObject}
+use Rattle.spa_object_view.specs.declared.front.ObjectPod.{ObjectPod}
 use Rattle.spa_filter.specs.declared.error.FilterError.{FilterError}
 use Rattle.spa_filter.specs.declared.error.FilterError.TheVariants.{TypeMismatch, Missing, Unsupported, Disjoint}
 use Rattle.spa_keyed_objects.specs.declared.side.Side.{Side}
@@ -121,3 +122,19 @@ AreListsRefused work NoPair a b = AreApart a b × ¬ (IsOnePod a × IsOnePod b)
 AreListsRefused work (Apart type e) a b = HasType a type × (ListsGive work (Err e) a b ⊎ IsOnePairApart work a b e)
 AreListsRefused work OutOfMemory a b = ⊤
 AreListsRefused work _ a b = ⊥
+
+-- ---- Steps. Only private clauses cite them.
+
+-- these objects are at the fronts of these inputs, one of each
+abbrev pub AreViewed : List (List ℕ) → List ObjectPod → Type 0
+AreViewed [] [] = ⊤
+AreViewed (p ∷ ps) (object ∷ objects) = BeginsObjectOf p object × AreViewed ps objects
+AreViewed _ _ = ⊥
+
+-- the fact holds of any input with this object at its front and any inputs with those at theirs
+abbrev pub OfOne : ObjectPod → List ObjectPod → (List ℕ → List (List ℕ) → Type 0) → Type 0
+OfOne ours theirs Holds = (p : List ℕ) (qs : List (List ℕ)) → BeginsObjectOf p ours → AreViewed qs theirs → Holds p qs
+
+-- the fact holds of any inputs with these objects at their fronts and any with those
+abbrev pub OfBoth : (ours theirs : List ObjectPod) → (List (List ℕ) → List (List ℕ) → Type 0) → Type 0
+OfBoth ours theirs Holds = (ps qs : List (List ℕ)) → AreViewed ps ours → AreViewed qs theirs → Holds ps qs

@@ -1,30 +1,24 @@
 //! Two lists of objects, and the first pair of them that agrees.
-ghost use Rattle.std.specs.Prelude.{◌≡◌, ◌↔◌, ◌∷◌, ◌+◌, ◌<◌, Err, IfErr, IfNone, IfOk, IfSome, IsTrue, Ok, OnOk, [], false, length, true};
-ghost use Rattle.spa_format.specs.Front.{rest_of};
+ghost use Rattle.std.specs.Prelude.{◌≡◌, ◌↔◌, Err, IfErr, IfNone, IfOk, IfSome, IsTrue, Ok, OnOk, false, true};
 ghost use Rattle.spa_format.specs.Walk.{walk};
-ghost use Rattle.spa_object_view.specs.Fronts.{BeginsObject, IsObject};
-ghost use Rattle.spa_value.specs.View.{view};
-ghost use Rattle.spa_meet_commands.specs.Lists.{AgreesWithNone, AreApart, AreListsRefused, FirstGives, FirstPairGives, IsList, IsNoList, IsOfDisagreement, IsOnePod, ListsGive, NoneAgree, StopsAt};
+ghost use Rattle.spa_object_view.specs.Fronts.{BeginsObjectOf};
+ghost use Rattle.spa_meet_commands.specs.Lists.{AgreesWithNone, AreApart, AreListsRefused, AreViewed, FirstGives, FirstPairGives, IsList, IsNoList, IsOfDisagreement, IsOnePod, ListsGive, NoneAgree, OfBoth, OfOne, StopsAt};
 
 use crate::answer::Failure;
-use crate::pair::{Work, agreed, behind_front, type_at};
+use crate::pair::{Work, agreed, agreed_viewed, behind_front, type_at};
 use spa_filter_pods::{FilterError, Side};
-use spa_fixed_sized::DeserializeError;
-use spa_typed_read::PodDeserializer;
-use spa_value::laws::trees_have_their_types;
-use spa_value::{Held, Value};
-use spa_view::Pod;
+use spa_object_view::{NoObject, ObjectPod, object_pod};
 use std::alloc::Global;
 
 /// The encoding of the object on which the first pair of two lists agrees: the first object of `a` that agrees with one of `b`,
-/// and the first of `b` with which it does.
+/// and the first of `b` with which it does. Each object is looked at once, before any pair is tried.
 pub fn of_lists(alloc: Global, work: Work, a: &[u8], b: &[u8]) -> Result<Vec<u8>, Failure>
     ensures pair { IfOk result (λ met. ListsGive work (Ok met.items) a.now b.now) }
     ensures cause { IfErr result (λ why. AreListsRefused work why a.now b.now) }
 {
-    check_list(alloc, Side::First, a)?;
-    check_list(alloc, Side::Second, b)?;
-    match first_pair(alloc, work, a, b) {
+    let ours = viewed(alloc, Side::First, a)?;
+    let theirs = viewed(alloc, Side::Second, b)?;
+    match first_pair(alloc, work, ours.as_slice(), theirs.as_slice()) {
         Ok(Some(met)) => Ok(met),
         Ok(None) => Err(no_pair(alloc, work, a, b)),
         Err(cause) => Err(Failure::Apart(type_at(a), cause)),
@@ -57,39 +51,42 @@ fn is_one_pod(bytes: &[u8]) -> bool
 }
 
 /// The outcome of the first pair that agrees. None: no pair does.
-fn first_pair(alloc: Global, work: Work, a: &[u8], b: &[u8]) -> Result<Option<Vec<u8>>, FilterError>
+fn first_pair(
+    alloc: Global,
+    work: Work,
+    ours: &[ObjectPod<'_>],
+    theirs: &[ObjectPod<'_>],
+) -> Result<Option<Vec<u8>>, FilterError>
     ensures found { IfOk result (λ found. IfSome found
-        (λ met. FirstPairGives work (walk a.now) (walk b.now) (Ok met.items))) }
-    ensures none { IfOk result (λ found. IfNone found (NoneAgree (walk a.now) (walk b.now))) }
-    ensures cause { IfErr result (λ e. FirstPairGives work (walk a.now) (walk b.now) (Err e)) }
+        (λ met. OfBoth ours.now theirs.now (λ ps qs. FirstPairGives work ps qs (Ok met.items)))) }
+    ensures none { IfOk result (λ found. IfNone found (OfBoth ours.now theirs.now NoneAgree)) }
+    ensures cause { IfErr result (λ e. OfBoth ours.now theirs.now (λ ps qs. FirstPairGives work ps qs (Err e))) }
 {
-    let mut left = a;
-    while let Some((ours, behind)) = split_front(left) {
-        if let Some(met) = first_with(alloc, work, ours, b)? {
+    for object in ours {
+        if let Some(met) = first_with(alloc, work, object, theirs)? {
             return Ok(Some(met));
         }
-        left = behind;
     }
     Ok(None)
 }
 
-/// The outcome of one pod and the first of a list that agrees with it. None: no pod of the list does.
+/// The outcome of one object and the first of a list that agrees with it. None: no object of the list does.
 fn first_with(
     alloc: Global,
     work: Work,
-    ours: &[u8],
-    b: &[u8],
+    ours: &ObjectPod<'_>,
+    theirs: &[ObjectPod<'_>],
 ) -> Result<Option<Vec<u8>>, FilterError>
-    ensures found { IfOk result (λ found. IfSome found (λ met. FirstGives work ours.now (walk b.now) (Ok met.items))) }
-    ensures none { IfOk result (λ found. IfNone found (AgreesWithNone ours.now (walk b.now))) }
-    ensures cause { IfErr result (λ e. FirstGives work ours.now (walk b.now) (Err e)) }
+    ensures found { IfOk result (λ found. IfSome found
+        (λ met. OfOne ours.now theirs.now (λ p qs. FirstGives work p qs (Ok met.items)))) }
+    ensures none { IfOk result (λ found. IfNone found (OfOne ours.now theirs.now AgreesWithNone)) }
+    ensures cause { IfErr result (λ e. OfOne ours.now theirs.now (λ p qs. FirstGives work p qs (Err e))) }
 {
-    let mut left = b;
-    while let Some((theirs, behind)) = split_front(left) {
-        match agreed(alloc, work, ours, theirs) {
+    for object in theirs {
+        match agreed_viewed(alloc, work, ours, object) {
             Ok(met) => return Ok(Some(met)),
             Err(cause) if !is_of_disagreement(cause) => return Err(cause),
-            Err(_) => left = behind,
+            Err(_) => {}
         }
     }
     Ok(None)
@@ -111,59 +108,33 @@ fn is_of_disagreement(cause: FilterError) -> bool
     }
 }
 
-/// The whole pod at the front, and the bytes that follow it. None: there is none.
-fn split_front(bytes: &[u8]) -> Option<(&[u8], &[u8])>
-    ensures next { IfSome result (λ split. walk bytes.now ≡ split.0.now ∷ walk split.1.now) }
-    ensures shorter { IfSome result (λ split. length split.1.now < length bytes.now) }
-    ensures none { IfNone result (walk bytes.now ≡ []) }
-{
-    let pod = Pod::from_bytes(bytes)?;
-    Some(bytes.split_at(pod.extent()))
-}
-
-/// Checks that the bytes of this side are pods of objects one after another.
-fn check_list(alloc: Global, side: Side, bytes: &[u8]) -> Result<(), Failure>
+/// The objects of the pods of which the bytes of this side consist, one after another.
+fn viewed(alloc: Global, side: Side, bytes: &[u8]) -> Result<Vec<ObjectPod<'_>>, Failure>
     ensures list { OnOk result (IsList bytes.now) }
+    ensures objects { IfOk result (λ objects. AreViewed (walk bytes.now) objects.items) }
     ensures cause { IfErr result (λ why. IsNoList side why bytes.now) }
 {
+    let mut objects = Vec::new(alloc);
     let mut left = bytes;
     while !left.is_empty() {
-        left = behind_object(alloc, side, bytes.len() - left.len(), left)?;
+        let object = object_at(alloc, side, bytes.len() - left.len(), left)?;
+        if objects.push(object).is_err() {
+            return Err(Failure::OutOfMemory);
+        }
+        left = behind_front(left);
     }
-    Ok(())
+    Ok(objects)
 }
 
-/// The bytes that follow the object at the front of the bytes, which begin at this offset of this side's list.
-fn behind_object<'a>(
-    alloc: Global,
-    side: Side,
-    place: usize,
-    left: &'a [u8],
-) -> Result<&'a [u8], Failure>
-    ensures object { OnOk result (BeginsObject left.now) }
-    ensures rest { IfOk result (λ behind. behind.now ≡ rest_of left.now) }
+/// The object at the front of the bytes, which begin at this offset of this side's list.
+fn object_at(alloc: Global, side: Side, place: usize, left: &[u8]) -> Result<ObjectPod<'_>, Failure>
+    ensures object { IfOk result (BeginsObjectOf left.now) }
     ensures cause { IfErr result (λ why. StopsAt side place why left.now) }
 {
-    match PodDeserializer::deserialize_any_from(alloc, left) {
-        Ok((behind, value)) => {
-            let held = Held::from(value);
-            if is_object(&*held) {
-                return Ok(behind);
-            }
-            Err(Failure::NoObject { side, place })
-        }
-        Err(DeserializeError::OutOfMemory) => Err(Failure::OutOfMemory),
-        Err(_) => Err(Failure::NoPod { side, place }),
-    }
-}
-
-/// Whether the value is an object.
-fn is_object(value: &Value) -> bool
-    ensures { IsTrue result ↔ IsObject (view value.now) }
-{
-    trees_have_their_types();
-    match value {
-        Value::Object(_) => true,
-        _ => false,
+    match object_pod(alloc, left) {
+        Ok(object) => Ok(object),
+        Err(NoObject::Unread) => Err(Failure::NoPod { side, place }),
+        Err(NoObject::Other) => Err(Failure::NoObject { side, place }),
+        Err(NoObject::OutOfMemory) => Err(Failure::OutOfMemory),
     }
 }

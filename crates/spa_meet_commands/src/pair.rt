@@ -1,10 +1,11 @@
 //! Two objects, and the one on which they agree.
-ghost use Rattle.std.specs.Prelude.{◌≡◌, IfErr, IfOk, OnOk};
+ghost use Rattle.std.specs.Prelude.{◌≡◌, IfErr, IfOk, List, OnOk, ℕ};
 ghost use Rattle.spa_format.specs.Encoding.{encoding_of};
 ghost use Rattle.spa_format.specs.Front.{rest_of};
 ghost use Rattle.spa_format.specs.Pod.{IsPod};
 ghost use Rattle.spa_format.specs.Tree.{Tree};
 ghost use Rattle.spa_filter.specs.Settling.{settled_of};
+ghost use Rattle.spa_filter_pods.specs.Fronts.{BeginBoth, FilterIn, OfViewed};
 ghost use Rattle.spa_object_view.specs.Fronts.{IsObject};
 ghost use Rattle.spa_value.specs.View.{object_view};
 ghost use Rattle.spa_meet_commands.specs.Agreeing.{Agree, AgreeIn, ArentAgreed, IsUnsettled, IsUnwritten};
@@ -14,8 +15,9 @@ use crate::answer::Failure;
 use spa_bytes::u32_at;
 use spa_filter::laws::filters_settle;
 use spa_filter::settle;
-use spa_filter_pods::{FilterError, filter_pods};
+use spa_filter_pods::{FilterError, Side, filter_pods, filter_viewed};
 use spa_format::laws::pods_have_one_value;
+use spa_object_view::ObjectPod;
 use spa_sink::GenError;
 use spa_typed_read::PodDeserializer;
 use spa_value::laws::trees_have_their_types;
@@ -49,28 +51,49 @@ pub fn of_pair(alloc: Global, work: Work, input: &[u8]) -> Result<Vec<u8>, Failu
 }
 
 /// The encoding of the object on which those at the fronts of two inputs agree.
-#[tactic(auto, using(crate::proofs::Agreeing::unfiltered_apart, crate::proofs::Agreeing::unsettled_apart, crate::proofs::Agreeing::meet, crate::proofs::Agreeing::filtered))]
 pub(crate) fn agreed(alloc: Global, work: Work, a: &[u8], b: &[u8]) -> Result<Vec<u8>, FilterError>
     ensures accepted { OnOk result (Agree a.now b.now) }
     ensures agreed { IfOk result (λ met. AgreeIn work a.now b.now met.items) }
     ensures cause { IfErr result (ArentAgreed work a.now b.now) }
 {
+    match filter_pods(alloc, a, b) {
+        Ok(met) => worked(alloc, work, met),
+        Err(cause) => Err(cause),
+    }
+}
+
+/// The encoding of the object on which two that were viewed agree.
+pub(crate) fn agreed_viewed(
+    alloc: Global,
+    work: Work,
+    ours: &ObjectPod<'_>,
+    theirs: &ObjectPod<'_>,
+) -> Result<Vec<u8>, FilterError>
+    ensures agreed { IfOk result (λ met. OfViewed ours.now theirs.now (λ a b. AgreeIn work a b met.items)) }
+    ensures cause { IfErr result (λ e. OfViewed ours.now theirs.now (λ a b. ArentAgreed work a b e)) }
+{
+    match filter_viewed(alloc, ours, theirs) {
+        Ok(met) => worked(alloc, work, met),
+        Err(error) => Err(error),
+    }
+}
+
+/// What the work makes of the encoding of the object to which two are filtered.
+fn worked(alloc: Global, work: Work, met: Vec<u8>) -> Result<Vec<u8>, FilterError>
+    ensures agreed { IfOk result (λ out. (a b : List ℕ) → BeginBoth a b (FilterIn met.items) → AgreeIn work a b out.items) }
+    ensures cause { IfErr result (λ e. (a b : List ℕ) → BeginBoth a b (FilterIn met.items) → ArentAgreed work a b e) }
+{
     filters_settle();
-    let met = match filter_pods(alloc, a, b) {
-        Ok(met) => met,
-        Err(cause) => return Err(cause),
-    };
     match work {
         Work::Filter => Ok(met),
         Work::Negotiate => settled(alloc, met.as_slice()),
     }
 }
 
-/// The encoding of the object of a pod, with each choice at its default.
+/// The encoding of the object of a pod, with each choice at its default. Refused as `NotObject` where the pod is of another value.
 fn settled(alloc: Global, pod: &[u8]) -> Result<Vec<u8>, FilterError>
-    requires { (v : Tree) × IsPod pod.now v × IsObject v }
-    ensures settled { IfOk result (λ out. (v : Tree) → IsPod pod.now v → out.items ≡ encoding_of (settled_of v)) }
-    ensures cause { IfErr result (λ e. (v : Tree) → IsPod pod.now v → IsUnsettled v e) }
+    ensures settled { IfOk result (λ out. (v : Tree) → IsPod pod.now v → IsObject v → out.items ≡ encoding_of (settled_of v)) }
+    ensures cause { IfErr result (λ e. (v : Tree) → IsPod pod.now v → IsObject v → IsUnsettled v e) }
 {
     pods_have_one_value();
     trees_have_their_types();
@@ -81,7 +104,7 @@ fn settled(alloc: Global, pod: &[u8]) -> Result<Vec<u8>, FilterError>
     };
     match &*value {
         Value::Object(object) => settled_object(alloc, object),
-        _ => unreachable!(),
+        _ => Err(FilterError::NotObject(Side::First)),
     }
 }
 

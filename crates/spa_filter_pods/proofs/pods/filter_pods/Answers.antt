@@ -1,6 +1,6 @@
 use Rattle.spa_object_view.proofs.ObjectPods.{begins_object}
 use Rattle.spa_object_view.proofs.Passing.{if_err, if_ok, on_ok, passed_on}
-use Rattle.spa_filter_pods.proofs.Fronts.{first_refused, no_filter, second_refused, views_refused}
+use Rattle.spa_filter_pods.proofs.Fronts.{first_refused, no_filter, second_refused}
 use Rattle.spa_filter_pods.proofs.pods.filter_pods.Goals as goal
 
 pub returns-in_err-first-clause-refused : goal.returns-in_err-first-clause-refused
@@ -25,32 +25,16 @@ returns-in_err-second-clause-cause c =
 
 pub returns-clause-accepted : goal.returns-clause-accepted
 returns-clause-accepted c =
-    let first = c.in-Some.ensures.object c.args.a.now c.in_ok-first.ensures.object in
-    let second = c.in-Some-view.ensures.object c.args.b.now c.in_ok-second.ensures.object in
-    on_ok c.filter_objects.result (λ f. f _ _ first second) c.filter_objects.ensures.accepted
+    on_ok c.filter_viewed.result (λ f. f _ _ c.in_ok-first.ensures.object c.in_ok-second.ensures.object) c.filter_viewed.ensures.accepted
 
 pub returns-clause-refused : goal.returns-clause-refused
 returns-clause-refused c =
-    let first = c.in-Some.ensures.object c.args.a.now c.in_ok-first.ensures.object in
-    let second = c.in-Some-view.ensures.object c.args.b.now c.in_ok-second.ensures.object in
-    if_err c.filter_objects.result
-    (λ e f. no_filter c.pods_have_one_value.ensures c.args.a.now c.args.b.now e (views_refused c.args.a.now c.args.b.now e (f _ _ first second)))
-    c.filter_objects.ensures.cause
+    if_err c.filter_viewed.result (λ e f. f _ _ c.in_ok-first.ensures.object c.in_ok-second.ensures.object) c.filter_viewed.ensures.refused
 
 pub returns-clause-value : goal.returns-clause-value
 returns-clause-value c =
-    let first = c.in-Some.ensures.object c.args.a.now c.in_ok-first.ensures.object in
-    let second = c.in-Some-view.ensures.object c.args.b.now c.in_ok-second.ensures.object in
-    if_ok c.filter_objects.result (λ bytes f. f _ _ first second) c.filter_objects.ensures.value
+    if_ok c.filter_viewed.result (λ bytes f. f _ _ c.in_ok-first.ensures.object c.in_ok-second.ensures.object) c.filter_viewed.ensures.value
 
 pub returns-clause-cause : goal.returns-clause-cause
 returns-clause-cause c =
-    let first = c.in-Some.ensures.object c.args.a.now c.in_ok-first.ensures.object in
-    let second = c.in-Some-view.ensures.object c.args.b.now c.in_ok-second.ensures.object in
-    if_err c.filter_objects.result (λ e f. views_refused c.args.a.now c.args.b.now e (f _ _ first second)) c.filter_objects.ensures.cause
-
-pub unreachable-requires : goal.unreachable-requires
-unreachable-requires c = c.in_default.ensures.none c.args.a.now c.in_ok-first.ensures.object
-
-pub unreachable-requires-in_default-view : goal.unreachable-requires-in_default-view
-unreachable-requires-in_default-view c = c.in_default-view.ensures.none c.args.b.now c.in_ok-second.ensures.object
+    if_err c.filter_viewed.result (λ e f. f _ _ c.in_ok-first.ensures.object c.in_ok-second.ensures.object) c.filter_viewed.ensures.cause

@@ -3,19 +3,16 @@
 
 use spa_pod::shims::prelude::*;
 use crate::parts::spa_meet_commands::answer::Failure;
-use crate::parts::spa_meet_commands::pair::{Work, agreed, behind_front, type_at};
+use crate::parts::spa_meet_commands::pair::{Work, agreed, agreed_viewed, behind_front, type_at};
 use spa_pod::parts::spa_filter_pods::{FilterError, Side};
-use spa_pod::parts::spa_fixed_sized::DeserializeError;
-use spa_pod::parts::spa_typed_read::PodDeserializer;
-use spa_pod::parts::spa_value::{Held, Value};
-use spa_pod::parts::spa_view::Pod;
+use spa_pod::parts::spa_object_view::{NoObject, ObjectPod, object_pod};
 
 /// The encoding of the object on which the first pair of two lists agrees: the first object of `a` that agrees with one of `b`,
-/// and the first of `b` with which it does.
+/// and the first of `b` with which it does. Each object is looked at once, before any pair is tried.
 pub fn of_lists(work: Work, a: &[u8], b: &[u8]) -> Result<Vec<u8>, Failure> {
-    check_list(Side::First, a)?;
-    check_list(Side::Second, b)?;
-    match first_pair(work, a, b) {
+    let ours = viewed(Side::First, a)?;
+    let theirs = viewed(Side::Second, b)?;
+    match first_pair(work, ours.as_slice(), theirs.as_slice()) {
         Ok(Some(met)) => Ok(met),
         Ok(None) => Err(no_pair(work, a, b)),
         Err(cause) => Err(Failure::Apart(type_at(a), cause)),
@@ -42,29 +39,30 @@ fn is_one_pod(bytes: &[u8]) -> bool {
 }
 
 /// The outcome of the first pair that agrees. None: no pair does.
-fn first_pair(work: Work, a: &[u8], b: &[u8]) -> Result<Option<Vec<u8>>, FilterError> {
-    let mut left = a;
-    while let Some((ours, behind)) = split_front(left) {
-        if let Some(met) = first_with(work, ours, b)? {
+fn first_pair(
+    work: Work,
+    ours: &[ObjectPod<'_>],
+    theirs: &[ObjectPod<'_>],
+) -> Result<Option<Vec<u8>>, FilterError> {
+    for object in ours {
+        if let Some(met) = first_with(work, object, theirs)? {
             return Ok(Some(met));
         }
-        left = behind;
     }
     Ok(None)
 }
 
-/// The outcome of one pod and the first of a list that agrees with it. None: no pod of the list does.
+/// The outcome of one object and the first of a list that agrees with it. None: no object of the list does.
 fn first_with(
     work: Work,
-    ours: &[u8],
-    b: &[u8],
+    ours: &ObjectPod<'_>,
+    theirs: &[ObjectPod<'_>],
 ) -> Result<Option<Vec<u8>>, FilterError> {
-    let mut left = b;
-    while let Some((theirs, behind)) = split_front(left) {
-        match agreed(work, ours, theirs) {
+    for object in theirs {
+        match agreed_viewed(work, ours, object) {
             Ok(met) => return Ok(Some(met)),
             Err(cause) if !is_of_disagreement(cause) => return Err(cause),
-            Err(_) => left = behind,
+            Err(_) => {}
         }
     }
     Ok(None)
@@ -84,44 +82,26 @@ fn is_of_disagreement(cause: FilterError) -> bool {
     }
 }
 
-/// The whole pod at the front, and the bytes that follow it. None: there is none.
-fn split_front(bytes: &[u8]) -> Option<(&[u8], &[u8])> {
-    let pod = Pod::from_bytes(bytes)?;
-    Some(bytes.split_at(pod.extent()))
-}
-
-/// Checks that the bytes of this side are pods of objects one after another.
-fn check_list(side: Side, bytes: &[u8]) -> Result<(), Failure> {
+/// The objects of the pods of which the bytes of this side consist, one after another.
+fn viewed(side: Side, bytes: &[u8]) -> Result<Vec<ObjectPod<'_>>, Failure> {
+    let mut objects = Vec::new();
     let mut left = bytes;
     while !left.is_empty() {
-        left = behind_object(side, bytes.len() - left.len(), left)?;
-    }
-    Ok(())
-}
-
-/// The bytes that follow the object at the front of the bytes, which begin at this offset of this side's list.
-fn behind_object<'a>(
-    side: Side,
-    place: usize,
-    left: &'a [u8],
-) -> Result<&'a [u8], Failure> {
-    match PodDeserializer::deserialize_any_from_unbounded(left) {
-        Ok((behind, value)) => {
-            let held = Held::from(value);
-            if is_object(&*held) {
-                return Ok(behind);
-            }
-            Err(Failure::NoObject { side, place })
+        let object = object_at(side, bytes.len() - left.len(), left)?;
+        if objects.try_push(object).is_err() {
+            return Err(Failure::OutOfMemory);
         }
-        Err(DeserializeError::OutOfMemory) => Err(Failure::OutOfMemory),
-        Err(_) => Err(Failure::NoPod { side, place }),
+        left = behind_front(left);
     }
+    Ok(objects)
 }
 
-/// Whether the value is an object.
-fn is_object(value: &Value) -> bool {
-    match value {
-        Value::Object(_) => true,
-        _ => false,
+/// The object at the front of the bytes, which begin at this offset of this side's list.
+fn object_at(side: Side, place: usize, left: &[u8]) -> Result<ObjectPod<'_>, Failure> {
+    match object_pod(left) {
+        Ok(object) => Ok(object),
+        Err(NoObject::Unread) => Err(Failure::NoPod { side, place }),
+        Err(NoObject::Other) => Err(Failure::NoObject { side, place }),
+        Err(NoObject::OutOfMemory) => Err(Failure::OutOfMemory),
     }
 }

@@ -5,7 +5,8 @@ use spa_pod::shims::prelude::*;
 use crate::parts::spa_meet_commands::answer::Failure;
 use spa_pod::parts::spa_bytes::u32_at;
 use spa_pod::parts::spa_filter::settle;
-use spa_pod::parts::spa_filter_pods::{FilterError, filter_pods};
+use spa_pod::parts::spa_filter_pods::{FilterError, Side, filter_pods, filter_viewed};
+use spa_pod::parts::spa_object_view::ObjectPod;
 use spa_pod::parts::spa_sink::GenError;
 use spa_pod::parts::spa_typed_read::PodDeserializer;
 use spa_pod::parts::spa_value::{Held, Object, Value};
@@ -35,17 +36,33 @@ pub fn of_pair(work: Work, input: &[u8]) -> Result<Vec<u8>, Failure> {
 
 /// The encoding of the object on which those at the fronts of two inputs agree.
 pub(crate) fn agreed(work: Work, a: &[u8], b: &[u8]) -> Result<Vec<u8>, FilterError> {
-    let met = match filter_pods(a, b) {
-        Ok(met) => met,
-        Err(cause) => return Err(cause),
-    };
+    match filter_pods(a, b) {
+        Ok(met) => worked(work, met),
+        Err(cause) => Err(cause),
+    }
+}
+
+/// The encoding of the object on which two that were viewed agree.
+pub(crate) fn agreed_viewed(
+    work: Work,
+    ours: &ObjectPod<'_>,
+    theirs: &ObjectPod<'_>,
+) -> Result<Vec<u8>, FilterError> {
+    match filter_viewed(ours, theirs) {
+        Ok(met) => worked(work, met),
+        Err(error) => Err(error),
+    }
+}
+
+/// What the work makes of the encoding of the object to which two are filtered.
+fn worked(work: Work, met: Vec<u8>) -> Result<Vec<u8>, FilterError> {
     match work {
         Work::Filter => Ok(met),
         Work::Negotiate => settled(met.as_slice()),
     }
 }
 
-/// The encoding of the object of a pod, with each choice at its default.
+/// The encoding of the object of a pod, with each choice at its default. Refused as `NotObject` where the pod is of another value.
 fn settled(pod: &[u8]) -> Result<Vec<u8>, FilterError> {
     let value = match PodDeserializer::deserialize_any_from_unbounded(pod) {
         Ok((_, value)) => Held::from(value),
@@ -54,7 +71,7 @@ fn settled(pod: &[u8]) -> Result<Vec<u8>, FilterError> {
     };
     match &*value {
         Value::Object(object) => settled_object(object),
-        _ => unreachable!(),
+        _ => Err(FilterError::NotObject(Side::First)),
     }
 }
 

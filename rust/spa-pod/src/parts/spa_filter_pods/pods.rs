@@ -15,13 +15,23 @@ use crate::parts::spa_object_view::{NoObject, ObjectPod, object_pod};
 pub fn filter_pods(a: &[u8], b: &[u8]) -> Result<Vec<u8>, FilterError> {
     let first = object_at(a, Side::First)?;
     let second = object_at(b, Side::Second)?;
-    let Some(ours) = first.view() else {
-        unreachable!()
+    filter_viewed(&first, &second)
+}
+
+/// Filters two objects that `object_pod` has viewed: answers what `filter_pods` does of any two inputs at whose fronts they are. So
+/// an object that is filtered with many is looked at once.
+pub fn filter_viewed(
+    ours: &ObjectPod<'_>,
+    theirs: &ObjectPod<'_>,
+) -> Result<Vec<u8>, FilterError> {
+    // Bytes that a caller took for a rewriting may hold no object.
+    let Some(first) = ours.view() else {
+        return Err(FilterError::Unread(Side::First));
     };
-    let Some(theirs) = second.view() else {
-        unreachable!()
+    let Some(second) = theirs.view() else {
+        return Err(FilterError::Unread(Side::Second));
     };
-    filter_objects(&ours, &theirs)
+    filter_objects(&first, &second)
 }
 
 /// The object at the front of a side's bytes. Refused as `Unread` or `NotObject` of the side, and as `OutOfMemory`.

@@ -34,6 +34,7 @@ pub fn filter_pods(alloc: Global, a: &[u8], b: &[u8]) -> Result<Vec<u8>, FilterE
 
 /// Filters two objects that `object_pod` has viewed: answers what `filter_pods` does of any two inputs at whose fronts they are. So
 /// an object that is filtered with many is looked at once.
+#[inline(always)]
 pub fn filter_viewed(
     alloc: Global,
     ours: &ObjectPod<'_>,

@@ -4,10 +4,12 @@
 use pod_commands::answer::{Answer, Failure, report};
 use pod_commands::files::SystemFiles;
 use pod_commands::run::run;
+use spa_meet_commands::progress::Progress;
 use std::alloc::AllocError;
 use std::env;
 use std::io::{self, ErrorKind, IsTerminal, Write};
 use std::process::ExitCode;
+use std::time::Instant;
 
 /// Hands the words behind the program's name, the standard streams and the system's files to `run`, writes the line of its answer, and
 /// ends with the answer's status, also where that line can't be written.
@@ -24,6 +26,7 @@ fn status(rt: &HostRuntime) -> Option<u8> {
         .collect(rt.alloc());
     let words = words.ok()?;
     let mut files = SystemFiles { rt };
+    let mut progress = Told::new(rt);
     let stdout = rt.stdout();
     let is_terminal = stdout.is_terminal();
     let output = Output {
@@ -35,6 +38,7 @@ fn status(rt: &HostRuntime) -> Option<u8> {
         words.as_slice(),
         &mut rt.stdin(),
         &mut files,
+        &mut progress,
         output,
         is_terminal,
     );
@@ -42,6 +46,41 @@ fn status(rt: &HostRuntime) -> Option<u8> {
         let _ = report(&mut output, &mut rt.stderr(), &answer);
     }
     Some(answer.status())
+}
+
+/// Standard error, which is told how far a search is where it is a terminal: by a line a second at most, the first after a second.
+#[derive(Drop)]
+struct Told<'a> {
+    rt: &'a HostRuntime,
+    /// When a line was written last, or the program began. None: no line is written.
+    last: Option<Instant>,
+}
+
+impl<'a> Told<'a> {
+    /// Nothing is told so far.
+    fn new(rt: &'a HostRuntime) -> Told<'a> {
+        let last = if rt.stderr().is_terminal() {
+            Instant::now(rt).ok()
+        } else {
+            None
+        };
+        Told { rt, last }
+    }
+}
+
+impl Progress for Told<'_> {
+    fn tell(&mut self, left: usize, objects: usize) {
+        let Some(last) = self.last else { return };
+        match last.elapsed(self.rt) {
+            Ok(passed) if passed.as_secs() >= 1 => {}
+            _ => return,
+        }
+        let _ = writeln!(
+            self.rt.stderr(),
+            "pod: {left} of {objects} objects left to try"
+        );
+        self.last = Instant::now(self.rt).ok();
+    }
 }
 
 /// An output, and whether it is a pipe whose reader is gone, as `head` is after its lines. Nothing is said of that then.

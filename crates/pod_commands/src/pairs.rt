@@ -9,6 +9,7 @@ use crate::files::{Files, read_named};
 use crate::refusing::either_refused;
 use spa_meet_commands::lists::of_lists;
 use spa_meet_commands::pair::{Work, of_pair};
+use spa_meet_commands::progress::Progress;
 use spa_text_commands::comparing::differences;
 use std::alloc::Global;
 use std::io::Read;
@@ -61,13 +62,14 @@ pub(crate) fn agree<'a, R: Read, S: Files>(
 }
 
 /// The encoding of the object on which the first pair of two lists agrees.
-pub(crate) fn agree_of_lists<'a, R: Read, S: Files>(
+pub(crate) fn agree_of_lists<'a, R: Read, S: Files, P: Progress>(
     alloc: Global,
     work: Work,
     ours: &'a str,
     theirs: &'a str,
     input: &mut R,
     files: &S,
+    progress: &mut P,
 ) -> Result<Vec<u8>, Failure<'a>>
     ensures made { IfOk result
         (λ met. AgreeTwo work (R.remaining input.old) (S.holds files.now) ours.entry.now theirs.entry.now met.items) }
@@ -78,7 +80,7 @@ pub(crate) fn agree_of_lists<'a, R: Read, S: Files>(
         Ok(both) => both,
         Err(why) => return Err(why),
     };
-    match of_lists(alloc, work, first.as_slice(), second.as_slice()) {
+    match of_lists(alloc, work, first.as_slice(), second.as_slice(), progress) {
         Ok(met) => Ok(met),
         Err(why) => Err(Failure::Lists(ours, theirs, why)),
     }

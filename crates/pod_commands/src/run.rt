@@ -17,6 +17,7 @@ use crate::sending::answered;
 use crate::streaming::{check_all, stream_all};
 use clap::error::ErrorKind;
 use spa_meet_commands::pair::Work;
+use spa_meet_commands::progress::Progress;
 use spa_recordings::going_on as recordings;
 use spa_recordings::going_on::Refused;
 use spa_recordings::reading::Reading;
@@ -27,12 +28,13 @@ use std::io::{Read, Write};
 ///
 /// The words are settled before anything is read. But for `show`, `--stream`, and `json` with `--nth`, `--key` or `--hex`, nothing is written before all
 /// inputs are read and accepted; a file that is to be written is written at the end, by all words. Where the device is a terminal, `show` and `json`
-/// print in colours, unless `--color` says other.
-pub fn run<'a, R: Read, S: Files, W: Write + Drop>(
+/// print in colours, unless `--color` says other. A search among two lists tells how far it is.
+pub fn run<'a, R: Read, S: Files, P: Progress, W: Write + Drop>(
     alloc: Global,
     words: &'a [&'a str],
     input: &mut R,
     files: &mut S,
+    progress: &mut P,
     device: W,
     is_terminal: bool,
 ) -> (Answer<'a>, W)
@@ -40,7 +42,7 @@ pub fn run<'a, R: Read, S: Files, W: Write + Drop>(
         (W.contents device) (W.contents result.1) (S.holds files.old) (S.holds files.new) result.0 }
 {
     match request_of(alloc, words, is_terminal) {
-        Ok(Ok(request)) => do_work(alloc, request, input, files, device),
+        Ok(Ok(request)) => do_work(alloc, request, input, files, progress, device),
         Ok(Err(why)) => (Answer::Misused(why), device),
         Err(error) => match error.kind() {
             ErrorKind::OutOfMemory => (Answer::Refused(Failure::OutOfMemory), device),
@@ -50,11 +52,12 @@ pub fn run<'a, R: Read, S: Files, W: Write + Drop>(
 }
 
 /// Does what is asked for.
-fn do_work<'a, R: Read, S: Files, W: Write + Drop>(
+fn do_work<'a, R: Read, S: Files, P: Progress, W: Write + Drop>(
     alloc: Global,
     request: Request<'a>,
     input: &mut R,
     files: &mut S,
+    progress: &mut P,
     device: W,
 ) -> (Answer<'a>, W)
     ensures { IsDone request.entry.word result.0 (R.remaining input.old) request.entry.names.items
@@ -77,7 +80,7 @@ fn do_work<'a, R: Read, S: Files, W: Write + Drop>(
             )
         }
         Word::Diff => diff(alloc, names, target, input, files, device),
-        Word::Agree(work) => seek(alloc, work, names, target, input, files, device),
+        Word::Agree(work) => seek(alloc, work, names, target, input, files, progress, device),
     }
 }
 
@@ -364,13 +367,14 @@ fn diff<'a, R: Read, S: Files, W: Write + Drop>(
 }
 
 /// Seeks the object on which two of the inputs of these names agree.
-fn seek<'a, R: Read, S: Files, W: Write + Drop>(
+fn seek<'a, R: Read, S: Files, P: Progress, W: Write + Drop>(
     alloc: Global,
     work: Work,
     names: &[&'a str],
     target: Option<&'a str>,
     input: &mut R,
     files: &mut S,
+    progress: &mut P,
     device: W,
 ) -> (Answer<'a>, W)
     ensures { IsAgreed work result.0 (R.remaining input.old) names.now
@@ -382,7 +386,7 @@ fn seek<'a, R: Read, S: Files, W: Write + Drop>(
             answered(files, target, device, made, Answer::Done)
         }
         [ours, theirs] => {
-            let made = agree_of_lists(alloc, work, *ours, *theirs, input, files);
+            let made = agree_of_lists(alloc, work, *ours, *theirs, input, files, progress);
             answered(files, target, device, made, Answer::Done)
         }
         _ => (Answer::Misused(misuse_of(names)), device),

@@ -7,6 +7,7 @@
 use pod_commands::answer::report;
 use pod_commands::files::Files;
 use pod_commands::run::run;
+use spa_meet_commands::progress::Unwatched;
 use std::alloc::Global;
 use std::io::{self, Cursor, Error, ErrorKind, Write};
 use test_bytes::{SpellingError, bytes_spelled};
@@ -114,6 +115,7 @@ fn answer_run(
         words.as_slice(),
         &mut input,
         &mut files,
+        &mut Unwatched,
         device,
         is_terminal,
     );

@@ -9,4 +9,6 @@ mod streamed;
 #[cfg(test)]
 mod streams;
 #[cfg(test)]
+mod told;
+#[cfg(test)]
 mod twice;

@@ -2,6 +2,7 @@
 use crate::streams::{Broken, WANTING};
 use pod_commands::answer::report;
 use pod_commands::run::run;
+use spa_meet_commands::progress::Unwatched;
 use std::alloc::{AllocError, Global};
 use std::io::ErrorKind;
 use test_bytes::nested_structs;
@@ -23,6 +24,7 @@ fn shows(
         &["show"],
         &mut source,
         &mut Broken,
+        &mut Unwatched,
         device,
         false,
     );

@@ -2,6 +2,7 @@
 use crate::streams::{Broken, WANTING};
 use pod_commands::answer::report;
 use pod_commands::run::run;
+use spa_meet_commands::progress::Unwatched;
 use std::alloc::{AllocError, Global};
 use test_streams::{ALL, Device, PIECE, Source};
 
@@ -33,7 +34,15 @@ fn streams(
     wanted: Wanted<'_>,
 ) -> Result<bool, AllocError> {
     let device = Device::new(room, ALL);
-    let (answer, mut device) = run(rt.alloc(), words, &mut source, &mut Broken, device, false);
+    let (answer, mut device) = run(
+        rt.alloc(),
+        words,
+        &mut source,
+        &mut Broken,
+        &mut Unwatched,
+        device,
+        false,
+    );
     let mut line = [0; 200];
     let mut faults = Device::new(&mut line, PIECE);
     let is_reported = report(&mut device, &mut faults, &answer).is_ok();

@@ -2,6 +2,7 @@
 use pod_commands::answer::report;
 use pod_commands::files::Files;
 use pod_commands::run::run;
+use spa_meet_commands::progress::Unwatched;
 use std::alloc::{AllocError, Global};
 use std::io::{self, Error, ErrorKind};
 use std::process::Abort;
@@ -70,7 +71,15 @@ fn assert_run(
         Device::unflushed(room, PIECE)
     };
     let mut faults = Device::new(line_room, PIECE);
-    let (answer, mut output) = run(alloc, &*words, &mut input, &mut Broken, device, false);
+    let (answer, mut output) = run(
+        alloc,
+        &*words,
+        &mut input,
+        &mut Broken,
+        &mut Unwatched,
+        device,
+        false,
+    );
     // Where the line can't be written, nothing changes.
     let _ = report(&mut output, &mut faults, &answer);
     let line = if faults.taken() == INPUT_WANTING.as_bytes() {

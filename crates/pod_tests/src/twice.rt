@@ -3,6 +3,7 @@ use crate::streams::WANTING;
 use pod_commands::answer::report;
 use pod_commands::files::Files;
 use pod_commands::run::run;
+use spa_meet_commands::progress::Unwatched;
 use std::alloc::{AllocError, Global};
 use std::cell::Cell;
 use std::io::{self, Error, ErrorKind};
@@ -66,7 +67,15 @@ fn rewrites(rt: &HostRuntime, words: &[&str], wanted: Wanted<'_>) -> Result<bool
     let device = Device::new(&mut room, ALL);
     // It isn't read: this source would refuse.
     let mut input = Source::broken(&[], ErrorKind::UnexpectedEof, PIECE);
-    let (answer, mut device) = run(rt.alloc(), words, &mut input, &mut files, device, false);
+    let (answer, mut device) = run(
+        rt.alloc(),
+        words,
+        &mut input,
+        &mut files,
+        &mut Unwatched,
+        device,
+        false,
+    );
     let mut line = [0; 200];
     let mut faults = Device::new(&mut line, PIECE);
     let is_reported = report(&mut device, &mut faults, &answer).is_ok();

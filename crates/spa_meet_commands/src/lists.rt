@@ -6,19 +6,26 @@ ghost use Rattle.spa_meet_commands.specs.Lists.{AgreesWithNone, AreApart, AreLis
 
 use crate::answer::Failure;
 use crate::pair::{Work, agreed, agreed_viewed, behind_front, type_at};
+use crate::progress::Progress;
 use spa_filter_pods::{FilterError, Side};
 use spa_object_view::{NoObject, ObjectPod, object_pod};
 use std::alloc::Global;
 
 /// The encoding of the object on which the first pair of two lists agrees: the first object of `a` that agrees with one of `b`,
 /// and the first of `b` with which it does. Each object is looked at once, before any pair is tried.
-pub fn of_lists(alloc: Global, work: Work, a: &[u8], b: &[u8]) -> Result<Vec<u8>, Failure>
+pub fn of_lists<P: Progress>(
+    alloc: Global,
+    work: Work,
+    a: &[u8],
+    b: &[u8],
+    progress: &mut P,
+) -> Result<Vec<u8>, Failure>
     ensures pair { IfOk result (λ met. ListsGive work (Ok met.items) a.now b.now) }
     ensures cause { IfErr result (λ why. AreListsRefused work why a.now b.now) }
 {
     let ours = viewed(alloc, Side::First, a)?;
     let theirs = viewed(alloc, Side::Second, b)?;
-    match first_pair(alloc, work, ours.as_slice(), theirs.as_slice()) {
+    match first_pair(alloc, work, ours.as_slice(), theirs.as_slice(), progress) {
         Ok(Some(met)) => Ok(met),
         Ok(None) => Err(no_pair(alloc, work, a, b)),
         Err(cause) => Err(Failure::Apart(type_at(a), cause)),
@@ -51,21 +58,25 @@ fn is_one_pod(bytes: &[u8]) -> bool
 }
 
 /// The outcome of the first pair that agrees. None: no pair does.
-fn first_pair(
+fn first_pair<P: Progress>(
     alloc: Global,
     work: Work,
     ours: &[ObjectPod<'_>],
     theirs: &[ObjectPod<'_>],
+    progress: &mut P,
 ) -> Result<Option<Vec<u8>>, FilterError>
     ensures found { IfOk result (λ found. IfSome found
         (λ met. OfBoth ours.now theirs.now (λ ps qs. FirstPairGives work ps qs (Ok met.items)))) }
     ensures none { IfOk result (λ found. IfNone found (OfBoth ours.now theirs.now NoneAgree)) }
     ensures cause { IfErr result (λ e. OfBoth ours.now theirs.now (λ ps qs. FirstPairGives work ps qs (Err e))) }
 {
-    for object in ours {
+    let mut left = ours;
+    while let Some((object, behind)) = left.split_first() {
+        progress.tell(left.len(), ours.len());
         if let Some(met) = first_with(alloc, work, object, theirs)? {
             return Ok(Some(met));
         }
+        left = behind;
     }
     Ok(None)
 }

@@ -4,9 +4,11 @@
 use spa_pod_cli::parts::pod_commands::answer::{Answer, Failure, report};
 use spa_pod_cli::parts::pod_commands::files::SystemFiles;
 use spa_pod_cli::parts::pod_commands::run::run;
+use spa_pod_cli::parts::spa_meet_commands::progress::Progress;
 use spa_pod_cli::streams::{Stdout, stdin, words};
-use std::io::{self, Write};
+use std::io::{self, IsTerminal, Write};
 use std::process::ExitCode;
+use std::time::Instant;
 
 /// What the version says behind the number: the proved program says the number alone.
 const BUILD: &str = "built by cargo, of the text of the proved program";
@@ -20,7 +22,8 @@ fn main() -> ExitCode {
         return ExitCode::from(answer.status());
     };
     let is_terminal = output.is_terminal();
-    let (answer, mut output) = run(&words, &mut input, &mut SystemFiles {}, output, is_terminal);
+    let mut progress = Told::new();
+    let (answer, mut output) = run(&words, &mut input, &mut SystemFiles {}, &mut progress, output, is_terminal);
     if !output.is_closed() {
         let _ = match &answer {
             Answer::Said(said) if said.is_version() => writeln!(output, "{} ({BUILD})", said.to_string().trim_end()),
@@ -28,4 +31,26 @@ fn main() -> ExitCode {
         };
     }
     ExitCode::from(answer.status())
+}
+
+/// Standard error, which is told how far a search is where it is a terminal: by a line a second at most, the first after a second.
+struct Told {
+    /// When a line was written last, or the program began. None: no line is written.
+    last: Option<Instant>,
+}
+
+impl Told {
+    /// Nothing is told so far.
+    fn new() -> Told {
+        Told { last: io::stderr().is_terminal().then(Instant::now) }
+    }
+}
+
+impl Progress for Told {
+    fn tell(&mut self, left: usize, objects: usize) {
+        if self.last.is_some_and(|last| last.elapsed().as_secs() >= 1) {
+            let _ = writeln!(io::stderr(), "pod: {left} of {objects} objects left to try");
+            self.last = Some(Instant::now());
+        }
+    }
 }

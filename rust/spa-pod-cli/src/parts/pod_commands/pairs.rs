@@ -7,6 +7,7 @@ use crate::parts::pod_commands::files::{Files, read_named};
 use crate::parts::pod_commands::refusing::either_refused;
 use crate::parts::spa_meet_commands::lists::of_lists;
 use crate::parts::spa_meet_commands::pair::{Work, of_pair};
+use crate::parts::spa_meet_commands::progress::Progress;
 use crate::parts::spa_text_commands::comparing::differences;
 use std::io::Read;
 
@@ -45,18 +46,19 @@ pub(crate) fn agree<'a, R: Read, S: Files>(
 }
 
 /// The encoding of the object on which the first pair of two lists agrees.
-pub(crate) fn agree_of_lists<'a, R: Read, S: Files>(
+pub(crate) fn agree_of_lists<'a, R: Read, S: Files, P: Progress>(
     work: Work,
     ours: &'a str,
     theirs: &'a str,
     input: &mut R,
     files: &S,
+    progress: &mut P,
 ) -> Result<Vec<u8>, Failure<'a>> {
     let (first, second) = match read_both(ours, theirs, input, files) {
         Ok(both) => both,
         Err(why) => return Err(why),
     };
-    match of_lists(work, first.as_slice(), second.as_slice()) {
+    match of_lists(work, first.as_slice(), second.as_slice(), progress) {
         Ok(met) => Ok(met),
         Err(why) => Err(Failure::Lists(ours, theirs, why)),
     }

@@ -12,6 +12,7 @@ use crate::parts::pod_commands::sending::answered;
 use crate::parts::pod_commands::streaming::{check_all, stream_all};
 use crate::shims::clap::error::ErrorKind;
 use crate::parts::spa_meet_commands::pair::Work;
+use crate::parts::spa_meet_commands::progress::Progress;
 use crate::parts::spa_recordings::going_on as recordings;
 use crate::parts::spa_recordings::going_on::Refused;
 use crate::parts::spa_recordings::reading::Reading;
@@ -21,16 +22,17 @@ use std::io::{Read, Write};
 ///
 /// The words are settled before anything is read. But for `show`, `--stream`, and `json` with `--nth`, `--key` or `--hex`, nothing is written before all
 /// inputs are read and accepted; a file that is to be written is written at the end, by all words. Where the device is a terminal, `show` and `json`
-/// print in colours, unless `--color` says other.
-pub fn run<'a, R: Read, S: Files, W: Write>(
+/// print in colours, unless `--color` says other. A search among two lists tells how far it is.
+pub fn run<'a, R: Read, S: Files, P: Progress, W: Write>(
     words: &'a [&'a str],
     input: &mut R,
     files: &mut S,
+    progress: &mut P,
     device: W,
     is_terminal: bool,
 ) -> (Answer<'a>, W) {
     match request_of(words, is_terminal) {
-        Ok(Ok(request)) => do_work(request, input, files, device),
+        Ok(Ok(request)) => do_work(request, input, files, progress, device),
         Ok(Err(why)) => (Answer::Misused(why), device),
         Err(error) => match error.kind() {
             ErrorKind::OutOfMemory => (Answer::Refused(Failure::OutOfMemory), device),
@@ -40,10 +42,11 @@ pub fn run<'a, R: Read, S: Files, W: Write>(
 }
 
 /// Does what is asked for.
-fn do_work<'a, R: Read, S: Files, W: Write>(
+fn do_work<'a, R: Read, S: Files, P: Progress, W: Write>(
     request: Request<'a>,
     input: &mut R,
     files: &mut S,
+    progress: &mut P,
     device: W,
 ) -> (Answer<'a>, W) {
     let word = request.word;
@@ -62,7 +65,7 @@ fn do_work<'a, R: Read, S: Files, W: Write>(
             )
         }
         Word::Diff => diff(names, target, input, files, device),
-        Word::Agree(work) => seek(work, names, target, input, files, device),
+        Word::Agree(work) => seek(work, names, target, input, files, progress, device),
     }
 }
 
@@ -296,12 +299,13 @@ fn diff<'a, R: Read, S: Files, W: Write>(
 }
 
 /// Seeks the object on which two of the inputs of these names agree.
-fn seek<'a, R: Read, S: Files, W: Write>(
+fn seek<'a, R: Read, S: Files, P: Progress, W: Write>(
     work: Work,
     names: &[&'a str],
     target: Option<&'a str>,
     input: &mut R,
     files: &mut S,
+    progress: &mut P,
     device: W,
 ) -> (Answer<'a>, W) {
     match names {
@@ -310,7 +314,7 @@ fn seek<'a, R: Read, S: Files, W: Write>(
             answered(files, target, device, made, Answer::Done)
         }
         [ours, theirs] => {
-            let made = agree_of_lists(work, *ours, *theirs, input, files);
+            let made = agree_of_lists(work, *ours, *theirs, input, files, progress);
             answered(files, target, device, made, Answer::Done)
         }
         _ => (Answer::Misused(misuse_of(names)), device),

@@ -4,15 +4,21 @@
 use spa_pod::shims::prelude::*;
 use crate::parts::spa_meet_commands::answer::Failure;
 use crate::parts::spa_meet_commands::pair::{Work, agreed, agreed_viewed, behind_front, type_at};
+use crate::parts::spa_meet_commands::progress::Progress;
 use spa_pod::parts::spa_filter_pods::{FilterError, Side};
 use spa_pod::parts::spa_object_view::{NoObject, ObjectPod, object_pod};
 
 /// The encoding of the object on which the first pair of two lists agrees: the first object of `a` that agrees with one of `b`,
 /// and the first of `b` with which it does. Each object is looked at once, before any pair is tried.
-pub fn of_lists(work: Work, a: &[u8], b: &[u8]) -> Result<Vec<u8>, Failure> {
+pub fn of_lists<P: Progress>(
+    work: Work,
+    a: &[u8],
+    b: &[u8],
+    progress: &mut P,
+) -> Result<Vec<u8>, Failure> {
     let ours = viewed(Side::First, a)?;
     let theirs = viewed(Side::Second, b)?;
-    match first_pair(work, ours.as_slice(), theirs.as_slice()) {
+    match first_pair(work, ours.as_slice(), theirs.as_slice(), progress) {
         Ok(Some(met)) => Ok(met),
         Ok(None) => Err(no_pair(work, a, b)),
         Err(cause) => Err(Failure::Apart(type_at(a), cause)),
@@ -39,15 +45,19 @@ fn is_one_pod(bytes: &[u8]) -> bool {
 }
 
 /// The outcome of the first pair that agrees. None: no pair does.
-fn first_pair(
+fn first_pair<P: Progress>(
     work: Work,
     ours: &[ObjectPod<'_>],
     theirs: &[ObjectPod<'_>],
+    progress: &mut P,
 ) -> Result<Option<Vec<u8>>, FilterError> {
-    for object in ours {
+    let mut left = ours;
+    while let Some((object, behind)) = left.split_first() {
+        progress.tell(left.len(), ours.len());
         if let Some(met) = first_with(work, object, theirs)? {
             return Ok(Some(met));
         }
+        left = behind;
     }
     Ok(None)
 }

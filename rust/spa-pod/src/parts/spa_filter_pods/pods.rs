@@ -20,7 +20,7 @@ pub fn filter_pods(a: &[u8], b: &[u8]) -> Result<Vec<u8>, FilterError> {
 
 /// Filters two objects that `object_pod` has viewed: answers what `filter_pods` does of any two inputs at whose fronts they are. So
 /// an object that is filtered with many is looked at once.
-#[inline(always)]
+#[cfg_attr(not(debug_assertions), inline(always))]
 pub fn filter_viewed(
     ours: &ObjectPod<'_>,
     theirs: &ObjectPod<'_>,

@@ -91,7 +91,7 @@ all_checked r holds names out n h =
 pub not_checked : (r : Option (List ℕ)) (holds : List ℕ → Option (List ℕ)) (names : List (Bor (List ℕ))) (old new : Option (List ℕ)) (why : Failure) →
     IsBroken streaming.Check r holds names old new why → AreUnmade Exact Check r holds names why
 not_checked r holds names old new OutOfMemory b = inl (inl refl)
-not_checked r holds names old new (Unread n) b = inl (inr (n, refl))
+not_checked r holds names old new (Unread n words) b = inl (inr (n, words, refl))
 not_checked r holds names old new (Unwritten target) b = absurd (b.2.0 (none_unwritten r holds names b.0 target b.1))
 not_checked r holds names old new (Pods n w) b =
     inr (stops_more (StreamsAs streaming.Check) (MakesAll Exact Check) (EndsIn streaming.Check) (λ name input made. RefusesBy Exact Check name input) r

@@ -1,5 +1,5 @@
 -- What is said of a refused pod, whatever follows it.
-use Rattle.std.proofs.Common.{◌≡◌, ◌≤◌, ◌<◌, ◌+◌, ◌⊎◌, ◌∙◌, ℕ, List, [], ◌++◌, None, ap, ap₂, append-nil, arith, drop, inl, inr, length, length-append, length-drop, refl, subst, sym, take}
+use Rattle.std.proofs.Common.{◌≡◌, ◌≤◌, ◌<◌, ◌+◌, ◌⊎◌, ◌∙◌, ℕ, List, [], ◌++◌, Option, Some, None, ap, ap₂, append-nil, arith, drop, inl, inr, length, length-append, length-drop, refl, subst, sym, take}
 use Rattle.std.proofs.lemmas.List.{drop-append-le, drop_at, take-append-le, take_at}
 use Rattle.std.proofs.lemmas.Bool.Decides.{nat_tests}
 use Rattle.std.specs.Borrow.{Bor}
@@ -18,12 +18,11 @@ use Rattle.spa_format.specs.Words.{body_of, extent, word_at}
 use Rattle.spa_format.proofs.Refused.{refused_behind_members}
 use Rattle.spa_format.proofs.WordLemmas.{word_at-append}
 use Rattle.spa_bodies.specs.Reading.{Names, NamesFaultKind}
-use Rattle.spa_names.specs.Lookup.{name_of}
-use Rattle.spa_names.specs.declared.table.Table.TheVariants.{Types}
 use Rattle.spa_recordings.specs.Streaming.{EndsAtPod}
 use Rattle.spa_recordings.specs.declared.reading.Reading.TheVariants.{Exact}
-use Rattle.spa_refusals.specs.Paths.{HaveRead, HoldsMember, HoldsValue, IsInnermost, LeadsTo, StepsTo, cut_off, further, holds_none, itself, member, members_read, number_of, properties_read, property, short_object, step_limit, type_name, type_number}
-use Rattle.spa_refusals.specs.Refusals.{IsFirstRefusal, IsRefusalOf, IsUnreadFor}
+use Rattle.spa_refusals.specs.Paths.{HaveRead, HoldsMember, HoldsValue, IsInnermost, LeadsTo, StepsTo, cut_off, further, holds_none, itself, member, members_read, number_of, properties_read, property, short_object, step_limit, type_name, type_number, type_text}
+use Rattle.spa_refusals.specs.Refusals.{IsCutOf, IsFirstRefusal, IsRefusalOf, IsUnreadFor, wanted}
+use Rattle.spa_refusals.specs.declared.refusal.Cut.{Cut}
 use Rattle.spa_refusals.specs.declared.refusal.Refusal.{Refusal}
 use Rattle.pod_commands.specs.Streaming.{StreamsAs}
 use Rattle.pod_commands.specs.declared.request.Streaming.TheVariants as streaming
@@ -63,9 +62,25 @@ module _ (pod more : List ℕ) (f : HasFront pod) where
       let l = length-append pod more in
       let h = f.header in
       let long : nat_lt (length (pod ++ more)) 8 ≡ false = not_below (length (pod ++ more)) 8 (omega (arith, l, h)) in
-      ap (λ z. if z then None else name_of Types (type_number (pod ++ more))) long
-      ∙ ap₂ (λ t b. name_of Types (number_of t b)) type_longer body_longer
-      ∙ sym (ap (λ z. if z then None else name_of Types (type_number pod)) (not_below (length pod) 8 h))
+      ap (λ z. if z then None else Some (type_text (type_number (pod ++ more)))) long
+      ∙ ap₂ (λ t b. Some (type_text (number_of t b))) type_longer body_longer
+      ∙ sym (ap (λ z. if z then None else Some (type_text (type_number pod))) (not_below (length pod) 8 h))
+
+  wanted_whole : wanted pod ≤ length pod
+  wanted_whole =
+      let h = f.header in
+      let w = f.whole in
+      let e = ap (λ z. if z then 8 else extent (word_at pod 0)) (not_below (length pod) 8 h) in omega (arith, e, w)
+
+  wanted_longer : wanted (pod ++ more) ≤ length (pod ++ more)
+  wanted_longer =
+      let h = front_longer.header in
+      let w = front_longer.whole in
+      let e = ap (λ z. if z then 8 else extent (word_at (pod ++ more) 0)) (not_below (length (pod ++ more)) 8 h) in omega (arith, e, w)
+
+  cut_longer : (cut : Option Cut) → IsCutOf pod cut → IsCutOf (pod ++ more) cut
+  cut_longer None h = wanted_longer
+  cut_longer (Some cut) h = let w = wanted_whole in let l = h.2 in absurd (omega (arith, w, l))
 
   refused_longer : IsRefused pod → IsRefused (pod ++ more)
   refused_longer r = λ v h.
@@ -204,6 +219,7 @@ module _ (pod more : List ℕ) (f : HasFront pod) where
               kind = h.kind ∙ u.2.0;
               words = h.words ∙ u.2.1;
               short = λ none. absurd (none front_longer);
+              cut = cut_longer r.cut h.cut;
             }
         | inr l ↦
             record {
@@ -217,6 +233,7 @@ module _ (pod more : List ℕ) (f : HasFront pod) where
               kind = h.kind;
               words = h.words;
               short = λ none. absurd (none front_longer);
+              cut = cut_longer r.cut h.cut;
             }
       ]
     where

@@ -62,7 +62,7 @@ written_more a b c xs ys (Texts n w) h k = appends_more a b c xs ys h k
 written_more a b c xs ys (Pair n w) h k = appends_more a b c xs ys h k
 written_more a b c xs ys (Lists n m w) h k = appends_more a b c xs ys h k
 written_more a b c xs ys OutOfMemory h k = appends_more a b c xs ys h k
-written_more a b c xs ys (Unread n) h k = appends_more a b c xs ys h k
+written_more a b c xs ys (Unread n words) h k = appends_more a b c xs ys h k
 
 module _ (s : Streaming) (remaining : Option (List ℕ)) (holds : List ℕ → Option (List ℕ)) (names : List (Bor (List ℕ))) where
   pub begins : (old : Option (List ℕ)) → StreamedSoFar s remaining holds names remaining names 0 old old
@@ -120,7 +120,7 @@ unread s name content old why u = of (known content) u
 
     of : (input : List ℕ) × IsAllOf content input → IsUnread why → IsBrokenAt s name content old old why
     of k (inl e) = subst (IsBrokenAt s name content old old) (sym e) (k.0, [], k.1, (k.0, none_of s k.0), appends_nothing old)
-    of k (inr e) = subst (IsBrokenAt s name content old old) (sym e.1) (k.0, [], k.1, (k.0, none_of s k.0), appends_nothing old)
+    of k (inr e) = subst (IsBrokenAt s name content old old) (sym e.2) (k.0, [], k.1, (k.0, none_of s k.0), appends_nothing old)
 
 -- it ends before it is done
 pub broken : (s : Streaming) (name : Bor (List ℕ)) (content old new : Option (List ℕ)) (e : Stop) (why : Failure) → IsFailureOf name e why →
@@ -128,7 +128,7 @@ pub broken : (s : Streaming) (name : Bor (List ℕ)) (content old new : Option (
 broken s name content old new stop.OutOfMemory why t h =
     subst (IsBrokenAt s name.now content old new) (sym t) (h.input, h.out, h.its, h.ends, h.written)
 broken s name content old new stop.ReadFailed why t h =
-    subst (IsBrokenAt s name.now content old new) (sym t.2) (h.input, h.out, h.its, h.ends, h.written)
+    subst (IsBrokenAt s name.now content old new) (sym t.3) (h.input, h.out, h.its, h.ends, h.written)
 broken s name content old new stop.WriteFailed why t h =
     subst (IsBrokenAt s name.now content old new) (sym t) (h.input, h.out, h.its, (refl, h.ends.0, h.ends.1), h.written)
 broken s name content old new (stop.Pod number place read) why t h = of why t
@@ -142,7 +142,7 @@ broken s name content old new (stop.Pod number place read) why t h = of why t
     of (Texts n w) t = absurd t
     of (Pair n w) t = absurd t
     of (Lists n m w) t = absurd t
-    of (Unread n) t = absurd t
+    of (Unread n words) t = absurd t
     of (Unwritten n) t = absurd t
 
 -- a refused pod is none

@@ -106,7 +106,7 @@ Refuses IsSo IsRefused o why = (IsRefused why × IsUntouched o) ⊎ (IsUnwritten
 
 -- what is said of an input that couldn't be read, or of memory
 abbrev pub IsUnread : Failure → Type 0
-IsUnread why = (why ≡ OutOfMemory) ⊎ ((name : Bor (List ℕ)) × (why ≡ Unread name))
+IsUnread why = (why ≡ OutOfMemory) ⊎ ((name : Bor (List ℕ)) × (words : Bor (List ℕ)) × (why ≡ Unread name words))
 
 -- the work on several inputs stops at one of them, which isn't read or is refused
 abbrev pub AreUnmade : Reading → Making → (remaining : Option (List ℕ)) → (holds : List ℕ → Option (List ℕ)) → List (Bor (List ℕ)) → Failure → Type 0
@@ -323,7 +323,7 @@ failure_text (Texts name why) = name_text name.now ++ (codes ": " ++ text.failur
 failure_text (Pair name why) = name_text name.now ++ (codes ": " ++ meet.failure_text why)
 failure_text (Lists ours theirs why) = name_text ours.now ++ (codes ", " ++ (name_text theirs.now ++ (codes ": " ++ meet.failure_text why)))
 failure_text OutOfMemory = codes "out of memory"
-failure_text (Unread name) = name_text name.now ++ codes ": read failed"
+failure_text (Unread name words) = name_text name.now ++ (codes ": " ++ words.now)
 failure_text (Unwritten target) = target_text target ++ codes ": write failed"
 
 -- the line that is written of a refused pod

@@ -41,7 +41,7 @@ StreamsAs s input out refused = WritesOf s 0 0 input out refused
 abbrev pub EndsIn : Streaming → (name input out : List ℕ) → Failure → Type 0
 EndsIn s name input out (Pods n why) =
     (n.now ≡ name) × (read : List ℕ) × EndsAtPod (MayRefuse s) (StreamsAs s) input out why.number why.place read × IsRefusalOf Exact read why
-EndsIn s name input out (Unread n) = (left : List ℕ) × MakesFirst (StreamsAs s) input out left
+EndsIn s name input out (Unread n words) = (left : List ℕ) × MakesFirst (StreamsAs s) input out left
 EndsIn s name input out OutOfMemory = (left : List ℕ) × MakesFirst (StreamsAs s) input out left
 EndsIn s name input out (Unwritten target) = (target ≡ None) × (left : List ℕ) × MakesFirst (StreamsAs s) input out left
 EndsIn s name input out _ = ⊥
@@ -54,7 +54,7 @@ IsWritten (Texts n why) old new out = Appends old new out
 IsWritten (Pair n why) old new out = Appends old new out
 IsWritten (Lists n m why) old new out = Appends old new out
 IsWritten OutOfMemory old new out = Appends old new out
-IsWritten (Unread n) old new out = Appends old new out
+IsWritten (Unread n words) old new out = Appends old new out
 
 -- why the work on several inputs ends in one of them, and what was written: what was made of those before it, and of its first pods
 abbrev pub IsBroken : Streaming → (remaining : Option (List ℕ)) → (holds : List ℕ → Option (List ℕ)) → List (Bor (List ℕ)) → (old new : Option (List ℕ)) →
@@ -82,6 +82,6 @@ IsRefusedAs name number place read _ = ⊥
 -- the failure of the input of this name for this reason
 abbrev pub IsFailureOf : Bor (List ℕ) → Stop → Failure → Type 0
 IsFailureOf name stop.OutOfMemory why = why ≡ OutOfMemory
-IsFailureOf name stop.ReadFailed why = (n : Bor (List ℕ)) × (n.now ≡ name.now) × (why ≡ Unread n)
+IsFailureOf name stop.ReadFailed why = (n : Bor (List ℕ)) × (words : Bor (List ℕ)) × (n.now ≡ name.now) × (why ≡ Unread n words)
 IsFailureOf name stop.WriteFailed why = why ≡ Unwritten None
 IsFailureOf name (stop.Pod number place read) why = IsRefusedAs name.now number place read.items why

@@ -55,6 +55,9 @@ impl Files for SystemFiles<'_> {
     fn open_file(&self, _alloc: Global, name: &str) -> io::Result<Take<File>> {
         let file = File::open(self.rt, name)?;
         let metadata = file.metadata()?;
+        if metadata.is_dir() {
+            return Err(io::Error::from(ErrorKind::IsADirectory));
+        }
         let end = if has_length(&metadata) {
             metadata.len()
         } else {
@@ -81,6 +84,17 @@ fn has_length(metadata: &Metadata) -> bool {
     metadata.is_file() && metadata.len() > 0
 }
 
+/// Why the system doesn't let a file be read, in its words where it is one of the usual causes.
+fn reason_of(kind: ErrorKind) -> &'static str {
+    match kind {
+        ErrorKind::NotFound => "no such file or directory",
+        ErrorKind::PermissionDenied => "permission denied",
+        ErrorKind::IsADirectory => "is a directory",
+        ErrorKind::NotADirectory => "not a directory",
+        _ => "read failed",
+    }
+}
+
 /// The file of this name, to be read from its beginning.
 pub(crate) fn open_named<'a, S: Files>(
     alloc: Global,
@@ -93,7 +107,7 @@ pub(crate) fn open_named<'a, S: Files>(
     match files.open_file(alloc, name) {
         Ok(file) => Ok(file),
         Err(error) if error.kind() == ErrorKind::OutOfMemory => Err(Failure::OutOfMemory),
-        Err(_) => Err(Failure::Unread(name)),
+        Err(error) => Err(Failure::Unread(name, reason_of(error.kind()))),
     }
 }
 
@@ -113,12 +127,12 @@ pub(crate) fn read_named<'a, R: Read, S: Files>(
         return match read_whole(alloc, input) {
             Ok(bytes) => Ok(bytes),
             Err(ReadError::OutOfMemory) => Err(Failure::OutOfMemory),
-            Err(ReadError::Failed) => Err(Failure::Unread(name)),
+            Err(ReadError::Failed) => Err(Failure::Unread(name, "read failed")),
         };
     }
     match files.read_file(alloc, name) {
         Ok(bytes) => Ok(bytes),
         Err(error) if error.kind() == ErrorKind::OutOfMemory => Err(Failure::OutOfMemory),
-        Err(_) => Err(Failure::Unread(name)),
+        Err(error) => Err(Failure::Unread(name, reason_of(error.kind()))),
     }
 }

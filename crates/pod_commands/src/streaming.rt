@@ -149,7 +149,7 @@ fn failure_of<'a>(alloc: Global, name: &'a str, why: Stop) -> Failure<'a>
             read,
         } => refused_at(alloc, name, number, place, read.as_slice()),
         Stop::OutOfMemory => Failure::OutOfMemory,
-        Stop::ReadFailed => Failure::Unread(name),
+        Stop::ReadFailed => Failure::Unread(name, "read failed"),
         Stop::WriteFailed => Failure::Unwritten(None),
     }
 }

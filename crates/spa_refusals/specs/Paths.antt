@@ -1,5 +1,5 @@
 -- The path from a refused pod to the malformed one inside it: docs/TEXT.md, "What is said of a refused pod".
-use Rattle.std.specs.Prelude.{◌≡◌, ◌≢◌, ◌≤◌, ◌<◌, ◌+◌, ◌⊎◌, ◌&&◌, if◌then◌else◌, ℕ, codes, List, [], ◌++◌, Option, Some, None, length, drop, nat_eq, nat_le, nat_lt}
+use Rattle.std.specs.Prelude.{◌≡◌, ◌≢◌, ◌≤◌, ◌<◌, ◌+◌, ◌⊎◌, ◌&&◌, if◌then◌else◌, ℕ, codes, List, [], ◌++◌, Option, Some, None, length, drop, nat_eq, nat_le, nat_lt, unwrap_or}
 use Rattle.std.specs.Fmt.{decimal}
 use Rattle.spa_format.specs.Front.{Begins, HasFront}
 use Rattle.spa_format.specs.Pod.{AreMembers, AreProperties}
@@ -8,6 +8,8 @@ use Rattle.spa_format.specs.Walk.{walk}
 use Rattle.spa_format.specs.Words.{body_of, header_size, word_at}
 use Rattle.spa_names.specs.Lookup.{keys_of, name_of}
 use Rattle.spa_names.specs.declared.table.Table.TheVariants.{Types}
+use Rattle.spa_refusals.specs.declared.names.TypeName.{TypeName}
+use Rattle.spa_refusals.specs.declared.names.TypeName.TheVariants.{Named, Numbered}
 
 -- ---- Names
 
@@ -24,9 +26,17 @@ number_of type body =
 abbrev pub type_number : List ℕ → ℕ
 type_number pod = number_of (word_at pod 4) (body_of pod)
 
--- the name of that type, where the bytes are long enough to have one
+-- a type's name, or its number where it has none
+abbrev pub type_text : ℕ → List ℕ
+type_text type = unwrap_or (name_of Types type) (codes "type " ++ decimal type)
+
+abbrev pub name_text : TypeName → List ℕ
+name_text (Named name) = name.now
+name_text (Numbered number) = codes "type " ++ decimal number
+
+-- that of the pod at the front, where its header is there
 unfoldable pub type_name : List ℕ → Option (List ℕ)
-type_name pod = if nat_lt (length pod) header_size then None else name_of Types (type_number pod)
+type_name pod = if nat_lt (length pod) header_size then None else Some (type_text (type_number pod))
 
 -- the name of a key of objects of this type
 unfoldable pub key_name : (type key : ℕ) → Option (List ℕ)

@@ -1,5 +1,5 @@
 -- What is said of a refused pod: docs/TEXT.md, "What is said of a refused pod".
-use Rattle.std.specs.Prelude.{◌≡◌, ◌≤◌, ◌+◌, ℕ, codes, List, [], ◌∷◌, ◌++◌, Option, Some, None, length, drop, take, option_map, string_bytes}
+use Rattle.std.specs.Prelude.{◌≡◌, ◌≤◌, ◌<◌, ◌+◌, if◌then◌else◌, nat_lt, ℕ, codes, List, [], ◌∷◌, ◌++◌, Option, Some, None, length, drop, take, option_map, string_bytes}
 use Rattle.std.specs.Borrow.{Bor}
 use Rattle.std.specs.Fmt.{decimal}
 use Rattle.spa_fixed_sized.specs.Faults.{error_text, kind_text}
@@ -7,12 +7,15 @@ use Rattle.spa_fixed_sized.specs.declared.fault.DeserializeError.{DeserializeErr
 use Rattle.spa_format.specs.Faults.{Fault, Stands}
 use Rattle.spa_format.specs.Front.{HasFront, IsRefused}
 use Rattle.spa_format.specs.Walk.{walk}
+use Rattle.spa_format.specs.Words.{extent, header_size, word_at}
 use Rattle.spa_bodies.specs.Reading.{IsShortAt, Names, OnMemory}
 use Rattle.spa_read.specs.Reading.{ConveysNothing, StandsLeniently}
 use Rattle.spa_recordings.specs.Reading.{IsAccepted, IsLeftOf}
 use Rattle.spa_recordings.specs.declared.reading.Reading.{Reading}
 use Rattle.spa_recordings.specs.declared.reading.Reading.TheVariants.{Exact, Lenient}
-use Rattle.spa_refusals.specs.Paths.{IsPath, type_name}
+use Rattle.spa_refusals.specs.Paths.{IsPath, name_text, type_name}
+use Rattle.spa_refusals.specs.declared.names.TypeName.{TypeName}
+use Rattle.spa_refusals.specs.declared.refusal.Cut.{Cut}
 use Rattle.spa_refusals.specs.declared.refusal.Refusal.{Refusal}
 
 -- no pod is read at the front
@@ -37,18 +40,28 @@ abbrev pub LeadsBy : Reading → (pod path inner : List ℕ) → Type 0
 LeadsBy Exact pod path inner = IsPath pod path inner
 LeadsBy Lenient pod path inner = (path ≡ []) × (inner ≡ pod)
 
+-- how many bytes the pod at the front takes with its padding; of fewer bytes than a header has, a header is wanted
+abbrev pub wanted : List ℕ → ℕ
+wanted pod = if nat_lt (length pod) header_size then header_size else extent (word_at pod 0)
+
+-- all of the pod at the front is there, or so much of it
+abbrev pub IsCutOf : List ℕ → Option Cut → Type 0
+IsCutOf pod None = wanted pod ≤ length pod
+IsCutOf pod (Some cut) = (cut.takes ≡ wanted pod) × (cut.there ≡ length pod) × (length pod < wanted pod)
+
 -- what is said of the pod at the front of these bytes: its type, the path to the malformed one inside, and the cause
 pub record IsRefusalOf (reading : Reading) (pod : List ℕ) (refusal : Refusal) : Type 0 where
-  pub type : option_map (λ name. name.now) refusal.type_ ≡ type_name pod
+  pub type : option_map name_text refusal.type_ ≡ type_name pod
   pub nothing : IsNothing reading pod
   pub inner : List ℕ
   pub path : LeadsBy reading pod (string_bytes refusal.path) inner
-  pub inner_type : option_map (λ name. name.now) refusal.inner_type ≡ type_name inner
+  pub inner_type : option_map name_text refusal.inner_type ≡ type_name inner
   pub cause : DeserializeError (Bor (List ℕ))
   pub its : IsUnreadFor reading inner cause
   pub kind : refusal.kind.now ≡ kind_text cause
   pub words : string_bytes refusal.words ≡ error_text cause
   pub short : ¬ (HasFront pod) → refusal.kind.now ≡ codes "Short"
+  pub cut : IsCutOf pod refusal.cut
 
 -- what is said of the pod at the front of what follows `place`
 pub record IsRefusalAt (reading : Reading) (input : List ℕ) (refusal : Refusal) : Type 0 where
@@ -63,13 +76,18 @@ IsFirstRefusal reading input refusal =
 
 -- ---- The text
 
--- a type in brackets, where it has a name
-abbrev pub title_text : Option (Bor (List ℕ)) → List ℕ
+-- a type in brackets, where there is one
+abbrev pub title_text : Option TypeName → List ℕ
 title_text None = []
-title_text (Some name) = codes " (" ++ (name.now ++ codes ")")
+title_text (Some type) = codes " (" ++ (name_text type ++ codes ")")
+
+-- how much of the pod is there, where it isn't whole
+abbrev pub there_text : Option Cut → List ℕ
+there_text None = []
+there_text (Some cut) = codes ": " ++ (decimal cut.there ++ (codes " of " ++ (decimal cut.takes ++ codes " are there")))
 
 -- the path, where there is one, and the type of the pod that it leads to
-abbrev pub inner_text : (path : List ℕ) → Option (Bor (List ℕ)) → List ℕ
+abbrev pub inner_text : (path : List ℕ) → Option TypeName → List ℕ
 inner_text [] type = []
 inner_text (x ∷ path) type = codes ", at " ++ (x ∷ path ++ title_text type)
 
@@ -77,4 +95,4 @@ inner_text (x ∷ path) type = codes ", at " ++ (x ∷ path ++ title_text type)
 abbrev pub refusal_text : Refusal → List ℕ
 refusal_text r =
     codes "pod " ++ (decimal r.number ++ (title_text r.type_ ++ (codes ", byte " ++ (decimal r.place ++ (inner_text (string_bytes r.path) r.inner_type
-    ++ (codes ": " ++ (string_bytes r.words ++ (codes " (" ++ (r.kind.now ++ codes ")")))))))))
+    ++ (codes ": " ++ (string_bytes r.words ++ (there_text r.cut ++ (codes " (" ++ (r.kind.now ++ codes ")"))))))))))

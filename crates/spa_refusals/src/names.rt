@@ -2,26 +2,60 @@
 ghost use Rattle.std.specs.Prelude.{◌≡◌, ◌≤◌, ◌++◌, OnOk, length, option_map, string_bytes};
 ghost use Rattle.spa_format.specs.Words.{body_of, header_size};
 ghost use Rattle.spa_refusals.specs.Paths as spec;
-ghost use Rattle.spa_refusals.specs.Paths.{key_step, type_number};
+ghost use Rattle.spa_refusals.specs.Paths.{key_step, name_text, type_number};
 
 use spa_bytes::{HEADER_LEN, SECOND_WORD, u32_at};
 use spa_names::{Table, keys_of, name_of};
 use spa_utils::SpaTypes;
 use std::alloc::AllocError;
+use std::fmt;
 use std::fmt::Write;
+
+/// A type in words. It prints its name, or `type 99`.
+#[derive(Clone, Copy, Debug)]
+pub enum TypeName {
+    /// PipeWire's name for it.
+    Named(&'static str),
+    /// The number of a type without a name.
+    Numbered(u32),
+}
+
+impl fmt::Display for TypeName {
+    ghost use Rattle.std.specs.Prelude.{Some};
+    ghost use Rattle.spa_refusals.specs.Paths.{name_text};
+
+    ghost output = { λ type_. Some (name_text type_) };
+
+    fn fmt<W: fmt::Write>(&self, f: &mut fmt::Formatter<W>) -> fmt::Result {
+        match self {
+            TypeName::Named(name) => write!(f, "{name}"),
+            TypeName::Numbered(number) => write!(f, "type {number}"),
+        }
+    }
+}
 
 /// How many bytes the type of an object takes, at the front of its body.
 const OBJECT_TYPE_LEN: usize = 4;
 
-/// The name of the type of the pod at the front; of an object, whose body has room for it, that of the object's type.
+/// The type of the pod at the front; of an object, whose body has room for it, the object's type. None where its header isn't there.
 #[tactic(auto, unfolding(crate::specs::Paths::type_name))]
-pub(crate) fn type_name(pod: &[u8]) -> Option<&'static str>
-    ensures { option_map (λ name. name.now) result ≡ spec.type_name pod.now }
+pub(crate) fn type_name(pod: &[u8]) -> Option<TypeName>
+    ensures { option_map name_text result ≡ spec.type_name pod.now }
 {
     if pod.len() < HEADER_LEN {
         return None;
     }
-    name_of(Table::Types, type_number(pod))
+    Some(named(type_number(pod)))
+}
+
+/// The type of this number.
+fn named(number: u32) -> TypeName
+    ensures { name_text result ≡ spec.type_text number }
+{
+    match name_of(Table::Types, number) {
+        Some(name) => TypeName::Named(name),
+        None => TypeName::Numbered(number),
+    }
 }
 
 /// The number of that type.

@@ -2,11 +2,12 @@
 ghost use Rattle.std.specs.Prelude.{◌≡◌, ◌+◌, ◌≤◌, IfErr, IfNone, IfOk, IfSome, OnOk, drop, length, take};
 ghost use Rattle.spa_format.specs.Walk.{walk};
 ghost use Rattle.spa_recordings.specs.Reading.{IsAccepted, RefusesList};
-ghost use Rattle.spa_refusals.specs.Refusals.{IsFirstRefusal, IsNothing, IsRefusalAt, IsRefusalOf};
+ghost use Rattle.spa_refusals.specs.Refusals.{IsCutOf, IsFirstRefusal, IsNothing, IsRefusalAt, IsRefusalOf};
 
 use crate::counting::count;
 use crate::inside::malformed;
-use crate::names::type_name;
+use crate::names::{TypeName, type_name};
+use spa_bytes::{HEADER_LEN, extent_of, u32_at};
 use spa_fixed_sized::DeserializeError;
 use spa_lenient::rewrite_all_leniently;
 use spa_recordings::reading::Reading;
@@ -23,17 +24,28 @@ pub struct Refusal {
     pub number: usize,
     /// The byte of the input where it begins.
     pub place: usize,
-    /// The name of its type, of an object that of the object's type, where there is one.
-    pub type_: Option<&'static str>,
+    /// Its type, of an object the object's type, where its header is there.
+    pub type_: Option<TypeName>,
     /// The path to the pod inside it that is malformed: keys as `.rate`, places of members as `[2]`, the first being 0. It is empty where that
     /// is the pod itself, and in the lenient reading. After 32 steps it may end before that pod.
     pub path: String,
-    /// The name of the type of that one.
-    pub inner_type: Option<&'static str>,
+    /// The type of that one.
+    pub inner_type: Option<TypeName>,
     /// The name of the cause, as `DeserializeError::kind` gives it.
     pub kind: &'static str,
     /// The cause in words, as `DeserializeError` prints.
     pub words: String,
+    /// What is there of a pod that isn't whole.
+    pub cut: Option<Cut>,
+}
+
+/// What is there of a pod that isn't whole.
+#[derive(Clone, Copy, Debug)]
+pub struct Cut {
+    /// How many bytes it takes with its padding; where fewer are there than a header has, how many that has.
+    pub takes: usize,
+    /// How many of them are there.
+    pub there: usize,
 }
 
 /// The refusal of the first pod of the input that isn't read; None where all of it is read.
@@ -118,12 +130,49 @@ pub fn refusal_of(
         inner_type: type_name(inner.pod),
         kind: inner.error.kind(),
         words,
+        cut: cut_of(pod),
     })
 }
 
-/// The name of a type in brackets, where there is one.
+/// What is there of the pod at the front, where it isn't whole.
+fn cut_of(pod: &[u8]) -> Option<Cut>
+    ensures { IsCutOf pod.now result }
+{
+    let takes = if pod.len() < HEADER_LEN {
+        HEADER_LEN
+    } else {
+        extent_of(u32_at(pod, 0))
+    };
+    if pod.len() < takes {
+        return Some(Cut {
+            takes,
+            there: pod.len(),
+        });
+    }
+    None
+}
+
+/// How much of a pod is there, where it isn't whole.
 #[derive(Clone, Copy)]
-struct Title(Option<&'static str>);
+struct There(Option<Cut>);
+
+impl fmt::Display for There {
+    ghost use Rattle.std.specs.Prelude.{Some};
+    ghost use Rattle.spa_refusals.specs.Refusals.{there_text};
+
+    ghost output = { λ there. Some (there_text there.0) };
+
+    fn fmt<W: fmt::Write>(&self, f: &mut fmt::Formatter<W>) -> fmt::Result {
+        match self.0 {
+            Some(cut) => write!(f, ": {} of {} are there", cut.there, cut.takes),
+            None => Ok(()),
+        }
+    }
+}
+
+/// A type in brackets, where there is one.
+#[derive(Clone, Copy)]
+struct Title(Option<TypeName>);
 
 impl fmt::Display for Title {
     ghost use Rattle.std.specs.Prelude.{Some};
@@ -133,7 +182,7 @@ impl fmt::Display for Title {
 
     fn fmt<W: fmt::Write>(&self, f: &mut fmt::Formatter<W>) -> fmt::Result {
         match self.0 {
-            Some(name) => write!(f, " ({name})"),
+            Some(type_) => write!(f, " ({type_})"),
             None => Ok(()),
         }
     }
@@ -143,7 +192,7 @@ impl fmt::Display for Title {
 #[derive(Clone, Copy)]
 struct Inner<'a> {
     path: &'a str,
-    type_: Option<&'static str>,
+    type_: Option<TypeName>,
 }
 
 impl fmt::Display for Inner<'_> {
@@ -173,9 +222,10 @@ impl fmt::Display for Refusal {
             path: self.path.as_str(),
             type_: self.inner_type,
         };
+        let there = There(self.cut);
         write!(
             f,
-            "pod {}{title}, byte {}{inner}: {} ({})",
+            "pod {}{title}, byte {}{inner}: {}{there} ({})",
             self.number, self.place, self.words, self.kind
         )
     }

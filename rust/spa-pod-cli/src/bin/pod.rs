@@ -17,7 +17,7 @@ fn main() -> ExitCode {
     let words = words();
     let words: Vec<&str> = words.iter().map(String::as_str).collect();
     let (Ok(mut input), Ok(output)) = (stdin(), Stdout::open()) else {
-        let answer = Answer::Refused(Failure::Unread("-"));
+        let answer = Answer::Refused(Failure::Unread("-", "read failed"));
         let _ = report(&mut io::sink(), &mut io::stderr(), &answer);
         return ExitCode::from(answer.status());
     };

@@ -18,4 +18,5 @@ returns-clause-refusal c =
       kind = c.kind.ensures;
       words = words;
       short = short_kind c.args.reading c.args.pod.now _ inner.pod.now _ inner.error c.in_ok-path.ensures.path c.in_ok-path.ensures.why c.kind.ensures;
+      cut = c.cut_of.ensures;
     }

@@ -57,8 +57,8 @@ pub enum Failure<'a> {
     Lists(&'a str, &'a str, crate::parts::spa_meet_commands::answer::Failure),
     /// A growth was refused.
     OutOfMemory,
-    /// The input of this name couldn't be read.
-    Unread(&'a str),
+    /// The input of this name couldn't be read, which is said so.
+    Unread(&'a str, &'static str),
     /// The file of this name, or without one the standard output, couldn't be written.
     Unwritten(Option<&'a str>),
 }
@@ -89,7 +89,7 @@ impl fmt::Display for Failure<'_> {
                 write!(f, "{}, {}: {why}", shown_name(*ours), shown_name(*theirs))
             }
             Failure::OutOfMemory => write!(f, "out of memory"),
-            Failure::Unread(name) => write!(f, "{}: read failed", shown_name(*name)),
+            Failure::Unread(name, why) => write!(f, "{}: {why}", shown_name(*name)),
             Failure::Unwritten(target) => write!(f, "{}: write failed", shown_target(*target)),
         }
     }

@@ -40,6 +40,9 @@ impl Files for SystemFiles {
     fn open_file(&self, name: &str) -> io::Result<Take<File>> {
         let file = File::open(name)?;
         let metadata = file.metadata()?;
+        if metadata.is_dir() {
+            return Err(io::Error::from(ErrorKind::IsADirectory));
+        }
         let end = if has_length(&metadata) {
             metadata.len()
         } else {
@@ -66,6 +69,17 @@ fn has_length(metadata: &Metadata) -> bool {
     metadata.is_file() && metadata.len() > 0
 }
 
+/// Why the system doesn't let a file be read, in its words where it is one of the usual causes.
+fn reason_of(kind: ErrorKind) -> &'static str {
+    match kind {
+        ErrorKind::NotFound => "no such file or directory",
+        ErrorKind::PermissionDenied => "permission denied",
+        ErrorKind::IsADirectory => "is a directory",
+        ErrorKind::NotADirectory => "not a directory",
+        _ => "read failed",
+    }
+}
+
 /// The file of this name, to be read from its beginning.
 pub(crate) fn open_named<'a, S: Files>(
     name: &'a str,
@@ -74,7 +88,7 @@ pub(crate) fn open_named<'a, S: Files>(
     match files.open_file(name) {
         Ok(file) => Ok(file),
         Err(error) if error.kind() == ErrorKind::OutOfMemory => Err(Failure::OutOfMemory),
-        Err(_) => Err(Failure::Unread(name)),
+        Err(error) => Err(Failure::Unread(name, reason_of(error.kind()))),
     }
 }
 
@@ -88,12 +102,12 @@ pub(crate) fn read_named<'a, R: Read, S: Files>(
         return match read_whole(input) {
             Ok(bytes) => Ok(bytes),
             Err(ReadError::OutOfMemory) => Err(Failure::OutOfMemory),
-            Err(ReadError::Failed) => Err(Failure::Unread(name)),
+            Err(ReadError::Failed) => Err(Failure::Unread(name, "read failed")),
         };
     }
     match files.read_file(name) {
         Ok(bytes) => Ok(bytes),
         Err(error) if error.kind() == ErrorKind::OutOfMemory => Err(Failure::OutOfMemory),
-        Err(_) => Err(Failure::Unread(name)),
+        Err(error) => Err(Failure::Unread(name, reason_of(error.kind()))),
     }
 }

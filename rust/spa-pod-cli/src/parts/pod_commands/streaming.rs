@@ -99,7 +99,7 @@ fn failure_of<'a>(name: &'a str, why: Stop) -> Failure<'a> {
             read,
         } => refused_at(name, number, place, read.as_slice()),
         Stop::OutOfMemory => Failure::OutOfMemory,
-        Stop::ReadFailed => Failure::Unread(name),
+        Stop::ReadFailed => Failure::Unread(name, "read failed"),
         Stop::WriteFailed => Failure::Unwritten(None),
     }
 }

@@ -6,5 +6,6 @@ mod names;
 mod refusal;
 mod several;
 
-pub use refusal::{Refusal, first_refusal, refusal_of};
+pub use names::TypeName;
+pub use refusal::{Cut, Refusal, first_refusal, refusal_of};
 pub use several::{NamedRefusal, add_refusals};

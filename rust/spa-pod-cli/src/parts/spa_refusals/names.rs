@@ -6,16 +6,43 @@ use spa_pod::parts::spa_bytes::{HEADER_LEN, SECOND_WORD, u32_at};
 use spa_pod::parts::spa_names::{Table, keys_of, name_of};
 use spa_pod::parts::spa_utils::SpaTypes;
 use spa_pod::shims::memory::AllocError;
+use core::fmt;
+
+/// A type in words. It prints its name, or `type 99`.
+#[derive(Clone, Copy, Debug)]
+pub enum TypeName {
+    /// PipeWire's name for it.
+    Named(&'static str),
+    /// The number of a type without a name.
+    Numbered(u32),
+}
+
+impl fmt::Display for TypeName {
+    fn fmt(&self, f: &mut fmt::Formatter<'_>) -> fmt::Result {
+        match self {
+            TypeName::Named(name) => write!(f, "{name}"),
+            TypeName::Numbered(number) => write!(f, "type {number}"),
+        }
+    }
+}
 
 /// How many bytes the type of an object takes, at the front of its body.
 const OBJECT_TYPE_LEN: usize = 4;
 
-/// The name of the type of the pod at the front; of an object, whose body has room for it, that of the object's type.
-pub(crate) fn type_name(pod: &[u8]) -> Option<&'static str> {
+/// The type of the pod at the front; of an object, whose body has room for it, the object's type. None where its header isn't there.
+pub(crate) fn type_name(pod: &[u8]) -> Option<TypeName> {
     if pod.len() < HEADER_LEN {
         return None;
     }
-    name_of(Table::Types, type_number(pod))
+    Some(named(type_number(pod)))
+}
+
+/// The type of this number.
+fn named(number: u32) -> TypeName {
+    match name_of(Table::Types, number) {
+        Some(name) => TypeName::Named(name),
+        None => TypeName::Numbered(number),
+    }
 }
 
 /// The number of that type.

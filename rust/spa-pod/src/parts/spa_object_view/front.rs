@@ -45,7 +45,7 @@ pub enum NoObject {
 }
 
 /// The object at the front of the input. Memory is asked for only where the front isn't canonical, or structs and objects nest more than 1000 deep.
-pub(crate) fn object_pod(input: &[u8]) -> Result<ObjectPod<'_>, NoObject> {
+pub fn object_pod(input: &[u8]) -> Result<ObjectPod<'_>, NoObject> {
     let Some(front) = open(input) else {
         return Err(NoObject::Unread);
     };

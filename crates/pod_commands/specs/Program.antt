@@ -12,7 +12,7 @@ files = record (new_rule (codes "FILE")) { action = Some Append }
 abbrev pub output : Rule
 output = record (new_rule (codes "output")) { short = Some 111; long = Some (codes "output"); value_names = 1 }
 
--- a flag, such as `--lenient`, `--keep-going`, `--keep-refused`, `--pretty`, `--hex`, `--strict`
+-- a flag, such as `--lenient`, `--keep-going`, `--keep-refused`, `--pretty`, `--hex`, `--loose`
 abbrev pub flag : Text → Rule
 flag name = record (new_rule name) { long = Some name; action = Some SetTrue }
 
@@ -56,9 +56,9 @@ json = with_rule (with_parts (with_rule (over_pods (word (codes "json"))) (flag 
 abbrev pub rewrite : App
 rewrite = with_rule (to_pods (codes "rewrite")) stream
 
--- `read` takes `--strict`
+-- `read` takes `--loose`
 abbrev pub read : App
-read = with_rule (word (codes "read")) (flag (codes "strict"))
+read = with_rule (word (codes "read")) (flag (codes "loose"))
 
 -- the program without its words: it wants one, and has a version
 abbrev pub bare : App

@@ -196,12 +196,12 @@ HasStream streams (Make Rewrite manner) = streams ≡ false
 HasStream streams (Stream streaming manner) = streams ≡ true
 HasStream streams _ = ⊤
 
--- how texts are read: strictly where `--strict` is given
-abbrev pub strictness_by : Bool → Strictness
-strictness_by is_strict = if is_strict then Strict else Plain
+-- how texts are read: strictly, unless `--loose` is given
+abbrev pub strictness_by : (is_loose : Bool) → Strictness
+strictness_by is_loose = if is_loose then Plain else Strict
 
 abbrev pub strictness_in : List Row → Strictness
-strictness_in rows = strictness_by (is_given (codes "strict") rows)
+strictness_in rows = strictness_by (is_given (codes "loose") rows)
 
 abbrev pub HasStrictness : Strictness → Word → Type 0
 HasStrictness strictness (Make (Read its) manner) = its ≡ strictness

@@ -253,12 +253,12 @@ fn read<'a>(alloc: Global) -> Result<Command<'a>, AllocError>
         alloc,
         "read",
         "Reads JSON with names and writes it as pods",
-        "Example: pod read --strict formats.json -o formats.pods",
+        "Example: pod read formats.json -o formats.pods",
     )?;
     plain.arg(flag(
         alloc,
-        "strict",
-        "Refuses a value whose type isn't the one that PipeWire's tables have for its key",
+        "loose",
+        "Also takes a value whose type isn't the one that PipeWire's tables have for its key",
     ))
 }
 

@@ -462,17 +462,17 @@ fn layout_by(is_pretty: bool) -> Layout
 fn strictness_of(given: &ArgMatches<'_>) -> Strictness
     ensures { result ≡ strictness_in (rows_of (found_of given.now)) }
 {
-    strictness_by(is_set(given, "strict"))
+    strictness_by(is_set(given, "loose"))
 }
 
-/// The strictness where `--strict` is given, or isn't.
-fn strictness_by(is_strict: bool) -> Strictness
-    ensures { result ≡ spec.strictness_by is_strict }
+/// The strictness where `--loose` is given, or isn't.
+fn strictness_by(is_loose: bool) -> Strictness
+    ensures { result ≡ spec.strictness_by is_loose }
 {
-    if is_strict {
-        Strictness::Strict
-    } else {
+    if is_loose {
         Strictness::Plain
+    } else {
+        Strictness::Strict
     }
 }
 

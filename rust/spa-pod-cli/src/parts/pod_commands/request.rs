@@ -379,15 +379,15 @@ fn layout_by(is_pretty: bool) -> Layout {
 
 /// How strictly texts are to be read.
 fn strictness_of(given: &ArgMatches<'_>) -> Strictness {
-    strictness_by(is_set(given, "strict"))
+    strictness_by(is_set(given, "loose"))
 }
 
-/// The strictness where `--strict` is given, or isn't.
-fn strictness_by(is_strict: bool) -> Strictness {
-    if is_strict {
-        Strictness::Strict
-    } else {
+/// The strictness where `--loose` is given, or isn't.
+fn strictness_by(is_loose: bool) -> Strictness {
+    if is_loose {
         Strictness::Plain
+    } else {
+        Strictness::Strict
     }
 }
 

@@ -4,6 +4,7 @@
 use pod_commands::answer::{Answer, Failure, report};
 use pod_commands::files::SystemFiles;
 use pod_commands::run::run;
+use pod_commands::screen::Screen;
 use spa_meet_commands::progress::Progress;
 use std::alloc::AllocError;
 use std::env;
@@ -28,7 +29,10 @@ fn status(rt: &HostRuntime) -> Option<u8> {
     let mut files = SystemFiles { rt };
     let mut progress = Told::new(rt);
     let stdout = rt.stdout();
-    let is_terminal = stdout.is_terminal();
+    let screen = Screen {
+        is_terminal: stdout.is_terminal(),
+        no_color: has_no_color(rt),
+    };
     let output = Output {
         device: stdout,
         is_closed: false,
@@ -40,7 +44,7 @@ fn status(rt: &HostRuntime) -> Option<u8> {
         &mut files,
         &mut progress,
         output,
-        is_terminal,
+        screen,
     );
     if !output.is_closed {
         let _ = report(&mut output, &mut rt.stderr(), &answer);
@@ -80,6 +84,14 @@ impl Progress for Told<'_> {
             "pod: {left} of {objects} objects left to try"
         );
         self.last = Instant::now(self.rt).ok();
+    }
+}
+
+/// Whether `NO_COLOR` is set, and not to nothing.
+fn has_no_color(rt: &HostRuntime) -> bool {
+    match env::var(rt, "NO_COLOR") {
+        Ok(value) => !value.as_str().is_empty(),
+        Err(_) => false,
     }
 }
 

@@ -27,7 +27,7 @@ use Rattle.spa_meet_commands.specs.declared.pair.Work.{Work}
 use Rattle.pod_commands.specs.Inputs.{AreMade, OfOne, OfTwo, StopsAt}
 use Rattle.pod_commands.specs.Making.{AreNoPods, MakesAll, RefusesBy}
 use Rattle.pod_commands.specs.Program.{program}
-use Rattle.pod_commands.specs.Requests.{Asks, AsksNothing, dash}
+use Rattle.pod_commands.specs.Requests.{Asks, AsksNothing, dash, file_of, fills_terminal}
 use Rattle.pod_commands.specs.Streaming.{EndsIn, IsBroken, StreamsAs}
 use Rattle.pod_commands.specs.Working.{AreWorked}
 use Rattle.pod_commands.specs.declared.answer.Answer.{Answer}
@@ -37,7 +37,7 @@ use Rattle.pod_commands.specs.declared.answer.Failure.TheVariants.{Pods, Texts, 
 use Rattle.pod_commands.specs.declared.misuse.Excluded.{Excluded}
 use Rattle.pod_commands.specs.declared.misuse.Excluded.TheVariants as excluded
 use Rattle.pod_commands.specs.declared.misuse.Misuse.{Misuse}
-use Rattle.pod_commands.specs.declared.misuse.Misuse.TheVariants.{TooFew, TooMany, WithStream, WithPart}
+use Rattle.pod_commands.specs.declared.misuse.Misuse.TheVariants.{TooFew, TooMany, ToTerminal, WithStream, WithPart}
 use Rattle.pod_commands.specs.declared.request.Fate.{Fate}
 use Rattle.pod_commands.specs.declared.request.Fate.TheVariants.{Stops, GoesOn}
 use Rattle.pod_commands.specs.declared.request.Making.{Making}
@@ -45,6 +45,7 @@ use Rattle.pod_commands.specs.declared.request.Making.TheVariants.{Check, Rewrit
 use Rattle.pod_commands.specs.declared.request.Printing.{Printing}
 use Rattle.pod_commands.specs.declared.request.Request.{Request}
 use Rattle.pod_commands.specs.declared.request.Streaming.{Streaming}
+use Rattle.pod_commands.specs.declared.screen.Screen.{Screen}
 use Rattle.pod_commands.specs.declared.request.Streaming.TheVariants as streaming
 use Rattle.pod_commands.specs.declared.request.Word.{Word}
 use Rattle.pod_commands.specs.declared.request.Word.TheVariants.{Print, Make, Stream, Diff, Agree}
@@ -277,17 +278,19 @@ IsDone Diff answer remaining names o = IsCompared answer remaining names o
 IsDone (Agree work) answer remaining names o = IsAgreed work answer remaining names o
 
 -- What an answer says of a run: what the words ask for was done, or refused; clap refuses them for one of the causes that stand, help
--- and the version among them; they name no word; or memory ran out.
-pub data IsAnswer (words : List (Bor (List ℕ))) (is_terminal : Bool) (remaining old new : Option (List ℕ)) (before after : List ℕ → Option (List ℕ)) : Answer → Type 0 where
-  asked : (request : Request) (answer : Answer) → Asks words is_terminal request →
-      IsDone request.word answer remaining request.names.items (outlet request.target old new before after) →
-      IsAnswer words is_terminal remaining old new before after answer
+-- and the version among them; they name no word; pods would go to a terminal; or memory ran out.
+pub data IsAnswer (words : List (Bor (List ℕ))) (screen : Screen) (remaining old new : Option (List ℕ)) (before after : List ℕ → Option (List ℕ)) : Answer → Type 0 where
+  asked : (request : Request) (answer : Answer) → Asks words screen request → fills_terminal screen request ≡ false →
+      IsDone request.word answer remaining request.names.items (outlet (file_of request.target) old new before after) →
+      IsAnswer words screen remaining old new before after answer
+  to_terminal : (request : Request) → Asks words screen request → fills_terminal screen request ≡ true → Keeps old new →
+      ((name : List ℕ) → after name ≡ before name) → IsAnswer words screen remaining old new before after (Misused ToTerminal)
   said : (error : Error) → IsAmong (kind_of error) (fault_of program (texts words)) → Keeps old new → ((name : List ℕ) → after name ≡ before name) →
-      IsAnswer words is_terminal remaining old new before after (Said error)
+      IsAnswer words screen remaining old new before after (Said error)
   nothing : (why : Misuse) → AsksNothing words why → Keeps old new → ((name : List ℕ) → after name ≡ before name) →
-      IsAnswer words is_terminal remaining old new before after (Misused why)
+      IsAnswer words screen remaining old new before after (Misused why)
   no_memory : Keeps old new → ((name : List ℕ) → after name ≡ before name) →
-      IsAnswer words is_terminal remaining old new before after (Refused OutOfMemory)
+      IsAnswer words screen remaining old new before after (Refused OutOfMemory)
 
 -- ---- What is said
 

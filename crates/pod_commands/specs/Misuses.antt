@@ -3,7 +3,7 @@ use Rattle.std.specs.Prelude.{ℕ, List, ◌++◌, [], ◌∷◌, codes}
 use Rattle.pod_commands.specs.declared.misuse.Excluded.{Excluded}
 use Rattle.pod_commands.specs.declared.misuse.Excluded.TheVariants.{Lenient, KeepGoing, KeepRefused, Output}
 use Rattle.pod_commands.specs.declared.misuse.Misuse.{Misuse}
-use Rattle.pod_commands.specs.declared.misuse.Misuse.TheVariants.{NoWord, Nth, Color, Key, TooFew, TooMany, WithStream, WithPart}
+use Rattle.pod_commands.specs.declared.misuse.Misuse.TheVariants.{NoWord, Nth, Color, Key, TooFew, TooMany, ToTerminal, WithStream, WithPart}
 
 abbrev pub excluded_text : Excluded → List ℕ
 excluded_text Lenient = codes "--lenient"
@@ -18,6 +18,8 @@ misuse_text (Color value) = codes "--color takes auto, always or never, not '" +
 misuse_text (Key value) = codes "--key: no key has the name or number '" ++ (value.now ++ codes "'")
 misuse_text TooFew = codes "diff takes two FILEs"
 misuse_text (TooMany name) = codes "unexpected FILE '" ++ (name.now ++ codes "': two are the most")
+misuse_text ToTerminal =
+    codes "pods are bytes, and the standard output is a terminal: -o FILE writes a file, -o - writes there all the same"
 misuse_text (WithStream other) = codes "--stream can't be used with " ++ excluded_text other
 misuse_text (WithPart other) = codes "--nth, --key and --hex can't be used with " ++ excluded_text other
 

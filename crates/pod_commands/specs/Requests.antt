@@ -1,5 +1,5 @@
 -- What the words ask for.
-use Rattle.std.specs.Prelude.{◌≡◌, ◌≢◌, ◌<◌, ◌^◌, ◌⊎◌, ◌||◌, ⊤, ℕ, codes, Bool, true, false, not, List, [], ◌∷◌, Option, Some, None, IfSome, is_some, if◌then◌else◌, option_map, unwrap_or}
+use Rattle.std.specs.Prelude.{◌≡◌, ◌≢◌, ◌<◌, ◌^◌, ◌⊎◌, ◌||◌, ◌&&◌, ⊤, ℕ, codes, Bool, true, false, not, List, [], ◌∷◌, Option, Some, None, IfSome, is_some, if◌then◌else◌, option_map, unwrap_or}
 use Rattle.std.specs.Str.{bytes_eq}
 use Rattle.std.specs.Str.Parse.{IsNumeral, digits_value, without_leading_plus}
 use Rattle.std.specs.Borrow.{Bor}
@@ -22,6 +22,7 @@ use Rattle.pod_commands.specs.declared.request.Options.{Options}
 use Rattle.pod_commands.specs.declared.request.Printing.{Printing}
 use Rattle.pod_commands.specs.declared.request.Request.{Request}
 use Rattle.pod_commands.specs.declared.request.Style.{Style}
+use Rattle.pod_commands.specs.declared.screen.Screen.{Screen}
 use Rattle.spa_recordings.specs.declared.going_on.Refused.TheVariants.{LeftOut, Kept}
 use Rattle.spa_recordings.specs.declared.reading.Reading.{Reading}
 use Rattle.spa_recordings.specs.declared.reading.Reading.TheVariants.{Exact, Lenient}
@@ -121,14 +122,18 @@ abbrev pub goes_to_terminal : (is_terminal : Bool) → (output : Option Text) �
 goes_to_terminal is_terminal None = is_terminal
 goes_to_terminal is_terminal (Some name) = false
 
+-- they are without `--color` where they go to a terminal, and NO_COLOR isn't set
+abbrev pub takes_colours : Screen → (output : Option Text) → Bool
+takes_colours screen output = goes_to_terminal screen.is_terminal output && not screen.no_color
+
 -- a key's name is given, or its number, if `--key` is
 abbrev pub IsKey : Option Text → Option Text → Type 0
 IsKey given key = (key ≡ given) × IfSome given HasKeyNamed
 
 -- these options are given
-pub record AreGiven (rows : List Row) (is_terminal : Bool) (options : Options) : Type 0 where
+pub record AreGiven (rows : List Row) (screen : Screen) (options : Options) : Type 0 where
   pub layout : options.layout ≡ layout_in rows
-  pub colours : AreColours (first_of (codes "color") rows) (goes_to_terminal is_terminal (first_of (codes "output") rows)) options.colours
+  pub colours : AreColours (first_of (codes "color") rows) (takes_colours screen (first_of (codes "output") rows)) options.colours
   pub hex : options.hex ≡ is_given (codes "hex") rows
   pub nth : IsNumber (first_of (codes "nth") rows) options.selection.nth
   pub key : IsKey (first_of (codes "key") rows) (option_map (λ s. s.now) options.selection.key)
@@ -219,18 +224,36 @@ abbrev pub names_in : List Row → List Text
 names_in rows = or_input (unwrap_or (all_of (codes "FILE") rows) [])
 
 -- the words are the program's, and ask for this
-pub record Asks (words : List (Bor (List ℕ))) (is_terminal : Bool) (request : Request) : Type 0 where
+pub record Asks (words : List (Bor (List ℕ))) (screen : Screen) (request : Request) : Type 0 where
   pub accepted : fault_of program (texts words) ≡ []
   pub rows : List Row
   pub word : subcommand_of program (texts words) ≡ Some (name_of request.word, rows)
   pub options : Options
-  pub given : AreGiven rows is_terminal options
+  pub given : AreGiven rows screen options
   pub printout : HasPrintout options request.word
   pub manner : HasManner (reading_in rows) (fate_in rows) request.word
   pub stream : HasStream (is_given (codes "stream") rows) request.word
   pub strictness : HasStrictness (strictness_in rows) request.word
   pub names : texts request.names.items ≡ names_in rows
   pub target : option_map (λ s. s.now) request.target ≡ first_of (codes "output") rows
+
+-- a word that writes pods, and no text
+abbrev pub writes_pods : Word → Bool
+writes_pods (Make (Read strictness) manner) = true
+writes_pods (Make Rewrite manner) = true
+writes_pods (Make Fixate manner) = true
+writes_pods (Stream Streaming.Rewrite manner) = true
+writes_pods (Agree work) = true
+writes_pods _ = false
+
+-- pods would go to a terminal, which `-o` doesn't ask for
+abbrev pub fills_terminal : Screen → Request → Bool
+fills_terminal screen request = writes_pods request.word && goes_to_terminal screen.is_terminal (option_map (λ s. s.now) request.target)
+
+-- `-o -` is the standard output
+abbrev pub file_of : Option (Bor (List ℕ)) → Option (Bor (List ℕ))
+file_of None = None
+file_of (Some name) = if bytes_eq name.now dash then None else Some name
 
 -- no word of the program's is named
 abbrev pub NamesNoWord : List (Bor (List ℕ)) → Type 0

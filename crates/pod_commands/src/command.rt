@@ -43,7 +43,9 @@ fn output<'a>(alloc: Global) -> Arg<'a>
         .short('o')
         .long("output")
         .value_name("FILE")
-        .help("Writes to this file, once all output is there, and not to the standard output")
+        .help(
+            "Writes to this file, once all output is there, and not to the standard output; - is that output, also where it is a terminal",
+        )
 }
 
 /// A flag of this name.
@@ -180,7 +182,7 @@ fn with_parts<'a>(alloc: Global, command: Command<'a>) -> Result<Command<'a>, Al
         alloc,
         "color",
         "WHEN",
-        "Prints in colours: always, never, or auto, which is where the output is a terminal",
+        "Prints in colours: always, never, or auto, which is where the output is a terminal and NO_COLOR isn't set",
     ))
 }
 

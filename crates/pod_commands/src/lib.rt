@@ -12,5 +12,6 @@ mod pairs;
 mod refusing;
 pub mod request;
 pub mod run;
+pub mod screen;
 mod sending;
 mod streaming;

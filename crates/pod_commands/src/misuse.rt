@@ -29,6 +29,8 @@ pub enum Misuse<'a> {
     TooFew,
     /// This is the third file of a word that takes two at most.
     TooMany(&'a str),
+    /// Pods would be written to a terminal, and `-o` doesn't ask for it.
+    ToTerminal,
     /// `--stream` excludes this option.
     WithStream(Excluded),
     /// `--nth`, `--key` and `--hex` exclude this option.
@@ -65,6 +67,9 @@ impl fmt::Display for Misuse<'_> {
             Misuse::Key(value) => write!(f, "--key: no key has the name or number '{value}'"),
             Misuse::TooFew => f.write_str("diff takes two FILEs"),
             Misuse::TooMany(name) => write!(f, "unexpected FILE '{name}': two are the most"),
+            Misuse::ToTerminal => f.write_str(
+                "pods are bytes, and the standard output is a terminal: -o FILE writes a file, -o - writes there all the same",
+            ),
             Misuse::WithStream(other) => write!(f, "--stream can't be used with {other}"),
             Misuse::WithPart(other) => {
                 write!(f, "--nth, --key and --hex can't be used with {other}")

@@ -16,6 +16,7 @@ ghost use Rattle.spa_text_read.specs.declared.fitting.Strictness.{Strictness as 
 use crate::colours::Colours;
 use crate::command::program;
 use crate::misuse::Misuse;
+use crate::screen::Screen;
 use clap::{ArgMatches, Error};
 use spa_meet_commands::pair::Work;
 use spa_recordings::going_on::Refused;
@@ -107,18 +108,18 @@ pub struct Request<'a> {
     pub word: Word<'a>,
     /// The inputs' names; `-` is the standard input.
     pub names: Vec<&'a str>,
-    /// The file that is written; without one, the standard output.
+    /// The file that is written; without one, and where it is `-`, the standard output.
     pub target: Option<&'a str>,
 }
 
-/// What these words ask for, the program's own name not among them, where the standard output is a terminal, or isn't; or why they ask for nothing
-/// though `clap` accepts them.
+/// What these words ask for, the program's own name not among them, where this is the standard output; or why they ask for nothing though `clap`
+/// accepts them.
 pub(crate) fn request_of<'a>(
     alloc: Global,
     words: &'a [&'a str],
-    is_terminal: bool,
+    screen: Screen,
 ) -> Result<Result<Request<'a>, Misuse<'a>>, Error>
-    ensures asked { IfOk result (λ asked. IfOk asked (Asks words.now is_terminal)) }
+    ensures asked { IfOk result (λ asked. IfOk asked (Asks words.now screen)) }
     ensures nothing { IfOk result (λ asked. IfErr asked (AsksNothing words.now)) }
     ensures refused { IfErr result (HasKind (fault_of program (texts words.now))) }
 {
@@ -127,7 +128,7 @@ pub(crate) fn request_of<'a>(
     let Some((name, given)) = matches.subcommand() else {
         return Ok(Err(Misuse::NoWord));
     };
-    let options = match options_of(given, is_terminal) {
+    let options = match options_of(given, screen) {
         Ok(options) => options,
         Err(why) => return Ok(Err(why)),
     };
@@ -220,16 +221,16 @@ impl<'a> Options<'a> {
     }
 }
 
-/// The options that are given, where the standard output is a terminal, or isn't; or the one whose value is none of its own.
-fn options_of<'a>(given: &ArgMatches<'a>, is_terminal: bool) -> Result<Options<'a>, Misuse<'a>>
-    ensures given { IfOk result (AreGiven (rows_of (found_of given.now)) is_terminal) }
+/// The options that are given, where this is the standard output; or the one whose value is none of its own.
+fn options_of<'a>(given: &ArgMatches<'a>, screen: Screen) -> Result<Options<'a>, Misuse<'a>>
+    ensures given { IfOk result (AreGiven (rows_of (found_of given.now)) screen) }
     ensures unknown { IfErr result (HasUnknownValue (rows_of (found_of given.now))) }
 {
     let nth = match number_of(given.get_str("nth")) {
         Ok(nth) => nth,
         Err(why) => return Err(why),
     };
-    let to_terminal = goes_to_terminal(is_terminal, given.get_str("output"));
+    let to_terminal = takes_colours(screen, given.get_str("output"));
     let colours = match colours_of(given.get_str("color"), to_terminal) {
         Ok(colours) => colours,
         Err(why) => return Err(why),
@@ -274,6 +275,47 @@ fn key_of<'a>(name: Option<&'a str>) -> Result<Option<&'a str>, Misuse<'a>>
         return Ok(Some(key));
     }
     Err(Misuse::Key(key))
+}
+
+/// Whether texts are coloured where `--color` doesn't say: they go to a terminal, and `NO_COLOR` isn't set.
+fn takes_colours(screen: Screen, output: Option<&str>) -> bool
+    ensures { result ≡ spec.takes_colours screen (option_map (λ s. s.now) output.entry) }
+{
+    goes_to_terminal(screen.is_terminal, output) && !screen.no_color
+}
+
+/// Whether pods would go to a terminal, which `-o` doesn't ask for.
+pub(crate) fn fills_terminal(request: &Request<'_>, screen: Screen) -> bool
+    ensures { result ≡ spec.fills_terminal screen request.now }
+{
+    writes_pods(request.word) && goes_to_terminal(screen.is_terminal, request.target)
+}
+
+/// Whether this word writes pods, and no text.
+fn writes_pods(word: Word<'_>) -> bool
+    ensures { result ≡ spec.writes_pods word.entry }
+{
+    match word {
+        Word::Make(Making::Read(_), _) => true,
+        Word::Make(Making::Rewrite, _) => true,
+        Word::Make(Making::Fixate, _) => true,
+        Word::Stream(Streaming::Rewrite, _) => true,
+        Word::Agree(_) => true,
+        _ => false,
+    }
+}
+
+/// The file that is written: none where `-` is given, which is the standard output.
+pub(crate) fn file_of<'a>(target: Option<&'a str>) -> Option<&'a str>
+    ensures { result ≡ spec.file_of target.entry }
+{
+    let Some(name) = target else {
+        return None;
+    };
+    if name == "-" {
+        return None;
+    }
+    Some(name)
 }
 
 /// Whether what is printed goes to a terminal: the standard output is one, and no file is written.

@@ -12,7 +12,10 @@ use crate::files::Files;
 use crate::making::{Worked, make_all, make_what_is_read};
 use crate::misuse::{Excluded, Misuse};
 use crate::pairs::{agree, agree_of_lists, compare};
-use crate::request::{Fate, Making, Manner, Printing, Request, Streaming, Word, request_of};
+use crate::request::{
+    Fate, Making, Manner, Printing, Request, Streaming, Word, file_of, fills_terminal, request_of,
+};
+use crate::screen::Screen;
 use crate::sending::answered;
 use crate::streaming::{check_all, stream_all};
 use clap::error::ErrorKind;
@@ -28,7 +31,8 @@ use std::io::{Read, Write};
 ///
 /// The words are settled before anything is read. But for `show`, `--stream`, and `json` with `--nth`, `--key` or `--hex`, nothing is written before all
 /// inputs are read and accepted; a file that is to be written is written at the end, by all words. Where the device is a terminal, `show` and `json`
-/// print in colours, unless `--color` says other. A search among two lists tells how far it is.
+/// print in colours, unless `NO_COLOR` or `--color` says other, and no pods are written, unless `-o -` asks for it. A search among two lists tells how
+/// far it is.
 pub fn run<'a, R: Read, S: Files, P: Progress, W: Write + Drop>(
     alloc: Global,
     words: &'a [&'a str],
@@ -36,13 +40,19 @@ pub fn run<'a, R: Read, S: Files, P: Progress, W: Write + Drop>(
     files: &mut S,
     progress: &mut P,
     device: W,
-    is_terminal: bool,
+    screen: Screen,
 ) -> (Answer<'a>, W)
-    ensures { IsAnswer words.entry.now is_terminal (R.remaining input.old)
+    ensures { IsAnswer words.entry.now screen (R.remaining input.old)
         (W.contents device) (W.contents result.1) (S.holds files.old) (S.holds files.new) result.0 }
 {
-    match request_of(alloc, words, is_terminal) {
-        Ok(Ok(request)) => do_work(alloc, request, input, files, progress, device),
+    match request_of(alloc, words, screen) {
+        Ok(Ok(request)) => {
+            if fills_terminal(&request, screen) {
+                return (Answer::Misused(Misuse::ToTerminal), device);
+            }
+            let target = file_of(request.target);
+            do_work(alloc, request, target, input, files, progress, device)
+        }
         Ok(Err(why)) => (Answer::Misused(why), device),
         Err(error) => match error.kind() {
             ErrorKind::OutOfMemory => (Answer::Refused(Failure::OutOfMemory), device),
@@ -51,21 +61,21 @@ pub fn run<'a, R: Read, S: Files, P: Progress, W: Write + Drop>(
     }
 }
 
-/// Does what is asked for.
+/// Does what is asked for; what is written goes to this file, or without one to the device.
 fn do_work<'a, R: Read, S: Files, P: Progress, W: Write + Drop>(
     alloc: Global,
     request: Request<'a>,
+    target: Option<&'a str>,
     input: &mut R,
     files: &mut S,
     progress: &mut P,
     device: W,
 ) -> (Answer<'a>, W)
     ensures { IsDone request.entry.word result.0 (R.remaining input.old) request.entry.names.items
-        (outlet request.entry.target (W.contents device) (W.contents result.1)
+        (outlet target.entry (W.contents device) (W.contents result.1)
         (S.holds files.old) (S.holds files.new)) }
 {
     let word = request.word;
-    let target = request.target;
     let names = request.names.as_slice();
     match word {
         Word::Print(printing, manner) => {

@@ -1,12 +1,13 @@
 //! Rows of what `pod` does: standard input has a label, the program's words, what it is given and, where that is little, the room for
 //! what it writes on each line, and standard output the status, what is said and what is written, behind the label.
 //!
-//! The label of a run to a terminal begins with `terminal`. `%` among what is given is an input that can't be read. A file that is written stands behind what is written, with its name.
+//! The label of a run to a terminal begins with `terminal`, and has `NO_COLOR` where that is set. `%` among what is given is an input that can't be read. A file that is written stands behind what is written, with its name.
 #![tactic(auto)]
 
 use pod_commands::answer::report;
 use pod_commands::files::Files;
 use pod_commands::run::run;
+use pod_commands::screen::Screen;
 use spa_meet_commands::progress::Unwatched;
 use std::alloc::Global;
 use std::io::{self, Cursor, Error, ErrorKind, Write};
@@ -84,17 +85,20 @@ fn answer_row(alloc: Global, row: &str, answers: &mut Vec<u8>) -> io::Result<()>
     let given = parts.next().unwrap_or("");
     let room = parts.next().and_then(|it| it.parse().ok()).unwrap_or(ROOM);
     write!(answers, "{label}: ")?;
-    let is_terminal = label.starts_with("terminal");
-    answer_run(alloc, words, given, room, is_terminal, answers)
+    let screen = Screen {
+        is_terminal: label.starts_with("terminal"),
+        no_color: label.contains("NO_COLOR"),
+    };
+    answer_run(alloc, words, given, room, screen, answers)
 }
 
-/// Adds the status of a run, to a terminal or not, what it says, and what it writes into this room: pods as words.
+/// Adds the status of a run, to this standard output, what it says, and what it writes into this room: pods as words.
 fn answer_run(
     alloc: Global,
     words: &str,
     given: &str,
     room: usize,
-    is_terminal: bool,
+    screen: Screen,
     answers: &mut Vec<u8>,
 ) -> io::Result<()> {
     let words = words_of(alloc, words)?;
@@ -117,7 +121,7 @@ fn answer_run(
         &mut files,
         &mut Unwatched,
         device,
-        is_terminal,
+        screen,
     );
     let mut said = [0; ROOM];
     let mut faults = Device::new(&mut said, ALL);

@@ -1,5 +1,5 @@
 //! Inputs shown.
-use crate::streams::{Broken, WANTING};
+use crate::streams::{Broken, NO_SCREEN, WANTING};
 use pod_commands::answer::report;
 use pod_commands::run::run;
 use spa_meet_commands::progress::Unwatched;
@@ -26,7 +26,7 @@ fn shows(
         &mut Broken,
         &mut Unwatched,
         device,
-        false,
+        NO_SCREEN,
     );
     let mut line = [0; 100];
     let mut faults = Device::new(&mut line, PIECE);

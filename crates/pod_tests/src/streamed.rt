@@ -1,5 +1,5 @@
 //! Inputs that are written of as they come.
-use crate::streams::{Broken, WANTING};
+use crate::streams::{Broken, NO_SCREEN, WANTING};
 use pod_commands::answer::report;
 use pod_commands::run::run;
 use spa_meet_commands::progress::Unwatched;
@@ -41,7 +41,7 @@ fn streams(
         &mut Broken,
         &mut Unwatched,
         device,
-        false,
+        NO_SCREEN,
     );
     let mut line = [0; 200];
     let mut faults = Device::new(&mut line, PIECE);

@@ -2,6 +2,7 @@
 use pod_commands::answer::report;
 use pod_commands::files::Files;
 use pod_commands::run::run;
+use pod_commands::screen::Screen;
 use spa_meet_commands::progress::Unwatched;
 use std::alloc::{AllocError, Global};
 use std::io::{self, Error, ErrorKind};
@@ -44,6 +45,12 @@ fn refused(name: &str) -> Error {
     Error::from(ErrorKind::NotFound)
 }
 
+/// No terminal.
+pub(crate) const NO_SCREEN: Screen = Screen {
+    is_terminal: false,
+    no_color: false,
+};
+
 /// What is said where memory is refused.
 pub(crate) const WANTING: &str = "pod: out of memory\n";
 
@@ -78,7 +85,7 @@ fn assert_run(
         &mut Broken,
         &mut Unwatched,
         device,
-        false,
+        NO_SCREEN,
     );
     // Where the line can't be written, nothing changes.
     let _ = report(&mut output, &mut faults, &answer);

@@ -1,5 +1,5 @@
 //! Files that are read twice.
-use crate::streams::WANTING;
+use crate::streams::{NO_SCREEN, WANTING};
 use pod_commands::answer::report;
 use pod_commands::files::Files;
 use pod_commands::run::run;
@@ -74,7 +74,7 @@ fn rewrites(rt: &HostRuntime, words: &[&str], wanted: Wanted<'_>) -> Result<bool
         &mut files,
         &mut Unwatched,
         device,
-        false,
+        NO_SCREEN,
     );
     let mut line = [0; 200];
     let mut faults = Device::new(&mut line, PIECE);

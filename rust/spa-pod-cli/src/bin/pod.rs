@@ -4,6 +4,7 @@
 use spa_pod_cli::parts::pod_commands::answer::{Answer, Failure, report};
 use spa_pod_cli::parts::pod_commands::files::SystemFiles;
 use spa_pod_cli::parts::pod_commands::run::run;
+use spa_pod_cli::parts::pod_commands::screen::Screen;
 use spa_pod_cli::parts::spa_meet_commands::progress::Progress;
 use spa_pod_cli::streams::{Stdout, stdin, words};
 use std::io::{self, IsTerminal, Write};
@@ -21,9 +22,10 @@ fn main() -> ExitCode {
         let _ = report(&mut io::sink(), &mut io::stderr(), &answer);
         return ExitCode::from(answer.status());
     };
-    let is_terminal = output.is_terminal();
+    let no_color = std::env::var_os("NO_COLOR").is_some_and(|value| !value.is_empty());
+    let screen = Screen { is_terminal: output.is_terminal(), no_color };
     let mut progress = Told::new();
-    let (answer, mut output) = run(&words, &mut input, &mut SystemFiles {}, &mut progress, output, is_terminal);
+    let (answer, mut output) = run(&words, &mut input, &mut SystemFiles {}, &mut progress, output, screen);
     if !output.is_closed() {
         let _ = match &answer {
             Answer::Said(said) if said.is_version() => writeln!(output, "{} ({BUILD})", said.to_string().trim_end()),

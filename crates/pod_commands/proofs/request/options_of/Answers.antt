@@ -2,7 +2,7 @@ use Rattle.std.proofs.Common.{◌≡◌, ◌∙◌, ap, codes, inl, inr, option_
 use Rattle.clap.specs.Walk.{rows_of}
 use Rattle.clap.specs.Words.{first_of, found_of}
 use Rattle.clap.proofs.WalkLemmas.{first_value-rows}
-use Rattle.pod_commands.specs.Requests.{AreColours, HasNoNumber, HasUnknownKey, HasUnknownWhen, IsKey, IsNumber, goes_to_terminal}
+use Rattle.pod_commands.specs.Requests.{AreColours, HasNoNumber, HasUnknownKey, HasUnknownWhen, IsKey, IsNumber, takes_colours}
 use Rattle.pod_commands.proofs.request.options_of.Goals as goal
 
 pub returns-in-Err-clause-unknown : goal.returns-in-Err-clause-unknown
@@ -23,13 +23,13 @@ returns-in-Err-key_of-clause-unknown c =
 pub returns-clause-given : goal.returns-clause-given
 returns-clause-given c =
     let found = found_of c.args.given.now in
-    let to : c.goes_to_terminal-to_terminal.result ≡ goes_to_terminal c.args.is_terminal (first_of (codes "output") (rows_of found)) =
-    c.goes_to_terminal-to_terminal.ensures ∙ ap (goes_to_terminal c.args.is_terminal) (c.get_str-2.ensures ∙ first_value-rows found (codes "output")) in
+    let to : c.takes_colours-to_terminal.result ≡ takes_colours c.args.screen (first_of (codes "output") (rows_of found)) =
+    c.takes_colours-to_terminal.ensures ∙ ap (takes_colours c.args.screen) (c.get_str-2.ensures ∙ first_value-rows found (codes "output")) in
     record {
       layout = c.layout_of.ensures;
       colours =
           subst (λ b. AreColours (first_of (codes "color") (rows_of found)) b c.in-Ok-colours_of.colours) to
-          (subst (λ t. AreColours t c.goes_to_terminal-to_terminal.result c.in-Ok-colours_of.colours)
+          (subst (λ t. AreColours t c.takes_colours-to_terminal.result c.in-Ok-colours_of.colours)
           (c.get_str-3.ensures ∙ first_value-rows found (codes "color")) c.in-Ok-colours_of.ensures.colours);
       hex = c.is_set.ensures;
       nth = subst (λ t. IsNumber t c.in-Ok.nth) (c.get_str.ensures ∙ first_value-rows found (codes "nth")) c.in-Ok.ensures.number;

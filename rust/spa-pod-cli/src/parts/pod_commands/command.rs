@@ -34,7 +34,9 @@ fn output<'a>() -> Arg<'a> {
         .short('o')
         .long("output")
         .value_name("FILE")
-        .help("Writes to this file, once all output is there, and not to the standard output")
+        .help(
+            "Writes to this file, once all output is there, and not to the standard output; - is that output, also where it is a terminal",
+        )
 }
 
 /// A flag of this name.
@@ -131,7 +133,7 @@ fn with_parts<'a>(command: Command<'a>) -> Result<Command<'a>, AllocError> {
     with_hex.arg(valued(
         "color",
         "WHEN",
-        "Prints in colours: always, never, or auto, which is where the output is a terminal",
+        "Prints in colours: always, never, or auto, which is where the output is a terminal and NO_COLOR isn't set",
     ))
 }
 

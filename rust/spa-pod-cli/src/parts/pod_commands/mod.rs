@@ -11,5 +11,6 @@ mod pairs;
 mod refusing;
 pub mod request;
 pub mod run;
+pub mod screen;
 mod sending;
 mod streaming;

@@ -5,6 +5,7 @@ use spa_pod::shims::prelude::*;
 use crate::parts::pod_commands::colours::Colours;
 use crate::parts::pod_commands::command::program;
 use crate::parts::pod_commands::misuse::Misuse;
+use crate::parts::pod_commands::screen::Screen;
 use crate::shims::clap::{ArgMatches, Error};
 use crate::parts::spa_meet_commands::pair::Work;
 use crate::parts::spa_recordings::going_on::Refused;
@@ -95,22 +96,22 @@ pub struct Request<'a> {
     pub word: Word<'a>,
     /// The inputs' names; `-` is the standard input.
     pub names: Vec<&'a str>,
-    /// The file that is written; without one, the standard output.
+    /// The file that is written; without one, and where it is `-`, the standard output.
     pub target: Option<&'a str>,
 }
 
-/// What these words ask for, the program's own name not among them, where the standard output is a terminal, or isn't; or why they ask for nothing
-/// though `clap` accepts them.
+/// What these words ask for, the program's own name not among them, where this is the standard output; or why they ask for nothing though `clap`
+/// accepts them.
 pub(crate) fn request_of<'a>(
     words: &'a [&'a str],
-    is_terminal: bool,
+    screen: Screen,
 ) -> Result<Result<Request<'a>, Misuse<'a>>, Error> {
     let command = program()?;
     let matches = command.try_get_matches_from(words)?;
     let Some((name, given)) = matches.subcommand() else {
         return Ok(Err(Misuse::NoWord));
     };
-    let options = match options_of(given, is_terminal) {
+    let options = match options_of(given, screen) {
         Ok(options) => options,
         Err(why) => return Ok(Err(why)),
     };
@@ -190,13 +191,13 @@ impl<'a> Options<'a> {
     }
 }
 
-/// The options that are given, where the standard output is a terminal, or isn't; or the one whose value is none of its own.
-fn options_of<'a>(given: &ArgMatches<'a>, is_terminal: bool) -> Result<Options<'a>, Misuse<'a>> {
+/// The options that are given, where this is the standard output; or the one whose value is none of its own.
+fn options_of<'a>(given: &ArgMatches<'a>, screen: Screen) -> Result<Options<'a>, Misuse<'a>> {
     let nth = match number_of(given.get_str("nth")) {
         Ok(nth) => nth,
         Err(why) => return Err(why),
     };
-    let to_terminal = goes_to_terminal(is_terminal, given.get_str("output"));
+    let to_terminal = takes_colours(screen, given.get_str("output"));
     let colours = match colours_of(given.get_str("color"), to_terminal) {
         Ok(colours) => colours,
         Err(why) => return Err(why),
@@ -235,6 +236,39 @@ fn key_of<'a>(name: Option<&'a str>) -> Result<Option<&'a str>, Misuse<'a>> {
         return Ok(Some(key));
     }
     Err(Misuse::Key(key))
+}
+
+/// Whether texts are coloured where `--color` doesn't say: they go to a terminal, and `NO_COLOR` isn't set.
+fn takes_colours(screen: Screen, output: Option<&str>) -> bool {
+    goes_to_terminal(screen.is_terminal, output) && !screen.no_color
+}
+
+/// Whether pods would go to a terminal, which `-o` doesn't ask for.
+pub(crate) fn fills_terminal(request: &Request<'_>, screen: Screen) -> bool {
+    writes_pods(request.word) && goes_to_terminal(screen.is_terminal, request.target)
+}
+
+/// Whether this word writes pods, and no text.
+fn writes_pods(word: Word<'_>) -> bool {
+    match word {
+        Word::Make(Making::Read(_), _) => true,
+        Word::Make(Making::Rewrite, _) => true,
+        Word::Make(Making::Fixate, _) => true,
+        Word::Stream(Streaming::Rewrite, _) => true,
+        Word::Agree(_) => true,
+        _ => false,
+    }
+}
+
+/// The file that is written: none where `-` is given, which is the standard output.
+pub(crate) fn file_of<'a>(target: Option<&'a str>) -> Option<&'a str> {
+    let Some(name) = target else {
+        return None;
+    };
+    if name == "-" {
+        return None;
+    }
+    Some(name)
 }
 
 /// Whether what is printed goes to a terminal: the standard output is one, and no file is written.

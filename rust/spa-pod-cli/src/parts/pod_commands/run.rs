@@ -7,7 +7,10 @@ use crate::parts::pod_commands::files::Files;
 use crate::parts::pod_commands::making::{Worked, make_all, make_what_is_read};
 use crate::parts::pod_commands::misuse::{Excluded, Misuse};
 use crate::parts::pod_commands::pairs::{agree, agree_of_lists, compare};
-use crate::parts::pod_commands::request::{Fate, Making, Manner, Printing, Request, Streaming, Word, request_of};
+use crate::parts::pod_commands::request::{
+    Fate, Making, Manner, Printing, Request, Streaming, Word, file_of, fills_terminal, request_of,
+};
+use crate::parts::pod_commands::screen::Screen;
 use crate::parts::pod_commands::sending::answered;
 use crate::parts::pod_commands::streaming::{check_all, stream_all};
 use crate::shims::clap::error::ErrorKind;
@@ -22,17 +25,24 @@ use std::io::{Read, Write};
 ///
 /// The words are settled before anything is read. But for `show`, `--stream`, and `json` with `--nth`, `--key` or `--hex`, nothing is written before all
 /// inputs are read and accepted; a file that is to be written is written at the end, by all words. Where the device is a terminal, `show` and `json`
-/// print in colours, unless `--color` says other. A search among two lists tells how far it is.
+/// print in colours, unless `NO_COLOR` or `--color` says other, and no pods are written, unless `-o -` asks for it. A search among two lists tells how
+/// far it is.
 pub fn run<'a, R: Read, S: Files, P: Progress, W: Write>(
     words: &'a [&'a str],
     input: &mut R,
     files: &mut S,
     progress: &mut P,
     device: W,
-    is_terminal: bool,
+    screen: Screen,
 ) -> (Answer<'a>, W) {
-    match request_of(words, is_terminal) {
-        Ok(Ok(request)) => do_work(request, input, files, progress, device),
+    match request_of(words, screen) {
+        Ok(Ok(request)) => {
+            if fills_terminal(&request, screen) {
+                return (Answer::Misused(Misuse::ToTerminal), device);
+            }
+            let target = file_of(request.target);
+            do_work(request, target, input, files, progress, device)
+        }
         Ok(Err(why)) => (Answer::Misused(why), device),
         Err(error) => match error.kind() {
             ErrorKind::OutOfMemory => (Answer::Refused(Failure::OutOfMemory), device),
@@ -41,16 +51,16 @@ pub fn run<'a, R: Read, S: Files, P: Progress, W: Write>(
     }
 }
 
-/// Does what is asked for.
+/// Does what is asked for; what is written goes to this file, or without one to the device.
 fn do_work<'a, R: Read, S: Files, P: Progress, W: Write>(
     request: Request<'a>,
+    target: Option<&'a str>,
     input: &mut R,
     files: &mut S,
     progress: &mut P,
     device: W,
 ) -> (Answer<'a>, W) {
     let word = request.word;
-    let target = request.target;
     let names = request.names.as_slice();
     match word {
         Word::Print(printing, manner) => {

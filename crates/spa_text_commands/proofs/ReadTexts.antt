@@ -9,8 +9,8 @@ use Rattle.std.proofs.Math.Seq.{take-append_seam}
 use Rattle.std.proofs.lemmas.List.{length-take-le, take-append-drop}
 use Rattle.spa_text_commands.specs.Extent.{BeginsText, column_behind, line_behind}
 use Rattle.spa_text_read.specs.Grammar.{IsTextOf}
-use Rattle.spa_text_commands.specs.Texts.{BeginTexts, HasNoPod, IsRefusedAt, IsTextFor, ReadsTexts, RefusesTexts}
-use Rattle.spa_text_commands.specs.Unread.{IsFor, IsNoPod, IsNoText}
+use Rattle.spa_text_commands.specs.Texts.{BeginTexts, HasNoPod, IsRefusedAt, IsTextFor, ReadsTexts, RefusesTexts, blank_line, nothing_read, one_text}
+use Rattle.spa_text_commands.specs.Unread.{AddsText, IsFor, IsNoPod, IsNoText}
 use Rattle.spa_text_commands.specs.declared.answer.Failure.{Failure}
 use Rattle.spa_text_commands.specs.declared.answer.Failure.TheVariants.{NoPods, Line, OutOfMemory, WriteFailed}
 use Rattle.spa_text_commands.specs.declared.reading.Unread.{Unread}
@@ -29,45 +29,44 @@ pub record ReadSoFar (s : Strictness) (input left pods : List ℕ) : Type 0 wher
   pub values : Trees
   pub before : List ℕ
   pub whole : input ≡ before ++ left
-  pub texts : BeginTexts s values input left
+  pub texts : BeginTexts s input values left
   pub made : pods ≡ member_encodings values
 
 pub begins : (s : Strictness) (input pods : List ℕ) → pods ≡ [] → ReadSoFar s input input pods
-begins s input pods e = record { values = no_trees; before = []; whole = refl; texts = refl; made = e }
+begins s input pods e = record { values = no_trees; before = []; whole = refl; texts = nothing_read; made = e }
 
 encodings_push : (vs : Trees) (v : Tree) → member_encodings (join_members vs (member v no_trees)) ≡ member_encodings vs ++ encoding_of v
 encodings_push no_trees v = append-nil (encoding_of v)
 encodings_push (member w vs) v = ap (λ l. encoding_of w ++ l) (encodings_push vs v) ∙ sym (append_assoc (encoding_of w) (member_encodings vs) (encoding_of v))
 
--- one text more
-texts_push : (s : Strictness) (vs : Trees) (v : Tree) (bytes left text others : List ℕ) → BeginTexts s vs bytes left → BeginsText left text others →
-    IsTextFor s v text → BeginTexts s (join_members vs (member v no_trees)) bytes others
-texts_push s no_trees v bytes left text others e b t = (text, others, subst (λ l. BeginsText l text others) (sym e) b, t, refl)
-texts_push s (member w vs) v bytes left text others h b t = (h.0, h.1, h.2, h.3, texts_push s vs v h.1 left text others h.4 b t)
-
 more_made : (vs : Trees) (v : Tree) (pods more : List ℕ) → pods ≡ member_encodings vs → more ≡ pods ++ encoding_of v →
     more ≡ member_encodings (join_members vs (member v no_trees))
 more_made vs v pods more e m = m ∙ ap (λ l. l ++ encoding_of v) e ∙ sym (encodings_push vs v)
 
-pub goes_on : (s : Strictness) (input left text behind pods more : List ℕ) (v : Tree) → ReadSoFar s input left pods → BeginsText left text behind → IsTextFor s v text →
-    more ≡ pods ++ encoding_of v → ReadSoFar s input behind more
-goes_on s input left text [] pods more v so b t m = record {
-  values = join_members so.values (member v no_trees);
-  before = input;
-  whole = sym (append-nil input);
-  texts = texts_push s so.values v input left text [] so.texts b t;
-  made = more_made so.values v pods more so.made m;
-}
-goes_on s input left text (y ∷ ys) pods more v so b t m = record {
-  values = join_members so.values (member v no_trees);
-  before = so.before ++ (text ++ 10 ∷ []);
-  whole =
-      so.whole
-      ∙ ap (λ l. so.before ++ l) (whole_of left text (y ∷ ys) b (some_item y ys) ∙ sym (append_assoc text (10 ∷ []) (y ∷ ys)))
-      ∙ sym (append_assoc so.before (text ++ 10 ∷ []) (y ∷ ys));
-  texts = texts_push s so.values v input left text (y ∷ ys) so.texts b t;
-  made = more_made so.values v pods more so.made m;
-}
+-- what stands before what is left, with one text more
+passed : (input before left text behind : List ℕ) → input ≡ before ++ left → BeginsText left text behind → (more : List ℕ) × (input ≡ more ++ behind)
+passed input before left text [] whole b = (input, sym (append-nil input))
+passed input before left text (y ∷ ys) whole b = (
+  before ++ (text ++ 10 ∷ []),
+  whole
+      ∙ ap (λ l. before ++ l) (whole_of left text (y ∷ ys) b (some_item y ys) ∙ sym (append_assoc text (10 ∷ []) (y ∷ ys)))
+      ∙ sym (append_assoc before (text ++ 10 ∷ []) (y ∷ ys)),
+)
+
+pub goes_on : (s : Strictness) (input left text behind pods more : List ℕ) → ReadSoFar s input left pods → BeginsText left text behind →
+    AddsText s text pods more → ReadSoFar s input behind more
+goes_on s input left text behind pods more so b (inl k) =
+    let p = passed input so.before left text behind so.whole b in
+    record { values = so.values; before = p.0; whole = p.1; texts = blank_line so.values left text behind so.texts b k.0; made = k.1 ∙ so.made }
+goes_on s input left text behind pods more so b (inr k) =
+    let p = passed input so.before left text behind so.whole b in
+    record {
+      values = join_members so.values (member k.0 no_trees);
+      before = p.0;
+      whole = p.1;
+      texts = one_text so.values k.0 left text behind so.texts b k.1;
+      made = more_made so.values k.0 pods more so.made k.2;
+    }
 
 whole_length : (s : Strictness) (input left pods : List ℕ) (so : ReadSoFar s input left pods) → length input ≡ length so.before + length left
 whole_length s input left pods so = ap length so.whole ∙ length-append so.before left
@@ -92,7 +91,7 @@ before_is s input left pods so =
     ap (λ k. take k input) n ∙ ap (λ l. take (length so.before) l) so.whole ∙ take-append_seam so.before left
 
 pub ends : (s : Strictness) (input left pods : List ℕ) → ReadSoFar s input left pods → length left ≡ 0 → ReadsTexts s input pods
-ends s input left pods so e = (so.values, subst (BeginTexts s so.values input) (empty left e) so.texts, so.made)
+ends s input left pods so e = (so.values, subst (BeginTexts s input so.values) (empty left e) so.texts, so.made)
 
 -- ---- Refusals
 

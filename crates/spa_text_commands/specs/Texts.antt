@@ -1,9 +1,10 @@
 -- Pods as lines of text: docs/TEXT.md, "The grammar".
-use Rattle.std.specs.Prelude.{◌≡◌, ◌⊎◌, ⊤, ℕ, List, [], ◌∷◌, ◌++◌}
+use Rattle.std.specs.Prelude.{◌≡◌, ◌⊎◌, ◌==◌, ◌||◌, ⊤, ℕ, Bool, true, List, [], ◌∷◌, ◌++◌}
+use Rattle.std.specs.List.{list_all}
 use Rattle.std.specs.Str.{IsUtf8}
 use Rattle.json.specs.Layout.{pretty}
 use Rattle.json.specs.Lex.{tokens}
-use Rattle.spa_format.specs.Tree.{Tree, Trees, no_trees, member}
+use Rattle.spa_format.specs.Tree.{Tree, Trees, no_trees, member, join_members}
 use Rattle.spa_format.specs.Pod.{AreMembers}
 use Rattle.spa_format.specs.Encoding.{member_encodings}
 use Rattle.spa_format.specs.Front.{IsRefused}
@@ -38,15 +39,24 @@ AreTexts layout mark (member v vs) out =
 abbrev pub Prints : Layout → List ℕ → List ℕ → Type 0
 Prints layout input out = (vs : Trees) × AreMembers vs input × AreTexts layout [] vs out
 
--- the bytes begin with texts of these values, in order, and this is left
-abbrev pub BeginTexts : Strictness → Trees → (bytes left : List ℕ) → Type 0
-BeginTexts s no_trees bytes left = bytes ≡ left
-BeginTexts s (member v vs) bytes left =
-    (text : List ℕ) × (others : List ℕ) × BeginsText bytes text others × IsTextFor s v text × BeginTexts s vs others left
+-- nothing but white space
+abbrev pub is_space : ℕ → Bool
+is_space x = (x == 32) || ((x == 9) || (x == 13))
+
+abbrev pub is_blank : List ℕ → Bool
+is_blank text = list_all is_space text
+
+-- the bytes begin with texts of these values, in order, among blank lines, and this is left
+pub data BeginTexts (s : Strictness) (bytes : List ℕ) : Trees → (left : List ℕ) → Type 0 where
+  nothing_read : BeginTexts s bytes no_trees bytes
+  blank_line : (vs : Trees) (left text others : List ℕ) → BeginTexts s bytes vs left → BeginsText left text others → is_blank text ≡ true →
+      BeginTexts s bytes vs others
+  one_text : (vs : Trees) (v : Tree) (left text others : List ℕ) → BeginTexts s bytes vs left → BeginsText left text others → IsTextFor s v text →
+      BeginTexts s bytes (join_members vs (member v no_trees)) others
 
 -- the pods of the values of which the input is texts, one after another: of the lines 1 and [] the words 4, 4, 1, 0, 0, 14
 abbrev pub ReadsTexts : Strictness → List ℕ → List ℕ → Type 0
-ReadsTexts s input out = (vs : Trees) × BeginTexts s vs input [] × (out ≡ member_encodings vs)
+ReadsTexts s input out = (vs : Trees) × BeginTexts s input vs [] × (out ≡ member_encodings vs)
 
 -- the bytes aren't UTF-8, or no text of a value that is taken, or one of a value that has no pod
 abbrev pub HasNoPod : Strictness → List ℕ → Type 0
@@ -68,7 +78,7 @@ pub record HasNoTextAt (s : Strictness) (input : List ℕ) (line column : ℕ) :
   pub before : List ℕ
   pub left : List ℕ
   pub whole : input ≡ before ++ left
-  pub texts : BeginTexts s values input left
+  pub texts : BeginTexts s input values left
   pub text : List ℕ
   pub others : List ℕ
   pub begins : BeginsText left text others

@@ -1,8 +1,9 @@
 //! Texts read as pods.
 ghost use Rattle.std.specs.Prelude.{◌≡◌, ◌≢◌, ◌+◌, ◌<◌, ◌^◌, ◌++◌, [], IfErr, IfOk, IfSome, OnOk, length};
 ghost use Rattle.spa_text_commands.specs.Extent.{BeginsText};
+ghost use Rattle.spa_text_commands.specs.Texts as spec;
 ghost use Rattle.spa_text_commands.specs.Texts.{IsTextFor, ReadsTexts, RefusesTexts};
-ghost use Rattle.spa_text_commands.specs.Unread.{IsFor, IsNoPod, IsNoText};
+ghost use Rattle.spa_text_commands.specs.Unread.{AddsText, IsFor, IsNoPod, IsNoText};
 ghost use Rattle.spa_format.specs.Encoding.{encoding_of};
 ghost use Rattle.spa_format.specs.Tree.{Tree};
 ghost use Rattle.spa_text_read.specs.declared.cause.Cause as Cause;
@@ -30,7 +31,7 @@ enum Unread {
     },
 }
 
-/// The pods of the values of which the bytes are texts; read strictly, of no value with another type than the one that belongs under a key.
+/// The pods of the values of which the bytes are texts, among blank lines; read strictly, of no value with another type than the one that belongs under a key.
 #[tactic(auto, using(crate::proofs::ReadTexts::ends, crate::proofs::ReadTexts::left_fits, crate::proofs::ReadTexts::counted))]
 pub fn read_all(alloc: Global, strictness: Strictness, bytes: &[u8]) -> Result<Vec<u8>, Failure>
     ensures read { IfOk result (λ pods. ReadsTexts strictness bytes.now pods.items) }
@@ -41,7 +42,7 @@ pub fn read_all(alloc: Global, strictness: Strictness, bytes: &[u8]) -> Result<V
     let mut left = bytes;
     while !left.is_empty() {
         let (text, behind) = split_front(left);
-        match add_pod(alloc, &mut reader, strictness, text, &mut pods) {
+        match add_text(alloc, &mut reader, strictness, text, &mut pods) {
             Ok(()) => left = behind,
             Err(why) => {
                 let before = &bytes[..bytes.len() - left.len()];
@@ -125,6 +126,35 @@ fn failure_at(why: Unread, text: &[u8], first: usize) -> Failure
             }
         }
     }
+}
+
+/// Adds the pod of the value of which these bytes are a text; of a blank line nothing.
+fn add_text(
+    alloc: Global,
+    reader: &mut TextReader,
+    strictness: Strictness,
+    bytes: &[u8],
+    pods: &mut Vec<u8>,
+) -> Result<(), Unread>
+    ensures added { OnOk result (AddsText strictness bytes.now pods.old.items pods.new.items) }
+    ensures refused { IfErr result (λ why. IsNoPod strictness bytes.now why) }
+{
+    if is_blank(bytes) {
+        return Ok(());
+    }
+    add_pod(alloc, reader, strictness, bytes, pods)
+}
+
+/// Whether there is nothing but white space.
+fn is_blank(text: &[u8]) -> bool
+    ensures { result ≡ spec.is_blank text.now }
+{
+    for byte in text {
+        if !(*byte == b' ' || *byte == b'\t' || *byte == b'\r') {
+            return false;
+        }
+    }
+    true
 }
 
 /// Adds the pod of the value of which these bytes are a text.

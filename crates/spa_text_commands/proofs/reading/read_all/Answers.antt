@@ -14,9 +14,9 @@ loop-left-smaller c =
 pub loop-left-preserved : goal.loop-left-preserved
 loop-left-preserved c =
     goes_on c.args.strictness c.args.bytes.now c.loop-left.left.now c.split_front.result.0.now c.split_front.result.1.now c.loop-left.pods.items
-    c.add_pod.new.pods.items c.in-Ok.ensures.added.0 c.loop-left.invariant
+    c.add_text.new.pods.items c.loop-left.invariant
     (c.split_front.ensures (λ e. let l = ap length e in grind (arith, l, c.loop-left-test.true, c.is_empty.ensures)))
-    c.in-Ok.ensures.added.1 c.in-Ok.ensures.added.2
+    c.in-Ok.ensures.added
 
 pub returns-in-Err-clause-refused : goal.returns-in-Err-clause-refused
 returns-in-Err-clause-refused c =

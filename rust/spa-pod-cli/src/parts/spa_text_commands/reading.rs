@@ -22,14 +22,14 @@ enum Unread {
     },
 }
 
-/// The pods of the values of which the bytes are texts; read strictly, of no value with another type than the one that belongs under a key.
+/// The pods of the values of which the bytes are texts, among blank lines; read strictly, of no value with another type than the one that belongs under a key.
 pub fn read_all(strictness: Strictness, bytes: &[u8]) -> Result<Vec<u8>, Failure> {
     let mut reader = TextReader::new();
     let mut pods = Vec::new();
     let mut left = bytes;
     while !left.is_empty() {
         let (text, behind) = split_front(left);
-        match add_pod(&mut reader, strictness, text, &mut pods) {
+        match add_text(&mut reader, strictness, text, &mut pods) {
             Ok(()) => left = behind,
             Err(why) => {
                 let before = &bytes[..bytes.len() - left.len()];
@@ -105,6 +105,29 @@ fn failure_at(why: Unread, text: &[u8], first: usize) -> Failure {
             }
         }
     }
+}
+
+/// Adds the pod of the value of which these bytes are a text; of a blank line nothing.
+fn add_text(
+    reader: &mut TextReader,
+    strictness: Strictness,
+    bytes: &[u8],
+    pods: &mut Vec<u8>,
+) -> Result<(), Unread> {
+    if is_blank(bytes) {
+        return Ok(());
+    }
+    add_pod(reader, strictness, bytes, pods)
+}
+
+/// Whether there is nothing but white space.
+fn is_blank(text: &[u8]) -> bool {
+    for byte in text {
+        if !(*byte == b' ' || *byte == b'\t' || *byte == b'\r') {
+            return false;
+        }
+    }
+    true
 }
 
 /// Adds the pod of the value of which these bytes are a text.

@@ -171,7 +171,7 @@ fn with_parts<'a>(alloc: Global, command: Command<'a>) -> Result<Command<'a>, Al
         alloc,
         "key",
         "NAME",
-        "Prints only the values that objects have under the key of this name or number",
+        "Prints only the values that objects have under the key of this name or number, at any depth of structs and objects",
     ))?;
     let with_hex = with_key.arg(flag(
         alloc,

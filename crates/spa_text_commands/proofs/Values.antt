@@ -1,25 +1,21 @@
--- The values of an object's properties, and pods that are selected.
-use Rattle.std.proofs.Common.{◌≡◌, ◌≢◌, ◌≤◌, ◌<◌, ℕ, zero, suc, ◌+◌, ◌^◌, List, [], ◌∷◌, ◌++◌, refl, sym, inl, inr, arith, drop, length, ◌∙◌, ap, subst, length-drop, append_assoc, append-nil, Bool, true, false, ◌&&◌, eq-eqb, true≢false}
-use Rattle.std.specs.Prelude.{Result, Ok, Err, IfOk, IfNone, IfSome, OnOk, if◌then◌else◌, nat_eq, nat_le, Option, None, Some, is_some}
+-- The values of a name inside a pod, and pods that are selected.
+use Rattle.std.proofs.Common.{◌≡◌, ◌≢◌, ◌≤◌, ◌<◌, ℕ, ◌+◌, ◌^◌, List, [], ◌∷◌, ◌++◌, add-one, refl, sym, inl, inr, arith, drop, drop-cons, get_or, length, ◌∙◌, ap, subst, length-drop, append_assoc, append-nil, Bool, true, false}
+use Rattle.std.specs.Prelude.{Result, Ok, Err, IfOk, IfNone, IfSome, OnOk, flat_map, if◌then◌else◌, Option, None, Some, is_some}
 use Rattle.std.specs.Borrow.{Bor}
-use Rattle.std.proofs.lemmas.Bool.{cases_lt, le-leb}
-use Rattle.std.proofs.lemmas.Bool.Decides.{nat_tests}
-use Rattle.std.proofs.lemmas.List.{length-take-le}
-use Rattle.spa_format.specs.Fixation.{walk_size}
+use Rattle.std.proofs.lemmas.List.{length-take-le, nil_from_length}
 use Rattle.hex.specs.Hex.{encode_lower}
 use Rattle.json.specs.Ascii.{quote}
+use Rattle.spa_events.specs.Events.{events_of}
+use Rattle.spa_events.specs.declared.event.Event.{Event}
+use Rattle.spa_format.specs.Front.{HasFront, front_of}
 use Rattle.spa_format.specs.Pod.{AreMembers}
-use Rattle.spa_format.specs.Tree.{Trees, object_type}
-use Rattle.spa_format.specs.Walk.{extent_behind, properties_of, property_walk, walk_behind}
-use Rattle.spa_format.specs.Words.{body_of, extent, header_size, word_at}
-use Rattle.spa_format.proofs.WalkLemmas.{walk_behind-end, walk_behind-there}
-use Rattle.spa_names.specs.Lookup.{keys_of}
-use Rattle.spa_names.specs.declared.table.Table.{Table}
-use Rattle.spa_utils.specs.declared.types.SpaTypes.{SpaTypes}
-use Rattle.spa_view.specs.Tests.{IsObjectPod}
+use Rattle.spa_format.specs.Tree.{Trees}
+use Rattle.spa_format.specs.Walk.{walk}
+use Rattle.spa_format.specs.Words.{extent, word_at}
+use Rattle.spa_format.proofs.WalkLemmas.{walk-end, walk-there}
 use Rattle.spa_text_commands.specs.Dump.{hex_lines}
 use Rattle.spa_text_commands.specs.Lines.{AddsPart, AddsParts, AddsPodLines, IsCounted}
-use Rattle.spa_text_commands.specs.Selection.{Part, is_named, is_selected, part_of, parts_of, selected_of, value_at, values_in, values_named, values_of}
+use Rattle.spa_text_commands.specs.Selection.{Part, first_part, holder_of, is_selected, is_value_of, part_of, parts_of, selected_of, value_at, values_in}
 use Rattle.spa_text_commands.specs.Unread.{AddsTexts}
 use Rattle.spa_text_commands.specs.declared.printing.Layout.{Layout}
 use Rattle.spa_text_commands.specs.declared.selection.Form.TheVariants as of
@@ -47,144 +43,83 @@ values_selected form s name count place pod a b is r e t k h =
     subst (λ ps. IfOk r (AddsParts form ps a b))
     (sym (ap (λ b. if b then parts_of s.key count place pod else []) (sym e ∙ t) ∙ ap (λ key. parts_of key count place pod) k)) h
 
--- ---- Objects
+-- ---- Values inside
 
-equal : (a b : ℕ) → nat_eq a b ≡ true → a ≡ b
-equal a b e = grind (arith, nat_tests)
-
-less : (a b : ℕ) → nat_le a b ≡ true → a ≤ b
-less a b e = grind (arith, nat_tests)
-
-both : (a b : Bool) → (a && b) ≡ true → (a ≡ true) × (b ≡ true)
-both true b h = (refl, h)
-both false b h = absurd (true≢false (sym h))
-
-unless : (t : Bool) → (t ≡ true → ⊥) → t ≡ false
-unless true h = absurd (h refl)
-unless false h = refl
-
-is_object : List ℕ → Bool
-is_object pod = nat_eq (word_at pod 4) object_type && nat_le header_size (word_at pod 0)
-
-pub not_an_object : (form : Form) (name : List ℕ) (count place : ℕ) (pod a : List ℕ) → ¬ (IsObjectPod pod) → AddsParts form (values_in name count place pod) a a 0
-unfolding is_object
-not_an_object form name count place pod a n =
-    let no = unless (is_object pod) (λ t. (let k = both (nat_eq (word_at pod 4) object_type) (nat_le header_size (word_at pod 0)) t in
-    n (equal (word_at pod 4) object_type k.0, less header_size (word_at pod 0) k.1))) in
-    subst (λ ps. AddsParts form ps a a 0) (sym (ap (λ t. if t then values_of name count place pod else []) no)) (none_added form a)
-
-pub an_object : (form : Form) (name : List ℕ) (count place : ℕ) (pod object a b : List ℕ) {E : Type 0} (r : Result ℕ E) → IsObjectPod pod → object ≡ pod →
-    IfOk r (AddsParts form (values_of name count place object) a b) → IfOk r (AddsParts form (values_in name count place pod) a b)
-an_object form name count place pod object a b r h e k =
-    subst (λ ps. IfOk r (AddsParts form ps a b))
-    (ap (values_of name count place) e
-    ∙ sym (ap (λ t. if t && nat_le header_size (word_at pod 0) then values_of name count place pod else []) (eq-eqb (word_at pod 4) object_type h.0)
-    ∙ ap (λ t. if t then values_of name count place pod else []) (le-leb header_size (word_at pod 0) h.1))) k
-
--- ---- Properties
-
-sizes : (m k : ℕ) (b : List ℕ) → length b ≤ m → walk_size (walk_behind k b) ≤ length b
-sizes zero k b h =
-    let e = ap walk_size (walk_behind-end k b (omega (arith, h))) in omega (arith, e)
-sizes (suc m) k b h = elim (cases_lt (length b) (extent_behind k b)) [
-  | inl l ↦ let e = ap walk_size (walk_behind-end k b l) in omega (arith, e)
-  | inr l ↦
-      let d = length-drop (extent_behind k b) b in
-      let t = length-take-le (extent_behind k b) b l in
-      let r = sizes m k (drop (extent_behind k b) b) (omega (arith, d, h)) in
-      let e = ap walk_size (walk_behind-there k b l) in
-      omega (arith, e, r, t, d)
-]
-
-pub no_value : (form : Form) (keys : Table) (key : ℕ) (name : List ℕ) (count place : ℕ) (property a : List ℕ) (is : Bool) → is ≡ is_named keys key name →
-    is ≡ false → key ≡ word_at property 0 → AddsParts form (value_at keys name count place property) a a 0
-no_value form keys key name count place property a is e f k =
+-- the pod of an event is no value of the name
+pub no_value : (form : Form) (name : List ℕ) (count place : ℕ) (pod a : List ℕ) (events : List Event) (event object : Event) (is : Bool) →
+    object ≡ holder_of events event → is ≡ is_value_of name pod object event.at → is ≡ false →
+    AddsParts form (value_at name count place pod events event) a a 0
+no_value form name count place pod a events event object is o e f =
     subst (λ ps. AddsParts form ps a a 0)
-    (sym (ap (λ t. if t then part_of count (place + header_size) (drop header_size property) ∷ [] else []) (ap (λ n. is_named keys n name) (sym k) ∙ sym e ∙ f)))
-    (none_added form a)
+    (sym (ap (λ t. if t then first_part count (place + event.at) (walk (drop event.at pod)) else [])
+    (ap (λ z. is_value_of name pod z event.at) (sym o) ∙ sym e ∙ f))) (none_added form a)
 
-pub a_value : (form : Form) (keys : Table) (key : ℕ) (name : List ℕ) (count place : ℕ) (property value a b : List ℕ) (is : Bool) {E : Type 0} (r : Result ℕ E) →
-    is ≡ is_named keys key name → is ≡ true → key ≡ word_at property 0 → value ≡ drop header_size property →
-    IfOk r (AddsParts form (part_of count (place + header_size) value ∷ []) a b) → IfOk r (AddsParts form (value_at keys name count place property) a b)
-a_value form keys key name count place property value a b is r e f k v h =
+no_part : (t : Bool) (count place : ℕ) → (if t then first_part count place [] else []) ≡ []
+no_part true count place = refl
+no_part false count place = refl
+
+-- nor where no pod is there
+pub none_there : (form : Form) (name : List ℕ) (count place : ℕ) (pod a : List ℕ) (events : List Event) (event : Event) → ¬ (HasFront (drop event.at pod)) →
+    AddsParts form (value_at name count place pod events event) a a 0
+none_there form name count place pod a events event absent =
+    subst (λ ps. AddsParts form ps a a 0)
+    (sym (ap (λ ws. if is_value_of name pod (holder_of events event) event.at then first_part count (place + event.at) ws else []) (walk-end (drop event.at pod) absent)
+    ∙ no_part (is_value_of name pod (holder_of events event) event.at) count (place + event.at))) (none_added form a)
+
+pub a_value : (form : Form) (name : List ℕ) (count place : ℕ) (pod value a b : List ℕ) (events : List Event) (event object : Event) (is : Bool) {E : Type 0}
+    (r : Result ℕ E) → object ≡ holder_of events event → is ≡ is_value_of name pod object event.at → is ≡ true → HasFront (drop event.at pod) →
+    value ≡ front_of (drop event.at pod) → IfOk r (AddsParts form (part_of count (place + event.at) value ∷ []) a b) →
+    IfOk r (AddsParts form (value_at name count place pod events event) a b)
+a_value form name count place pod value a b events event object is r o e t there v h =
     subst (λ ps. IfOk r (AddsParts form ps a b))
-    (ap (λ z. part_of count (place + header_size) z ∷ []) v
-    ∙ sym (ap (λ t. if t then part_of count (place + header_size) (drop header_size property) ∷ [] else []) (ap (λ n. is_named keys n name) (sym k) ∙ sym e ∙ f))) h
+    (ap (λ z. part_of count (place + event.at) z ∷ []) v
+    ∙ sym (ap (λ z. if z then first_part count (place + event.at) (walk (drop event.at pod)) else [])
+    (ap (λ z. is_value_of name pod z event.at) (sym o) ∙ sym e ∙ t)
+    ∙ ap (first_part count (place + event.at)) (walk-there (drop event.at pod) there))) h
 
--- how far the loop over properties is
-pub record ValuesSoFar (form : Form) (keys : Table) (name : List ℕ) (count place : ℕ) (pod : List ℕ) (all : List Part) (old new : List ℕ) (at refused : ℕ)
-    (left : List (List ℕ)) : Type 0 where
-  pub so : SoFar form all (values_named keys name count at left) old new refused
-  pub room : at + walk_size left ≤ place + length pod
-  pub few : refused + place ≤ at
+-- a value ends where the pod does that it is in
+pub value_room : (place at : ℕ) (pod value : List ℕ) → place + length pod < 2 ^ 64 → HasFront (drop at pod) → value ≡ front_of (drop at pod) →
+    (place + at) + length value < 2 ^ 64
+value_room place at pod value r there v =
+    let l = ap length v in
+    let d = length-drop at pod in
+    let h = there.header in
+    let w = there.whole in
+    let t = length-take-le (extent (word_at (drop at pod) 0)) (drop at pod) w in
+    omega (arith, r, l, d, h, w, t)
 
-pub values_begin : (form : Form) (keys : Table) (type : SpaTypes) (name : List ℕ) (count place at : ℕ) (pod a : List ℕ) (left : List (List ℕ)) →
-    header_size ≤ word_at pod 0 → length pod ≡ extent (word_at pod 0) → at ≡ place + header_size + header_size → left ≡ property_walk (properties_of pod) →
-    keys ≡ keys_of type → type.0 ≡ word_at (body_of pod) 0 → ValuesSoFar form keys name count place pod (values_of name count place pod) a a at 0 left
-values_begin form keys type name count place at pod a left least whole x l k t =
-    let size = sizes (length (properties_of pod)) header_size (properties_of pod) (omega arith) in
-    let b = length-drop header_size (body_of pod) in
-    let c = length-take-le (word_at pod 0) (drop header_size pod) (let d = length-drop header_size pod in omega (arith, d, whole, least)) in
-    let w = ap walk_size l in
-    let same : values_of name count place pod ≡ values_named keys name count at left =
-    ap (λ n. values_named (keys_of (record { 0 = n })) name count (place + header_size + header_size) (property_walk (properties_of pod))) (sym t)
-    ∙ ap (λ z. values_named z name count (place + header_size + header_size) (property_walk (properties_of pod))) (sym k)
-    ∙ ap (λ z. values_named keys name count z (property_walk (properties_of pod))) (sym x) ∙ ap (values_named keys name count at) (sym l) in
+-- how far the loop over events is
+pub record ValuesSoFar (form : Form) (name : List ℕ) (count place : ℕ) (pod : List ℕ) (events left : List Event) (at : ℕ) (old new : List ℕ) (refused : ℕ) : Type 0 where
+  pub so : SoFar form (flat_map (value_at name count place pod events) events) (flat_map (value_at name count place pod events) left) old new refused
+  pub few : refused ≤ at
+
+pub values_begin : (form : Form) (name : List ℕ) (count place : ℕ) (pod : List ℕ) (events : List Event) (a : List ℕ) →
+    ValuesSoFar form name count place pod events events 0 a a 0
+values_begin form name count place pod events a = record { so = begins form _ a; few = omega arith }
+
+pub value_done : (form : Form) (name : List ℕ) (count place : ℕ) (pod : List ℕ) (events left others : List Event) (event : Event) (at refused more : ℕ)
+    (a b c : List ℕ) → left ≡ event ∷ others → more ≤ 1 → AddsParts form (value_at name count place pod events event) b c more →
+    ValuesSoFar form name count place pod events left at a b refused → ValuesSoFar form name count place pod events others (at + 1) a c (refused + more)
+value_done form name count place pod events left others event at refused more a b c e one added so =
+    let few = so.few in
     record {
-      so = subst (λ ps. SoFar form (values_of name count place pod) ps a a 0) same (begins form (values_of name count place pod) a);
-      room = omega (arith, size, b, c, w, whole, least, x);
-      few = omega (arith, x);
+      so = goes_on form _ _ (value_at name count place pod events event) _ a b c refused more (ap (flat_map (value_at name count place pod events)) e) so.so added;
+      few = omega (arith, few, one);
     }
 
-pub value_done : (form : Form) (keys : Table) (name : List ℕ) (count place : ℕ) (pod : List ℕ) (all : List Part) (a b c : List ℕ) (at next refused more extent : ℕ)
-    (q value : List ℕ) (left others : List (List ℕ)) → left ≡ q ∷ others → next ≡ at + (8 + extent) → extent ≡ length value → value ≡ drop header_size q →
-    length q ≡ extent_behind header_size q → more ≤ 1 → AddsParts form (value_at keys name count at q) b c more →
-    ValuesSoFar form keys name count place pod all a b at refused left → ValuesSoFar form keys name count place pod all a c next (refused + more) others
-value_done form keys name count place pod all a b c at next refused more extent q value left others e n x v whole one added so =
-    let l = ap length v in
-    let d = length-drop header_size q in
-    let n' : next ≡ at + length q = omega (arith, n, x, l, d, whole) in
-    let same : values_named keys name count at left ≡ value_at keys name count at q ++ values_named keys name count next others =
-    ap (values_named keys name count at) e ∙ ap (λ z. value_at keys name count at q ++ values_named keys name count z others) (sym n') in
-    let room = so.room in
-    let few = so.few in
-    let w = ap walk_size e in
-    record {
-      so = goes_on form all (values_named keys name count at left) (value_at keys name count at q) (values_named keys name count next others) a b c refused more same so.so added;
-      room = omega (arith, room, w, n');
-      few = omega (arith, few, n', one, whole);
-    }
+pub values_end : (form : Form) (name : List ℕ) (count place : ℕ) (pod : List ℕ) (events left : List Event) (at : ℕ) (a b : List ℕ) (refused : ℕ) →
+    left ≡ [] → events ≡ events_of pod → ValuesSoFar form name count place pod events left at a b refused →
+    AddsParts form (values_in name count place pod) a b refused
+values_end form name count place pod events left at a b refused e is so =
+    subst (λ es. AddsParts form (flat_map (value_at name count place pod es) es) a b refused) is
+    (ends form _ _ a b refused (ap (flat_map (value_at name count place pod events)) e) so.so)
 
--- the property that comes next ends within the object
-pub value_fits : (form : Form) (keys : Table) (name : List ℕ) (count place : ℕ) (pod : List ℕ) (all : List Part) (a b : List ℕ) (at refused : ℕ)
-    (q : List ℕ) (left others : List (List ℕ)) → left ≡ q ∷ others → ValuesSoFar form keys name count place pod all a b at refused left →
-    at + length q ≤ place + length pod
-value_fits form keys name count place pod all a b at refused q left others e so =
-    let room = so.room in
-    let w = ap walk_size e in omega (arith, room, w)
+-- the next one of a list, and those behind it
+pub next_left : {X : Type 0} (xs : List X) (i : ℕ) (d : X) → i < length xs → drop i xs ≡ get_or xs i d ∷ drop (i + 1) xs
+next_left xs i d h = rw (add-one, drop-cons xs i d) refl
 
-pub counts_fit : (form : Form) (keys : Table) (name : List ℕ) (count place : ℕ) (pod : List ℕ) (all : List Part) (a b : List ℕ) (at refused more : ℕ)
-    (q : List ℕ) (left others : List (List ℕ)) → left ≡ q ∷ others → length q ≡ extent_behind header_size q → more ≤ 1 → place + length pod < 2 ^ 64 →
-    ValuesSoFar form keys name count place pod all a b at refused left → refused + more < 2 ^ 64
-counts_fit form keys name count place pod all a b at refused more q left others e whole one fits so =
-    let room = so.room in
-    let few = so.few in
-    let w = ap walk_size e in omega (arith, room, few, w, whole, one, fits)
-
--- a value ends where its property does
-pub value_room : (place : ℕ) (property value : List ℕ) → place + length property < 2 ^ 64 → value ≡ drop header_size property →
-    length property ≡ extent_behind header_size property → (place + header_size) + length value < 2 ^ 64
-value_room place property value r v whole =
-    let l = ap length v in
-    let d = length-drop header_size property in omega (arith, r, l, d, whole)
-
-pub values_end : (form : Form) (keys : Table) (name : List ℕ) (count place : ℕ) (pod : List ℕ) (all : List Part) (a b : List ℕ) (at refused : ℕ)
-    (left : List (List ℕ)) → left ≡ [] → ValuesSoFar form keys name count place pod all a b at refused left →
-    AddsParts form all a b refused × (refused ≤ length pod)
-values_end form keys name count place pod all a b at refused left e so =
-    let room = so.room in
-    let few = so.few in
-    (ends form all (values_named keys name count at left) a b refused (ap (values_named keys name count at) e) so.so, omega (arith, room, few))
+pub none_left : {X : Type 0} (xs : List X) (i : ℕ) → length xs ≤ i → drop i xs ≡ []
+none_left xs i h = let l = length-drop i xs in nil_from_length (drop i xs) (omega (arith, l, h))
 
 -- ---- What is printed of a pod
 

@@ -1,13 +1,15 @@
 -- Which pods of an input are printed, and which values of them: docs/TEXT.md, "A part of an input".
-use Rattle.std.specs.Prelude.{◌+◌, ◌-◌, ◌==◌, ◌&&◌, ◌||◌, ℕ, Bool, true, false, List, [], ◌∷◌, ◌++◌, Option, None, Some, length, drop, slice_index, if◌then◌else◌, nat_eq, nat_le}
+use Rattle.std.specs.Prelude.{◌+◌, ◌-◌, ◌==◌, ◌&&◌, ◌||◌, ℕ, Bool, true, false, List, [], ◌∷◌, ◌++◌, Option, None, Some, length, drop, flat_map, slice_index, slice_index_or, if◌then◌else◌, nat_eq, nat_le}
 use Rattle.std.specs.Borrow.{Bor}
 use Rattle.std.specs.Fmt.{decimal}
 use Rattle.std.specs.List.{ends_with}
 use Rattle.std.specs.Option.{option_map_or}
 use Rattle.std.specs.Str.{bytes_eq}
 use Rattle.spa_format.specs.Tree.{object_type}
-use Rattle.spa_format.specs.Walk.{properties_of, property_walk}
-use Rattle.spa_format.specs.Words.{body_of, header_size, word_at}
+use Rattle.spa_events.specs.Events.{events_of}
+use Rattle.spa_events.specs.declared.event.Event.{Event}
+use Rattle.spa_format.specs.Walk.{walk}
+use Rattle.spa_format.specs.Words.{header_size, word_at}
 use Rattle.spa_names.specs.Lookup.{keys_of, path_of}
 use Rattle.spa_names.specs.declared.table.Table.{Table}
 use Rattle.spa_text_commands.specs.declared.selection.Selection.{Selection}
@@ -35,24 +37,33 @@ pub record Part : Type 0 where
 abbrev pub part_of : (count place : ℕ) → (pod : List ℕ) → Part
 part_of count place pod = record { count = count; place = place; pod = pod }
 
--- the value of a property that begins at this byte, where it has this name
-abbrev pub value_at : Table → (name : List ℕ) → (count place : ℕ) → (property : List ℕ) → List Part
-value_at keys name count place p = if is_named keys (word_at p 0) name then part_of count (place + header_size) (drop header_size p) ∷ [] else []
+-- The pod at this byte of another one stands in this object there, and has a key of this name before it. Between the fronts of the two there are at
+-- least a header, a type and an id, and a key and flags, which are 24 bytes.
+abbrev pub is_value_of : (name pod : List ℕ) → (object : Event) → (at : ℕ) → Bool
+is_value_of name pod object at =
+    (((nat_eq object.type_ object_type && nat_le at (length pod)) && nat_le 24 at) && nat_le object.at (at - 24))
+    && is_named (keys_of (record { 0 = word_at pod (object.at + header_size) })) (word_at pod (at - header_size)) name
 
--- the values of the properties of this name, the first of which begins at this byte
-abbrev pub values_named : Table → (name : List ℕ) → (count place : ℕ) → List (List ℕ) → List Part
-values_named keys name count place [] = []
-values_named keys name count place (p ∷ ps) = value_at keys name count place p ++ values_named keys name count (place + length p) ps
+-- the event of the pod that this one stands in; a top-level one stands in none
+abbrev pub no_event : Event
+no_event = record { type_ = 0; size = 0; depth = 0; at = 0; parent = 0 }
 
--- the values of this name in an object
-abbrev pub values_of : (name : List ℕ) → (count place : ℕ) → (object : List ℕ) → List Part
-values_of name count place object =
-    values_named (keys_of (record { 0 = word_at (body_of object) 0 })) name count (place + header_size + header_size) (property_walk (properties_of object))
+abbrev pub holder_of : List Event → Event → Event
+holder_of events event = slice_index_or events event.parent no_event
 
--- other pods have none
+-- the pod that begins at this byte, where a whole one does
+abbrev pub first_part : (count place : ℕ) → List (List ℕ) → List Part
+first_part count place [] = []
+first_part count place (p ∷ ps) = part_of count place p ∷ []
+
+-- the pod of an event, where it is a value of this name
+abbrev pub value_at : (name : List ℕ) → (count place : ℕ) → (pod : List ℕ) → List Event → Event → List Part
+value_at name count place pod events event =
+    if is_value_of name pod (holder_of events event) event.at then first_part count (place + event.at) (walk (drop event.at pod)) else []
+
+-- the values of this name in all objects of a pod, at any depth of structs and objects, in the order in which they stand
 abbrev pub values_in : (name : List ℕ) → (count place : ℕ) → (pod : List ℕ) → List Part
-values_in name count place pod =
-    if nat_eq (word_at pod 4) object_type && nat_le header_size (word_at pod 0) then values_of name count place pod else []
+values_in name count place pod = flat_map (value_at name count place pod (events_of pod)) (events_of pod)
 
 -- what is printed of a top-level pod, which so many pods and bytes stand before: itself, or the values of a name; nothing where it isn't selected
 abbrev pub parts_of : Option (Bor (List ℕ)) → (count place : ℕ) → (pod : List ℕ) → List Part

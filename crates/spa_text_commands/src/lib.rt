@@ -5,6 +5,7 @@ pub mod answer;
 pub mod comparing;
 mod dump;
 mod extent;
+mod inner_values;
 mod inside;
 pub mod key_names;
 mod lines;

@@ -5,21 +5,22 @@ ghost use Rattle.json.specs.Ascii.{quote};
 ghost use Rattle.spa_format.specs.Pod.{AreMembers};
 ghost use Rattle.spa_format.specs.Tree.{Trees};
 ghost use Rattle.spa_text_commands.specs.Lines.{Adds, AddsPart, AddsParts, AddsPodLines, MayAdd};
-ghost use Rattle.spa_text_commands.specs.Selection.{part_of, selected_of, value_at, values_in, values_of};
+ghost use Rattle.spa_text_commands.specs.Selection.{part_of, selected_of};
 ghost use Rattle.spa_text_commands.specs.Unread.{AddsTexts};
-ghost use Rattle.spa_view.specs.View.{object_bytes, pod_bytes, prop_bytes};
+ghost use Rattle.spa_view.specs.View.{pod_bytes};
 
 use crate::dump::{add_hex, add_rows};
+use crate::inner_values::add_values;
 use crate::inside::{Inside, Item, Label};
 use crate::lines::{put_indent, put_label, put_refusal, put_rest, put_value};
 use crate::page::Page;
 use crate::parts::{Parts, Shown};
 use crate::printing::{Layout, add_texts};
-use crate::selection::{Form, Printout, is_named};
+use crate::selection::{Form, Printout};
 use spa_fixed_sized::DeserializeError;
-use spa_names::{Table, expected_under, keys_of};
+use spa_names::Table;
 use spa_rewrite::accept_all;
-use spa_view::{Pod, PodObject, PodProp, whole_bytes};
+use spa_view::{Pod, whole_bytes};
 use std::alloc::{AllocError, Global};
 
 /// How many bytes stand before the value of a property or a control.
@@ -72,86 +73,9 @@ pub(crate) fn add_selected(
     }
 }
 
-/// Adds what is printed of the values of the properties of this name, where the pod is an object, and answers how many of them are refused.
-fn add_values(
-    alloc: Global,
-    page: &mut Page,
-    form: Form,
-    name: &str,
-    pod: Pod<'_>,
-    count: usize,
-    place: usize,
-) -> Result<usize, AllocError>
-    requires count { count + 1 < 2 ^ 64 }
-    requires place { place + length (pod_bytes pod) < 2 ^ 64 }
-    ensures added { IfOk result
-        (AddsParts form (values_in name.now count place (pod_bytes pod.entry))
-        page.old.lines.items page.new.lines.items) }
-    ensures few { IfOk result (λ refused. refused ≤ length (pod_bytes pod.entry)) }
-{
-    match pod.as_object() {
-        Ok(object) => add_object_values(alloc, page, form, name, object, count, place),
-        Err(_) => Ok(0),
-    }
-}
-
-/// Adds what is printed of the values of the properties of this name, and answers how many of them are refused.
-fn add_object_values(
-    alloc: Global,
-    page: &mut Page,
-    form: Form,
-    name: &str,
-    object: PodObject<'_>,
-    count: usize,
-    place: usize,
-) -> Result<usize, AllocError>
-    requires count { count + 1 < 2 ^ 64 }
-    requires place { place + length (object_bytes object) < 2 ^ 64 }
-    ensures added { IfOk result
-        (AddsParts form (values_of name.now count place (object_bytes object.entry))
-        page.old.lines.items page.new.lines.items) }
-    ensures few { IfOk result (λ refused. refused ≤ length (object_bytes object.entry)) }
-{
-    let keys = keys_of(object.type_());
-    let mut at = place + FRONT_LEN + FRONT_LEN;
-    let mut refused: usize = 0;
-    for property in object.props() {
-        refused += add_value_of(alloc, page, form, keys, name, property, count, at)?;
-        at += FRONT_LEN + property.value().extent();
-    }
-    Ok(refused)
-}
-
-/// Adds what is printed of the value of a property, where it has this name, and answers how many pods are refused: it or none.
-fn add_value_of(
-    alloc: Global,
-    page: &mut Page,
-    form: Form,
-    keys: Table,
-    name: &str,
-    property: PodProp<'_>,
-    count: usize,
-    place: usize,
-) -> Result<usize, AllocError>
-    requires count { count + 1 < 2 ^ 64 }
-    requires place { place + length (prop_bytes property) < 2 ^ 64 }
-    ensures added { IfOk result
-        (AddsParts form (value_at keys name.now count place (prop_bytes property.entry))
-        page.old.lines.items page.new.lines.items) }
-    ensures few { IfOk result (λ refused. refused ≤ 1) }
-{
-    let key = property.key().0;
-    if !is_named(keys, key, name) {
-        return Ok(0);
-    }
-    let ids = expected_under(keys, key).ids;
-    let value = property.value();
-    add_part(alloc, page, form, value, ids, count, place + FRONT_LEN)
-}
-
 /// Adds what is printed of a pod, which so many pods and bytes of the input stand before and where ids have these names, and answers 1 where it is
 /// refused, else 0.
-fn add_part(
+pub(crate) fn add_part(
     alloc: Global,
     page: &mut Page,
     form: Form,

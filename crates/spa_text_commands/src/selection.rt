@@ -31,7 +31,7 @@ pub enum Form {
 pub struct Selection<'a> {
     /// The number of the only top-level pod that is printed, the first being 1; without one, each is.
     pub nth: Option<usize>,
-    /// The name of the properties of top-level objects whose values are printed; without one, the pods themselves are.
+    /// The name of the properties whose values are printed, of objects at any depth; without one, the pods themselves are.
     pub key: Option<&'a str>,
 }
 

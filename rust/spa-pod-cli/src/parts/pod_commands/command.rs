@@ -124,7 +124,7 @@ fn with_parts<'a>(command: Command<'a>) -> Result<Command<'a>, AllocError> {
     let with_key = with_nth.arg(valued(
         "key",
         "NAME",
-        "Prints only the values that objects have under the key of this name or number",
+        "Prints only the values that objects have under the key of this name or number, at any depth of structs and objects",
     ))?;
     let with_hex = with_key.arg(flag(
         "hex",

@@ -3,16 +3,17 @@
 
 use spa_pod::shims::prelude::*;
 use crate::parts::spa_text_commands::dump::{add_hex, add_rows};
+use crate::parts::spa_text_commands::inner_values::add_values;
 use crate::parts::spa_text_commands::inside::{Inside, Item, Label};
 use crate::parts::spa_text_commands::lines::{put_indent, put_label, put_refusal, put_rest, put_value};
 use crate::parts::spa_text_commands::page::Page;
 use crate::parts::spa_text_commands::parts::{Parts, Shown};
 use crate::parts::spa_text_commands::printing::{Layout, add_texts};
-use crate::parts::spa_text_commands::selection::{Form, Printout, is_named};
+use crate::parts::spa_text_commands::selection::{Form, Printout};
 use spa_pod::parts::spa_fixed_sized::DeserializeError;
-use spa_pod::parts::spa_names::{Table, expected_under, keys_of};
+use spa_pod::parts::spa_names::Table;
 use spa_pod::parts::spa_rewrite::accept_all;
-use spa_pod::parts::spa_view::{Pod, PodObject, PodProp, whole_bytes};
+use spa_pod::parts::spa_view::{Pod, whole_bytes};
 use spa_pod::shims::memory::AllocError;
 
 /// How many bytes stand before the value of a property or a control.
@@ -53,62 +54,9 @@ pub(crate) fn add_selected(
     }
 }
 
-/// Adds what is printed of the values of the properties of this name, where the pod is an object, and answers how many of them are refused.
-fn add_values(
-    page: &mut Page,
-    form: Form,
-    name: &str,
-    pod: Pod<'_>,
-    count: usize,
-    place: usize,
-) -> Result<usize, AllocError> {
-    match pod.as_object() {
-        Ok(object) => add_object_values(page, form, name, object, count, place),
-        Err(_) => Ok(0),
-    }
-}
-
-/// Adds what is printed of the values of the properties of this name, and answers how many of them are refused.
-fn add_object_values(
-    page: &mut Page,
-    form: Form,
-    name: &str,
-    object: PodObject<'_>,
-    count: usize,
-    place: usize,
-) -> Result<usize, AllocError> {
-    let keys = keys_of(object.type_());
-    let mut at = place + FRONT_LEN + FRONT_LEN;
-    let mut refused: usize = 0;
-    for property in object.props() {
-        refused += add_value_of(page, form, keys, name, property, count, at)?;
-        at += FRONT_LEN + property.value().extent();
-    }
-    Ok(refused)
-}
-
-/// Adds what is printed of the value of a property, where it has this name, and answers how many pods are refused: it or none.
-fn add_value_of(
-    page: &mut Page,
-    form: Form,
-    keys: Table,
-    name: &str,
-    property: PodProp<'_>,
-    count: usize,
-    place: usize,
-) -> Result<usize, AllocError> {
-    let key = property.key().0;
-    if !is_named(keys, key, name) {
-        return Ok(0);
-    }
-    let ids = expected_under(keys, key).ids;
-    let value = property.value();
-    add_part(page, form, value, ids, count, place + FRONT_LEN)
-}
-
 /// Adds what is printed of a pod, which so many pods and bytes of the input stand before and where ids have these names, and answers 1 where it is
 /// refused, else 0.
-fn add_part(
+pub(crate) fn add_part(
     page: &mut Page,
     form: Form,
     pod: Pod<'_>,

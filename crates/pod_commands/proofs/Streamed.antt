@@ -3,12 +3,12 @@ use Rattle.std.proofs.Common.{◌≡◌, ◌≢◌, ◌⊎◌, ◌∙◌, ◌+�
 use Rattle.std.specs.Borrow.{Bor}
 use Rattle.std.specs.Io.KnownBytes.{Appends}
 use Rattle.spa_device.specs.Whole.{IsAllOf}
-use Rattle.std.specs.Prelude.{IfErr, IfOk, Result, Ok, Err}
+use Rattle.std.specs.Prelude.{IfErr, IfOk, IfSome, Result, Ok, Err}
 use Rattle.spa_recordings.specs.declared.reading.Reading.{Reading}
 use Rattle.spa_recordings.specs.Streaming.{EndsAtPod, MakesFirst, Stops, Streams}
 use Rattle.spa_recordings.specs.declared.streaming.Stop.{Stop}
 use Rattle.spa_recordings.specs.declared.streaming.Stop.TheVariants as stop
-use Rattle.pod_commands.specs.Answers.{Gets, Gives, IsExcluded, IsPlain, IsPrinted, IsShown, IsShownIn, IsStreamed, IsUnread, IsWrittenAs, Outlet, outlet}
+use Rattle.pod_commands.specs.Answers.{Gets, Gives, IsExcluded, IsPlain, IsPrinted, IsShown, IsShownIn, IsStreamed, IsOutcome, IsUnread, IsWrittenAs, LooksFor, Outlet, outlet}
 use Rattle.pod_commands.specs.Inputs.{AreMade, IsKnown, IsOpened, content_of, left_behind}
 use Rattle.pod_commands.specs.Sending.{IsSent}
 use Rattle.pod_commands.specs.StreamLaws.{nothing_written}
@@ -17,7 +17,7 @@ use Rattle.pod_commands.specs.declared.request.Printing.{Printing}
 use Rattle.pod_commands.specs.declared.answer.Failure.{Failure}
 use Rattle.pod_commands.specs.declared.answer.Failure.TheVariants.{Pods, Texts, Pair, Lists, OutOfMemory, Unread, Unwritten}
 use Rattle.pod_commands.specs.declared.answer.Answer.{Answer}
-use Rattle.pod_commands.specs.declared.answer.Answer.TheVariants.{Done, Shown, Misused, Refused}
+use Rattle.pod_commands.specs.declared.answer.Answer.TheVariants.{Done, Shown, Missing, Misused, Refused}
 use Rattle.pod_commands.specs.declared.misuse.Excluded.{Excluded}
 use Rattle.pod_commands.specs.declared.misuse.Misuse.TheVariants.{WithStream, WithPart}
 use Rattle.pod_commands.specs.declared.request.Fate.{Fate}
@@ -185,19 +185,22 @@ file_broken s name content remaining old new (Err why) o b = broken_file s name 
 
 -- all was written as it came
 pub written_as : (s : Streaming) (remaining : Option (List ℕ)) (names : List (Bor (List ℕ))) (o : Outlet) (refused : ℕ) (answer : Answer) →
-    (((refused ≡ 0) × (answer ≡ Done)) ⊎ ((refused ≢ 0) × (answer ≡ Shown refused))) → Gives (λ out. AreMade (StreamsAs s) remaining o.before names out refused) o →
-    IsWrittenAs s answer remaining names o
-written_as s remaining names o refused answer (inl e) w =
+    (key : Option (Bor (List ℕ))) → IfSome key (LooksFor s) → IsOutcome key refused answer →
+    Gives (λ out. AreMade (StreamsAs s) remaining o.before names out refused) o → IsWrittenAs s answer remaining names o
+written_as s remaining names o refused answer key looks (inl e) w =
     subst (λ a. IsWrittenAs s a remaining names o) (sym e.1) (subst (λ n. Gives (λ out. AreMade (StreamsAs s) remaining o.before names out n) o) e.0 w)
-written_as s remaining names o refused answer (inr e) w = subst (λ a. IsWrittenAs s a remaining names o) (sym e.1) (e.0, w)
+written_as s remaining names o refused answer key looks (inr (inl e)) w = subst (λ a. IsWrittenAs s a remaining names o) (sym e.1) (e.0, w)
+written_as s remaining names o refused answer key looks (inr (inr e)) w =
+    subst (λ a. IsWrittenAs s a remaining names o) (sym e.3)
+    (subst (λ k. IfSome k (LooksFor s)) e.2 looks, subst (λ n. Gives (λ out. AreMade (StreamsAs s) remaining o.before names out n) o) e.1 w)
 
 pub all_written : (s : Streaming) (target : Option (Bor (List ℕ))) (remaining : Option (List ℕ)) (holds : List ℕ → Option (List ℕ))
     (names : List (Bor (List ℕ))) (old new : Option (List ℕ)) (refused : ℕ) (answer : Answer) → target ≡ None →
-    (((refused ≡ 0) × (answer ≡ Done)) ⊎ ((refused ≢ 0) × (answer ≡ Shown refused))) →
+    (key : Option (Bor (List ℕ))) → IfSome key (LooksFor s) → IsOutcome key refused answer →
     ((out : List ℕ) × AreMade (StreamsAs s) remaining holds names out refused × Appends old new out) →
     IsWrittenAs s answer remaining names (outlet target old new holds holds)
-all_written s target remaining holds names old new refused answer none is w =
-    written_as s remaining names (outlet target old new holds holds) refused answer is
+all_written s target remaining holds names old new refused answer none key looks is w =
+    written_as s remaining names (outlet target old new holds holds) refused answer key looks is
     (w.0, w.1, subst (λ t. Gets t (outlet t old new holds holds) w.0) (sym none) (w.2, λ name. refl))
 
 pub part_written : (s : Streaming) (target : Option (Bor (List ℕ))) (remaining : Option (List ℕ)) (holds : List ℕ → Option (List ℕ))
@@ -222,15 +225,20 @@ streamed s reading fate target answer remaining names old new before after p w =
 
 -- the lines of all went to the file, or that couldn't be written
 pub shown_in : (printing : Printing) (remaining : Option (List ℕ)) (names : List (Bor (List ℕ))) (o : Outlet) (lines out : List ℕ) (refused : ℕ) (given answer : Answer) →
-    (((refused ≡ 0) × (given ≡ Done)) ⊎ ((refused ≢ 0) × (given ≡ Shown refused))) →
+    (key : Option (Bor (List ℕ))) → IfSome key (LooksFor (streaming.Print printing)) → IsOutcome key refused given →
     AreMade (StreamsAs (streaming.Print printing)) remaining o.before names out refused → Appends (Some []) (Some lines) out → IsSent lines given answer o →
     IsShownIn printing answer remaining names o
-shown_in printing remaining names o lines out refused given answer (inl e) made is (inl k) =
+shown_in printing remaining names o lines out refused given answer key looks (inl e) made is (inl k) =
     subst (λ a. IsShownIn printing a remaining names o) (sym (k.0 ∙ e.1))
     (out, subst (AreMade (StreamsAs (streaming.Print printing)) remaining o.before names out) e.0 made, subst (Gets o.target o) is k.1)
-shown_in printing remaining names o lines out refused given answer (inr e) made is (inl k) =
+shown_in printing remaining names o lines out refused given answer key looks (inr (inl e)) made is (inl k) =
     subst (λ a. IsShownIn printing a remaining names o) (sym (k.0 ∙ e.1)) (e.0, (out, made, subst (Gets o.target o) is k.1))
-shown_in printing remaining names o lines out refused given answer e made is (inr k) =
+shown_in printing remaining names o lines out refused given answer key looks (inr (inr e)) made is (inl k) =
+    subst (λ a. IsShownIn printing a remaining names o) (sym (k.0 ∙ e.3)) (
+      subst (λ z. IfSome z (LooksFor (streaming.Print printing))) e.2 looks,
+      (out, subst (AreMade (StreamsAs (streaming.Print printing)) remaining o.before names out) e.1 made, subst (Gets o.target o) is k.1),
+    )
+shown_in printing remaining names o lines out refused given answer key looks e made is (inr k) =
     subst (λ a. IsShownIn printing a remaining names o) (sym k.1) (inr (k.2, (lines, (refused, subst (λ z. AreMade (StreamsAs (streaming.Print printing)) remaining o.before names z refused) (sym is) made), k.3)))
 
 -- not all inputs are shown

@@ -17,7 +17,7 @@ use Rattle.pod_commands.specs.Making.{MakesAll, RefusesBy}
 use Rattle.pod_commands.specs.Requests.{dash}
 use Rattle.pod_commands.specs.Streaming.{EndsIn, StreamsAs}
 use Rattle.pod_commands.specs.declared.answer.Answer.{Answer}
-use Rattle.pod_commands.specs.declared.answer.Answer.TheVariants.{Done, Differs, Passed, Shown, Refused, Misused, Said}
+use Rattle.pod_commands.specs.declared.answer.Answer.TheVariants.{Done, Differs, Passed, Shown, Missing, Refused, Misused, Said}
 use Rattle.pod_commands.specs.declared.answer.Failure.{Failure}
 use Rattle.pod_commands.specs.declared.answer.Failure.TheVariants.{Pods}
 use Rattle.pod_commands.specs.declared.request.Fate.{Fate}
@@ -127,6 +127,7 @@ pub read_again : (answer : Answer) (r s : Option (List ℕ)) (names : List (Bor 
     AreMade (MakesAll Exact Check) r o.before names [] 0 → IsWrittenAs streaming.Rewrite answer s names o → IsMadeBy Exact Stops Rewrite answer r names o
 read_again Done r s names o may m h =
     inl (h.0, made_of_files (StreamsAs streaming.Rewrite) (MakesAll Exact Rewrite) s r o.before names h.0 0 rewritten may.files h.1, h.2)
+read_again (Missing k) r s names o may m h = absurd h.0
 read_again (Shown k) r s names o may m h = absurd (h.0 (none_refused s o.before names h.1.0 k h.1.1))
 read_again (Refused why) r s names o may m h =
     let stops = stops_at_files (StreamsAs streaming.Rewrite) (EndsIn streaming.Rewrite) s r o.before names h.0.0 why may.files h.0.1 in

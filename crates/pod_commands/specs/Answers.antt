@@ -31,7 +31,7 @@ use Rattle.pod_commands.specs.Requests.{Asks, AsksNothing, dash, file_of, fills_
 use Rattle.pod_commands.specs.Streaming.{EndsIn, IsBroken, StreamsAs}
 use Rattle.pod_commands.specs.Working.{AreWorked}
 use Rattle.pod_commands.specs.declared.answer.Answer.{Answer}
-use Rattle.pod_commands.specs.declared.answer.Answer.TheVariants.{Done, Differs, Passed, Shown, Refused, Misused, Said}
+use Rattle.pod_commands.specs.declared.answer.Answer.TheVariants.{Done, Differs, Passed, Shown, Missing, Refused, Misused, Said}
 use Rattle.pod_commands.specs.declared.answer.Failure.{Failure}
 use Rattle.pod_commands.specs.declared.answer.Failure.TheVariants.{Pods, Texts, Pair, Lists, OutOfMemory, Unread, Unwritten}
 use Rattle.pod_commands.specs.declared.misuse.Excluded.{Excluded}
@@ -90,6 +90,7 @@ OnAnswer Differs IfDone IfDiffers IfRefused = IfDiffers
 OnAnswer (Refused why) IfDone IfDiffers IfRefused = IfRefused why
 OnAnswer (Passed pods) IfDone IfDiffers IfRefused = ⊥
 OnAnswer (Shown refused) IfDone IfDiffers IfRefused = ⊥
+OnAnswer (Missing name) IfDone IfDiffers IfRefused = ⊥
 OnAnswer (Misused misuse) IfDone IfDiffers IfRefused = ⊥
 OnAnswer (Said error) IfDone IfDiffers IfRefused = ⊥
 
@@ -229,12 +230,26 @@ IsMadeBy reading (GoesOn refused) making answer remaining names o = IsMadeInPart
 
 -- what it says of work that is written as inputs come: all was written, of which no pod is refused, or so many of those that are shown; or what was
 -- made till the work ended
+-- values are looked for under keys of this name
+abbrev pub LooksFor : Streaming → Bor (List ℕ) → Type 0
+LooksFor (streaming.Print printing) name = printing.printout.selection.key ≡ Some name
+LooksFor _ name = ⊥
+
 abbrev pub IsWrittenAs : Streaming → Answer → (remaining : Option (List ℕ)) → List (Bor (List ℕ)) → Outlet → Type 0
 IsWrittenAs streaming Done remaining names o = Gives (λ out. AreMade (StreamsAs streaming) remaining o.before names out 0) o
 IsWrittenAs streaming (Shown refused) remaining names o =
     (refused ≢ 0) × Gives (λ out. AreMade (StreamsAs streaming) remaining o.before names out refused) o
+IsWrittenAs streaming (Missing name) remaining names o =
+    LooksFor streaming name × Gives (λ out. AreMade (StreamsAs streaming) remaining o.before names out 0) o
 IsWrittenAs streaming (Refused why) remaining names o = IsBroken streaming remaining o.before names o.old o.new why × KeepsFiles o
 IsWrittenAs streaming _ remaining names o = ⊥
+
+-- The answer where all is printed, and so many of the printed pods are refused: where none is and a key was looked for, it may be that no value was
+-- found. Only private clauses cite it.
+abbrev pub IsOutcome : Option (Bor (List ℕ)) → ℕ → Answer → Type 0
+IsOutcome key refused answer =
+    ((refused ≡ 0) × (answer ≡ Done)) ⊎ ((refused ≢ 0) × (answer ≡ Shown refused))
+    ⊎ ((name : Bor (List ℕ)) × (refused ≡ 0) × (key ≡ Some name) × (answer ≡ Missing name))
 
 -- what it says of that where other options may be given: one of these, or a file to write, is misuse
 abbrev pub IsStreamed : Streaming → Reading → Fate → Answer → (remaining : Option (List ℕ)) → List (Bor (List ℕ)) → Outlet → Type 0
@@ -253,6 +268,8 @@ abbrev pub IsShownIn : Printing → Answer → (remaining : Option (List ℕ)) �
 IsShownIn printing Done remaining names o = Gives (λ out. AreMade (StreamsAs (streaming.Print printing)) remaining o.before names out 0) o
 IsShownIn printing (Shown refused) remaining names o =
     (refused ≢ 0) × Gives (λ out. AreMade (StreamsAs (streaming.Print printing)) remaining o.before names out refused) o
+IsShownIn printing (Missing name) remaining names o =
+    LooksFor (streaming.Print printing) name × Gives (λ out. AreMade (StreamsAs (streaming.Print printing)) remaining o.before names out 0) o
 IsShownIn printing (Refused why) remaining names o =
     Refuses (λ out. (refused : ℕ) × AreMade (StreamsAs (streaming.Print printing)) remaining o.before names out refused)
     (AreUnshown printing remaining o.before names) o why
@@ -306,6 +323,7 @@ status_of Done = 0
 status_of Differs = 1
 status_of (Passed pods) = 1
 status_of (Shown refused) = 1
+status_of (Missing name) = 1
 status_of (Refused why) = 1
 status_of (Misused why) = 2
 status_of (Said error) = status_of_kind (kind_of error)
@@ -340,6 +358,10 @@ lines_of_pods (pod ∷ pods) = line_of_pod pod ++ lines_of_pods pods
 
 abbrev pub count_line : ℕ → List ℕ
 count_line n = codes "pod: refused pods: " ++ (decimal n ++ 10 ∷ [])
+
+-- the line that is written where no value is under a key of this name
+abbrev pub missing_line : List ℕ → List ℕ
+missing_line name = codes "pod: no value has the key '" ++ (name ++ (codes "'" ++ 10 ∷ []))
 
 -- the line that is written of a refusal
 abbrev pub line_of : Failure → List ℕ

@@ -1,7 +1,7 @@
 //! What becomes of a run, and what is said of it.
 ghost use Rattle.std.specs.Prelude.{◌≡◌, ◌++◌, OnOk, length};
 ghost use Rattle.std.specs.Io.KnownBytes.{Appends};
-ghost use Rattle.pod_commands.specs.Answers.{count_line, line_of, line_of_pod, lines_of_pods, name_text, status_of, target_text};
+ghost use Rattle.pod_commands.specs.Answers.{count_line, line_of, line_of_pod, lines_of_pods, missing_line, name_text, status_of, target_text};
 ghost use Rattle.pod_commands.specs.Misuses.{misuse_line};
 
 use crate::misuse::Misuse;
@@ -22,6 +22,8 @@ pub enum Answer<'a> {
     Passed(Vec<NamedRefusal<'a>>),
     /// All was printed, and so many of the printed pods, of which there are some, are refused.
     Shown(usize),
+    /// All was printed, which is nothing: there is no value under a key of this name.
+    Missing(&'a str),
     /// The work was refused, for this reason.
     Refused(Failure<'a>),
     /// The command line is wrong, for this reason.
@@ -31,7 +33,7 @@ pub enum Answer<'a> {
 }
 
 impl Answer<'_> {
-    /// The program's status: 0 where the work was done or help given, 1 where it was refused or two inputs differ, 2 where the words
+    /// The program's status: 0 where the work was done or help given, 1 where it was refused, two inputs differ or nothing is under a key, 2 where the words
     /// are none of the program's.
     pub fn status(&self) -> u8
         ensures { result ≡ status_of self.now }
@@ -41,6 +43,7 @@ impl Answer<'_> {
             Answer::Differs => 1,
             Answer::Passed(_) => 1,
             Answer::Shown(_) => 1,
+            Answer::Missing(_) => 1,
             Answer::Refused(_) => 1,
             Answer::Misused(_) => 2,
             Answer::Said(error) => { if error.use_stderr() { 2 } else { 0 } }
@@ -131,6 +134,7 @@ pub fn report<W: Write, E: Write>(
         Answer::Differs => Ok(()),
         Answer::Passed(pods) => report_pods(faults, pods.as_slice()),
         Answer::Shown(refused) => report_count(faults, *refused),
+        Answer::Missing(name) => report_missing(faults, *name),
         Answer::Refused(why) => report_failure(faults, why),
         Answer::Misused(why) => report_misuse(faults, why),
         Answer::Said(error) => {
@@ -160,6 +164,13 @@ fn report_count<E: Write>(faults: &mut E, count: usize) -> io::Result<()>
     ensures written { OnOk result (Appends (E.contents faults.old) (E.contents faults.new) (count_line count)) }
 {
     writeln!(faults, "pod: refused pods: {count}")
+}
+
+/// Writes the line that says that there is no value under a key of this name.
+pub fn report_missing<E: Write>(faults: &mut E, name: &str) -> io::Result<()>
+    ensures written { OnOk result (Appends (E.contents faults.old) (E.contents faults.new) (missing_line name.now)) }
+{
+    writeln!(faults, "pod: no value has the key '{name}'")
 }
 
 /// Writes the line of a refused pod.

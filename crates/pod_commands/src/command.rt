@@ -18,7 +18,7 @@ const ABOUT: &str =
 const EXAMPLES: &str =
     "Without a FILE, or where FILE is -, the standard input is read. show, --stream, --nth, --key and --hex write as input is read. Other output is written once all input is accepted, or with --keep-going and --keep-refused once it is read.
 
-Status: 0 the work is done; 1 a pod is refused, two inputs differ, or something can't be read or written; 2 the command line is wrong.
+Status: 0 the work is done; 1 a pod is refused, two inputs differ, no value has the key of --key, or something can't be read or written; 2 the command line is wrong.
 
 Example: cat props.pod route.pod | pod rewrite -o clean.pod
 

@@ -1,7 +1,7 @@
 //! The program's work, over a reader, files and a writer.
 ghost use Rattle.std.specs.Prelude.{◌≡◌, ◌≢◌, ◌⊎◌, IfNone, IfSome, None, false, true};
 ghost use Rattle.pod_commands.specs.Answers as spec;
-ghost use Rattle.pod_commands.specs.Answers.{AreFiles, AreUnmade, Gives, IsAgreed, IsAnswer, IsCompared, IsDone, IsExcluded, IsMadeBy, IsMadeInPart, IsPlain, IsPrinted, IsShown, IsShownIn, IsStreamed, IsWrittenAs, MayReadTwice, OnAnswer, Refuses, outlet};
+ghost use Rattle.pod_commands.specs.Answers.{AreFiles, AreUnmade, Gives, IsAgreed, IsAnswer, IsCompared, IsDone, IsExcluded, IsMadeBy, IsMadeInPart, IsPlain, IsPrinted, IsShown, IsShownIn, IsStreamed, IsOutcome, IsWrittenAs, LooksFor, MayReadTwice, OnAnswer, Refuses, outlet};
 ghost use Rattle.pod_commands.specs.declared.answer.Answer.TheVariants as answer;
 ghost use Rattle.pod_commands.specs.declared.request.Fate.TheVariants.{Stops};
 ghost use Rattle.pod_commands.specs.declared.request.Making.TheVariants.{Rewrite};
@@ -25,7 +25,7 @@ use spa_recordings::going_on as recordings;
 use spa_recordings::going_on::Refused;
 use spa_recordings::reading::Reading;
 use std::alloc::Global;
-use std::io::{Read, Write};
+use std::io::{self, Read, Write};
 
 /// Does what the words ask for, the program's own name not among them.
 ///
@@ -258,21 +258,69 @@ fn write_as<'a, R: Read, S: Files, W: Write + Drop>(
     ensures { IsWrittenAs streaming.entry result.0 (R.remaining input.old) names.now
         (outlet target.entry (W.contents device) (W.contents result.1) (S.holds files.old) (S.holds files.new)) }
 {
-    let mut output = device;
-    match stream_all(alloc, streaming, names, input, files, &mut output) {
-        Ok(refused) => (shown(refused), output),
-        Err(why) => (Answer::Refused(why), output),
+    let mut output = Noted {
+        device,
+        is_written: false,
+    };
+    let streamed = stream_all(alloc, streaming, names, input, files, &mut output);
+    let Noted { device, is_written } = output;
+    match streamed {
+        Ok(refused) => (shown(refused, looked_for(streaming), is_written), device),
+        Err(why) => (Answer::Refused(why), device),
     }
 }
 
-/// The answer where all is written, and so many pods are refused.
-fn shown<'a>(refused: usize) -> Answer<'a>
-    ensures { ((refused ≡ 0) × (result ≡ answer.Done)) ⊎ ((refused ≢ 0) × (result ≡ answer.Shown refused)) }
+/// A device, and whether anything was written to it.
+#[derive(Drop)]
+struct Noted<W> {
+    device: W,
+    is_written: bool,
+}
+
+impl<W: Write> Write for Noted<W> {
+    ghost contents = { λ it. W.contents it.device };
+
+    fn write(&mut self, bytes: &[u8]) -> io::Result<usize> {
+        self.is_written = self.is_written || !bytes.is_empty();
+        self.device.write(bytes)
+    }
+
+    fn flush(&mut self) -> io::Result<()> {
+        self.device.flush()
+    }
+}
+
+/// The name of the keys under which values are looked for.
+fn looked_for<'a>(streaming: Streaming<'a>) -> Option<&'a str>
+    ensures { IfSome result (LooksFor streaming.entry) }
 {
-    if refused == 0 {
+    match streaming {
+        Streaming::Print(printing) => printing.printout.selection.key,
+        _ => None,
+    }
+}
+
+/// The answer where all is written, which may be nothing, so many pods are refused, and values were looked for under keys of this name.
+fn shown<'a>(refused: usize, key: Option<&'a str>, is_written: bool) -> Answer<'a>
+    ensures { IsOutcome key.entry refused result }
+{
+    if refused > 0 {
+        return Answer::Shown(refused);
+    }
+    match key {
+        Some(name) => missing_unless(is_written, name),
+        None => Answer::Done,
+    }
+}
+
+/// The answer where values were looked for under keys of this name, and some are written, or none.
+fn missing_unless<'a>(is_written: bool, name: &'a str) -> Answer<'a>
+    ensures { (result ≡ answer.Done) ⊎ (result ≡ answer.Missing name.entry) }
+{
+    if is_written {
         return Answer::Done;
     }
-    Answer::Shown(refused)
+    Answer::Missing(name)
 }
 
 /// Prints this of the inputs of these names, where pods are read exactly and refused whole.
@@ -345,7 +393,14 @@ fn print_to_file<'a, R: Read, S: Files, W: Write + Drop>(
         files,
         &mut printed,
     ) {
-        Ok(refused) => answered(files, target, device, Ok(printed), shown(refused)),
+        Ok(refused) => {
+            let done = shown(
+                refused,
+                looked_for(Streaming::Print(printing)),
+                !printed.is_empty(),
+            );
+            answered(files, target, device, Ok(printed), done)
+        }
         Err(Failure::Unwritten(_)) => (Answer::Refused(Failure::OutOfMemory), device),
         Err(why) => (Answer::Refused(why), device),
     }

@@ -20,6 +20,8 @@ pub enum Answer<'a> {
     Passed(Vec<NamedRefusal<'a>>),
     /// All was printed, and so many of the printed pods, of which there are some, are refused.
     Shown(usize),
+    /// All was printed, which is nothing: there is no value under a key of this name.
+    Missing(&'a str),
     /// The work was refused, for this reason.
     Refused(Failure<'a>),
     /// The command line is wrong, for this reason.
@@ -29,7 +31,7 @@ pub enum Answer<'a> {
 }
 
 impl Answer<'_> {
-    /// The program's status: 0 where the work was done or help given, 1 where it was refused or two inputs differ, 2 where the words
+    /// The program's status: 0 where the work was done or help given, 1 where it was refused, two inputs differ or nothing is under a key, 2 where the words
     /// are none of the program's.
     pub fn status(&self) -> u8 {
         match self {
@@ -37,6 +39,7 @@ impl Answer<'_> {
             Answer::Differs => 1,
             Answer::Passed(_) => 1,
             Answer::Shown(_) => 1,
+            Answer::Missing(_) => 1,
             Answer::Refused(_) => 1,
             Answer::Misused(_) => 2,
             Answer::Said(error) => { if error.use_stderr() { 2 } else { 0 } }
@@ -113,6 +116,7 @@ pub fn report<W: Write, E: Write>(
         Answer::Differs => Ok(()),
         Answer::Passed(pods) => report_pods(faults, pods.as_slice()),
         Answer::Shown(refused) => report_count(faults, *refused),
+        Answer::Missing(name) => report_missing(faults, *name),
         Answer::Refused(why) => report_failure(faults, why),
         Answer::Misused(why) => report_misuse(faults, why),
         Answer::Said(error) => {
@@ -137,6 +141,11 @@ pub fn report_pods<E: Write>(faults: &mut E, pods: &[NamedRefusal<'_>]) -> io::R
 /// Writes the line that says how many pods are refused.
 fn report_count<E: Write>(faults: &mut E, count: usize) -> io::Result<()> {
     writeln!(faults, "pod: refused pods: {count}")
+}
+
+/// Writes the line that says that there is no value under a key of this name.
+pub fn report_missing<E: Write>(faults: &mut E, name: &str) -> io::Result<()> {
+    writeln!(faults, "pod: no value has the key '{name}'")
 }
 
 /// Writes the line of a refused pod.

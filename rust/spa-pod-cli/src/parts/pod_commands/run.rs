@@ -19,7 +19,7 @@ use crate::parts::spa_meet_commands::progress::Progress;
 use crate::parts::spa_recordings::going_on as recordings;
 use crate::parts::spa_recordings::going_on::Refused;
 use crate::parts::spa_recordings::reading::Reading;
-use std::io::{Read, Write};
+use std::io::{self, Read, Write};
 
 /// Does what the words ask for, the program's own name not among them.
 ///
@@ -211,19 +211,60 @@ fn write_as<'a, R: Read, S: Files, W: Write>(
     files: &mut S,
     device: W,
 ) -> (Answer<'a>, W) {
-    let mut output = device;
-    match stream_all(streaming, names, input, files, &mut output) {
-        Ok(refused) => (shown(refused), output),
-        Err(why) => (Answer::Refused(why), output),
+    let mut output = Noted {
+        device,
+        is_written: false,
+    };
+    let streamed = stream_all(streaming, names, input, files, &mut output);
+    let Noted { device, is_written } = output;
+    match streamed {
+        Ok(refused) => (shown(refused, looked_for(streaming), is_written), device),
+        Err(why) => (Answer::Refused(why), device),
     }
 }
 
-/// The answer where all is written, and so many pods are refused.
-fn shown<'a>(refused: usize) -> Answer<'a> {
-    if refused == 0 {
+/// A device, and whether anything was written to it.
+struct Noted<W> {
+    device: W,
+    is_written: bool,
+}
+
+impl<W: Write> Write for Noted<W> {
+    fn write(&mut self, bytes: &[u8]) -> io::Result<usize> {
+        self.is_written = self.is_written || !bytes.is_empty();
+        self.device.write(bytes)
+    }
+
+    fn flush(&mut self) -> io::Result<()> {
+        self.device.flush()
+    }
+}
+
+/// The name of the keys under which values are looked for.
+fn looked_for<'a>(streaming: Streaming<'a>) -> Option<&'a str> {
+    match streaming {
+        Streaming::Print(printing) => printing.printout.selection.key,
+        _ => None,
+    }
+}
+
+/// The answer where all is written, which may be nothing, so many pods are refused, and values were looked for under keys of this name.
+fn shown<'a>(refused: usize, key: Option<&'a str>, is_written: bool) -> Answer<'a> {
+    if refused > 0 {
+        return Answer::Shown(refused);
+    }
+    match key {
+        Some(name) => missing_unless(is_written, name),
+        None => Answer::Done,
+    }
+}
+
+/// The answer where values were looked for under keys of this name, and some are written, or none.
+fn missing_unless<'a>(is_written: bool, name: &'a str) -> Answer<'a> {
+    if is_written {
         return Answer::Done;
     }
-    Answer::Shown(refused)
+    Answer::Missing(name)
 }
 
 /// Prints this of the inputs of these names, where pods are read exactly and refused whole.
@@ -281,7 +322,14 @@ fn print_to_file<'a, R: Read, S: Files, W: Write>(
         files,
         &mut printed,
     ) {
-        Ok(refused) => answered(files, target, device, Ok(printed), shown(refused)),
+        Ok(refused) => {
+            let done = shown(
+                refused,
+                looked_for(Streaming::Print(printing)),
+                !printed.is_empty(),
+            );
+            answered(files, target, device, Ok(printed), done)
+        }
         Err(Failure::Unwritten(_)) => (Answer::Refused(Failure::OutOfMemory), device),
         Err(why) => (Answer::Refused(why), device),
     }

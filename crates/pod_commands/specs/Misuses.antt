@@ -1,5 +1,6 @@
 -- What is said of a wrong command line.
-use Rattle.std.specs.Prelude.{ℕ, List, ◌++◌, [], ◌∷◌, codes}
+use Rattle.std.specs.Prelude.{ℕ, List, ◌++◌, [], ◌∷◌, Option, None, Some, codes}
+use Rattle.std.specs.Borrow.{Bor}
 use Rattle.pod_commands.specs.declared.misuse.Excluded.{Excluded}
 use Rattle.pod_commands.specs.declared.misuse.Excluded.TheVariants.{Lenient, KeepGoing, KeepRefused, Output}
 use Rattle.pod_commands.specs.declared.misuse.Misuse.{Misuse}
@@ -11,11 +12,16 @@ excluded_text KeepGoing = codes "--keep-going"
 excluded_text KeepRefused = codes "--keep-refused"
 excluded_text Output = codes "--output"
 
+-- a name that is nearly the one that was given
+abbrev pub similar_text : Option (Bor (List ℕ)) → List ℕ
+similar_text None = []
+similar_text (Some name) = codes "; one has '" ++ (name.now ++ codes "'")
+
 abbrev pub misuse_text : Misuse → List ℕ
 misuse_text NoWord = codes "there is no command"
 misuse_text (Nth value) = codes "--nth takes a number from 1 on, not '" ++ (value.now ++ codes "'")
 misuse_text (Color value) = codes "--color takes auto, always or never, not '" ++ (value.now ++ codes "'")
-misuse_text (Key value) = codes "--key: no key has the name or number '" ++ (value.now ++ codes "'")
+misuse_text (Key value similar) = codes "--key: no key has the name or number '" ++ (value.now ++ (codes "'" ++ similar_text similar))
 misuse_text TooFew = codes "diff takes two FILEs"
 misuse_text (TooMany name) = codes "unexpected FILE '" ++ (name.now ++ codes "': two are the most")
 misuse_text ToTerminal =

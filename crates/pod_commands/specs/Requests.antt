@@ -153,7 +153,7 @@ HasUnknownWhen given _ = ⊥
 
 -- the NAME of `--key` is none of a key's, and no key's number
 abbrev pub HasUnknownKey : Option Text → Misuse → Type 0
-HasUnknownKey given (Key name) = (given ≡ Some name.now) × ¬ (HasKeyNamed name.now)
+HasUnknownKey given (Key name similar) = (given ≡ Some name.now) × ¬ (HasKeyNamed name.now)
 HasUnknownKey given _ = ⊥
 
 -- An option has a value that is none of its own. That of `--nth` doesn't come so far: clap refuses it itself, by its

@@ -23,8 +23,8 @@ pub enum Misuse<'a> {
     Nth(&'a str),
     /// The value of `--color` isn't `auto`, `always` or `never`.
     Color(&'a str),
-    /// The value of `--key` is neither the name nor the number of a key.
-    Key(&'a str),
+    /// The value of `--key` is neither the name nor the number of a key, and nearly this name of one.
+    Key(&'a str, Option<&'static str>),
     /// `diff` has one file.
     TooFew,
     /// This is the third file of a word that takes two at most.
@@ -53,6 +53,24 @@ impl fmt::Display for Excluded {
     }
 }
 
+/// A name that is nearly the one that was given, where there is one.
+#[derive(Clone, Copy)]
+struct Similar(Option<&'static str>);
+
+impl fmt::Display for Similar {
+    ghost use Rattle.std.specs.Prelude.{Some};
+    ghost use Rattle.pod_commands.specs.Misuses.{similar_text};
+
+    ghost output = { λ similar. Some (similar_text similar.0) };
+
+    fn fmt<W: fmt::Write>(&self, f: &mut fmt::Formatter<W>) -> fmt::Result {
+        match self.0 {
+            Some(name) => write!(f, "; one has '{name}'"),
+            None => Ok(()),
+        }
+    }
+}
+
 impl fmt::Display for Misuse<'_> {
     ghost use Rattle.std.specs.Prelude.{Some};
     ghost use Rattle.pod_commands.specs.Misuses.{misuse_text};
@@ -64,7 +82,10 @@ impl fmt::Display for Misuse<'_> {
             Misuse::NoWord => f.write_str("there is no command"),
             Misuse::Nth(value) => write!(f, "--nth takes a number from 1 on, not '{value}'"),
             Misuse::Color(value) => write!(f, "--color takes auto, always or never, not '{value}'"),
-            Misuse::Key(value) => write!(f, "--key: no key has the name or number '{value}'"),
+            Misuse::Key(value, similar) => {
+                let similar = Similar(*similar);
+                write!(f, "--key: no key has the name or number '{value}'{similar}")
+            }
             Misuse::TooFew => f.write_str("diff takes two FILEs"),
             Misuse::TooMany(name) => write!(f, "unexpected FILE '{name}': two are the most"),
             Misuse::ToTerminal => f.write_str(

@@ -17,6 +17,7 @@ use crate::colours::Colours;
 use crate::command::program;
 use crate::misuse::Misuse;
 use crate::screen::Screen;
+use crate::suggesting::similar_key;
 use clap::{ArgMatches, Error};
 use spa_meet_commands::pair::Work;
 use spa_recordings::going_on::Refused;
@@ -274,7 +275,7 @@ fn key_of<'a>(name: Option<&'a str>) -> Result<Option<&'a str>, Misuse<'a>>
     if is_key_name(key) {
         return Ok(Some(key));
     }
-    Err(Misuse::Key(key))
+    Err(Misuse::Key(key, similar_key(key)))
 }
 
 /// Whether texts are coloured where `--color` doesn't say: they go to a terminal, and `NO_COLOR` isn't set.

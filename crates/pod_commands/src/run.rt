@@ -169,17 +169,33 @@ fn rewrite_twice<'a, R: Read, S: Files, W: Write + Drop>(
         (outlet target.entry (W.contents device) (W.contents result.1) (S.holds files.old) (S.holds files.new)) }
 {
     match check_all(alloc, names, input, files) {
-        Ok(()) => write_as(
-            alloc,
-            Streaming::Rewrite,
-            names,
-            target,
-            input,
-            files,
-            device,
-        ),
+        Ok(()) => {
+            if let Some(name) = emptied(names, files) {
+                let why = Failure::Unread(name, "emptied while it was read");
+                return (Answer::Refused(why), device);
+            }
+            write_as(
+                alloc,
+                Streaming::Rewrite,
+                names,
+                target,
+                input,
+                files,
+                device,
+            )
+        }
         Err(why) => (Answer::Refused(why), device),
     }
+}
+
+/// The first of these names, each of which was a regular file's with bytes, that isn't any more.
+fn emptied<'a, S: Files>(names: &[&'a str], files: &S) -> Option<&'a str> {
+    for name in names {
+        if !files.is_regular(*name) {
+            return Some(*name);
+        }
+    }
+    None
 }
 
 /// Works on what is read of the inputs of these names, and answers which pods of them are refused.

@@ -26,6 +26,8 @@ const CLEAN: &[u8] = &[4, 0, 0, 0, 2, 0, 0, 0, 1, 0, 0, 0, 0, 0, 0, 0];
 #[derive(Drop)]
 struct Changing {
     is_opened: Cell<bool>,
+    /// Whether they are no regular files with bytes from then on.
+    are_emptied: bool,
 }
 
 impl Files for Changing {
@@ -47,7 +49,7 @@ impl Files for Changing {
     }
 
     fn is_regular(&self, _name: &str) -> bool {
-        true
+        !(self.are_emptied && self.is_opened.get())
     }
 
     fn write_file(&mut self, _name: &str, _bytes: &[u8]) -> io::Result<()> {
@@ -59,9 +61,15 @@ impl Files for Changing {
 type Wanted<'a> = (u8, &'a str, &'a [u8]);
 
 /// Whether `rewrite` of these files answers so, unless it says that memory is wanting.
-fn rewrites(rt: &HostRuntime, words: &[&str], wanted: Wanted<'_>) -> Result<bool, AllocError> {
+fn rewrites(
+    rt: &HostRuntime,
+    words: &[&str],
+    are_emptied: bool,
+    wanted: Wanted<'_>,
+) -> Result<bool, AllocError> {
     let mut files = Changing {
         is_opened: Cell::new(false),
+        are_emptied,
     };
     let mut room = [0; 100];
     let device = Device::new(&mut room, ALL);
@@ -94,7 +102,7 @@ fn a_file_changes_between_the_passes(rt: HostRuntime) -> Result<(), AllocError> 
         "pod: changing: pod 2 (Int), byte 16: a body or the size of elements isn't as long as its type's (WrongSize)\n",
         CLEAN,
     );
-    let holds = rewrites(&rt, &["rewrite", "changing"], wanted)?;
+    let holds = rewrites(&rt, &["rewrite", "changing"], false, wanted)?;
     assert!(rt; holds);
     Ok(())
 }
@@ -106,7 +114,15 @@ fn nothing_is_written_before_all_files_are_accepted(rt: HostRuntime) -> Result<(
         "pod: second: pod 2 (Int), byte 16: a body or the size of elements isn't as long as its type's (WrongSize)\n",
         &[],
     );
-    let holds = rewrites(&rt, &["rewrite", "first", "second"], wanted)?;
+    let holds = rewrites(&rt, &["rewrite", "first", "second"], false, wanted)?;
+    assert!(rt; holds);
+    Ok(())
+}
+
+#[test]
+fn a_file_is_emptied_between_the_passes(rt: HostRuntime) -> Result<(), AllocError> {
+    let wanted: Wanted<'_> = (1, "pod: emptied: emptied while it was read\n", &[]);
+    let holds = rewrites(&rt, &["rewrite", "emptied"], true, wanted)?;
     assert!(rt; holds);
     Ok(())
 }

@@ -1,6 +1,12 @@
+use Rattle.std.proofs.Common.{inl, inr, refl}
 use Rattle.pod_commands.specs.Answers.{outlet}
 use Rattle.pod_commands.proofs.Twice.{read_again, refused_first}
 use Rattle.pod_commands.proofs.run.rewrite_twice.Goals as goal
+
+pub returns-in-Some : goal.returns-in-Some
+returns-in-Some g c =
+    refused_first c.args.target (g.R.Read.remaining c.args.input.now) (g.S.Files.holds c.args.files.now) c.args.names.now (g.W.Write.contents c.args.device)
+    _ (inl (inr (c.in-Some.name, _, refl)))
 
 pub returns-in-Ok : goal.returns-in-Ok
 returns-in-Ok g c =

@@ -14,3 +14,4 @@ pub mod run;
 pub mod screen;
 mod sending;
 mod streaming;
+mod suggesting;

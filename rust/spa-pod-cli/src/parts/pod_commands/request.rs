@@ -6,6 +6,7 @@ use crate::parts::pod_commands::colours::Colours;
 use crate::parts::pod_commands::command::program;
 use crate::parts::pod_commands::misuse::Misuse;
 use crate::parts::pod_commands::screen::Screen;
+use crate::parts::pod_commands::suggesting::similar_key;
 use crate::shims::clap::{ArgMatches, Error};
 use crate::parts::spa_meet_commands::pair::Work;
 use crate::parts::spa_recordings::going_on::Refused;
@@ -235,7 +236,7 @@ fn key_of<'a>(name: Option<&'a str>) -> Result<Option<&'a str>, Misuse<'a>> {
     if is_key_name(key) {
         return Ok(Some(key));
     }
-    Err(Misuse::Key(key))
+    Err(Misuse::Key(key, similar_key(key)))
 }
 
 /// Whether texts are coloured where `--color` doesn't say: they go to a terminal, and `NO_COLOR` isn't set.

@@ -43,7 +43,9 @@ pub(crate) fn add_values(
     let events = listed.as_slice();
     let mut refused: usize = 0;
     for event in events {
-        refused += add_value(alloc, page, form, name, bytes, events, *event, count, place)?;
+        refused += add_value(
+            alloc, page, form, name, bytes, events, *event, count, place, pod,
+        )?;
     }
     Ok(refused)
 }
@@ -70,7 +72,8 @@ fn list_inside(alloc: Global, pod: &[u8]) -> Result<Vec<Event>, AllocError>
     Ok(events)
 }
 
-/// Adds what is printed of the pod of this event, where it is a value of this name, and answers how many pods are refused: it or none.
+/// Adds what is printed of the pod of this event inside a top-level one, where it is a value of this name, and answers how many pods are refused: it or
+/// none.
 fn add_value(
     alloc: Global,
     page: &mut Page,
@@ -81,6 +84,7 @@ fn add_value(
     event: Event,
     count: usize,
     place: usize,
+    outer: Pod<'_>,
 ) -> Result<usize, AllocError>
     requires count { count + 1 < 2 ^ 64 }
     requires place { place + length bytes.now < 2 ^ 64 }
@@ -97,7 +101,16 @@ fn add_value(
         return Ok(0);
     };
     let ids = ids_at(bytes, object, event.at);
-    add_part(alloc, page, form, value, ids, count, place + event.at)
+    add_part(
+        alloc,
+        page,
+        form,
+        value,
+        ids,
+        count,
+        place + event.at,
+        outer,
+    )
 }
 
 /// The event of the pod that the one of this event stands in; one of no pod where it stands in none.

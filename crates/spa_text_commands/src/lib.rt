@@ -10,6 +10,7 @@ mod inside;
 pub mod key_names;
 mod lines;
 mod listing;
+mod message;
 pub mod output;
 mod page;
 mod parts;

@@ -13,6 +13,7 @@ use crate::dump::{add_hex, add_rows};
 use crate::inner_values::add_values;
 use crate::inside::{Inside, Item, Label};
 use crate::lines::{put_indent, put_label, put_refusal, put_rest, put_value};
+use crate::message::{head_of, put_head};
 use crate::page::Page;
 use crate::parts::{Parts, Shown};
 use crate::printing::{Layout, add_texts};
@@ -69,12 +70,13 @@ pub(crate) fn add_selected(
             Table::Nothing,
             count,
             place,
+            pod,
         ),
     }
 }
 
-/// Adds what is printed of a pod, which so many pods and bytes of the input stand before and where ids have these names, and answers 1 where it is
-/// refused, else 0.
+/// Adds what is printed of a pod, which so many pods and bytes of the input stand before, where ids have these names and which is in this top-level
+/// one, and answers 1 where it is refused, else 0.
 pub(crate) fn add_part(
     alloc: Global,
     page: &mut Page,
@@ -83,6 +85,7 @@ pub(crate) fn add_part(
     ids: Table,
     count: usize,
     place: usize,
+    outer: Pod<'_>,
 ) -> Result<usize, AllocError>
     requires count { count + 1 < 2 ^ 64 }
     requires place { place + length (pod_bytes pod) < 2 ^ 64 }
@@ -93,7 +96,9 @@ pub(crate) fn add_part(
 {
     let refusal = refusal_of(alloc, pod)?;
     let refused = count_of(refusal);
-    print_part(alloc, page, form, pod, ids, refusal, refused, count, place)?;
+    print_part(
+        alloc, page, form, pod, ids, refusal, refused, count, place, outer,
+    )?;
     Ok(refused)
 }
 
@@ -108,6 +113,7 @@ fn print_part(
     refused: usize,
     count: usize,
     place: usize,
+    outer: Pod<'_>,
 ) -> Result<(), AllocError>
     requires count { count + 1 < 2 ^ 64 }
     requires place { place + length (pod_bytes pod) < 2 ^ 64 }
@@ -116,9 +122,9 @@ fn print_part(
         page.old.lines.items page.new.lines.items) }
 {
     match form {
-        Form::Lines => list(alloc, page, pod, ids, refusal, count, place),
+        Form::Lines => list(alloc, page, pod, ids, refusal, count, place, outer),
         Form::LinesAndBytes => {
-            list(alloc, page, pod, ids, refusal, count, place)?;
+            list(alloc, page, pod, ids, refusal, count, place, outer)?;
             add_rows(&mut page.lines, place, whole_bytes(&pod))
         }
         Form::Text(layout) => {
@@ -167,7 +173,8 @@ fn add_string(lines: &mut Vec<u8>, bytes: &[u8]) -> Result<(), AllocError>
     lines.extend_from_slice(b"\"\n")
 }
 
-/// Adds the lines of one pod: the line that counts it and gives its byte, the reason why it is refused, if there is one, and a line for each value in it.
+/// Adds the lines of one pod: the line that counts it and gives its byte, the head of the message that it is in, the reason why it is refused, where
+/// there are such, and a line for each value in it.
 fn list(
     alloc: Global,
     page: &mut Page,
@@ -176,6 +183,7 @@ fn list(
     refusal: Option<&'static str>,
     count: usize,
     place: usize,
+    outer: Pod<'_>,
 ) -> Result<(), AllocError>
     requires { count + 1 < 2 ^ 64 }
     ensures { OnOk result
@@ -189,15 +197,21 @@ fn list(
         alloc,
     };
     page.add_head(count, place)?;
-    listing.add_pod(page, Shown::of_pod(pod, ids), place)
+    listing.add_pod(page, Shown::of_pod(pod, ids), place, outer)
 }
 
 impl<'a> Listing<'a> {
-    /// Adds the lines of the top-level pod, which begins at this byte, and of what is inside it.
-    fn add_pod(&mut self, page: &mut Page, value: Shown<'a>, place: usize) -> Result<(), AllocError>
+    /// Adds the lines of the pod, which begins at this byte and is in this top-level one, and of what is inside it.
+    fn add_pod(
+        &mut self,
+        page: &mut Page,
+        value: Shown<'a>,
+        place: usize,
+        outer: Pod<'_>,
+    ) -> Result<(), AllocError>
         ensures { OnOk result (Adds page.old.lines.items page.new.lines.items) }
     {
-        self.add_value(page, value, place, 0)?;
+        self.add_first(page, value, place, outer)?;
         // Each turn shows an item or closes a value, of which an input has far fewer than this.
         for _ in 0..u64::MAX {
             if self.levels.is_empty() {
@@ -206,6 +220,24 @@ impl<'a> Listing<'a> {
             self.add_next(page)?;
         }
         self.add_refusal(page, self.refusal, place, 0)
+    }
+
+    /// Adds the head of the message that the pod is in, if it is in one, and the line of the pod.
+    fn add_first(
+        &mut self,
+        page: &mut Page,
+        value: Shown<'a>,
+        place: usize,
+        outer: Pod<'_>,
+    ) -> Result<(), AllocError>
+        ensures { OnOk result (Adds page.old.lines.items page.new.lines.items) }
+    {
+        let Some(head) = head_of(outer) else {
+            return self.add_value(page, value, place, 0);
+        };
+        let begun = put_head(&mut page.line, head);
+        page.end_line(begun)?;
+        self.add_value(page, value, place, 0)
     }
 
     /// Adds the lines of the next item of the innermost open value, or closes the value where it has none left.

@@ -30,7 +30,9 @@ pub(crate) fn add_values(
     let events = listed.as_slice();
     let mut refused: usize = 0;
     for event in events {
-        refused += add_value(page, form, name, bytes, events, *event, count, place)?;
+        refused += add_value(
+            page, form, name, bytes, events, *event, count, place, pod,
+        )?;
     }
     Ok(refused)
 }
@@ -53,7 +55,8 @@ fn list_inside(pod: &[u8]) -> Result<Vec<Event>, AllocError> {
     Ok(events)
 }
 
-/// Adds what is printed of the pod of this event, where it is a value of this name, and answers how many pods are refused: it or none.
+/// Adds what is printed of the pod of this event inside a top-level one, where it is a value of this name, and answers how many pods are refused: it or
+/// none.
 fn add_value(
     page: &mut Page,
     form: Form,
@@ -63,6 +66,7 @@ fn add_value(
     event: Event,
     count: usize,
     place: usize,
+    outer: Pod<'_>,
 ) -> Result<usize, AllocError> {
     let object = holder_of(events, event);
     if !is_value_of(bytes, object, event.at, name) {
@@ -72,7 +76,15 @@ fn add_value(
         return Ok(0);
     };
     let ids = ids_at(bytes, object, event.at);
-    add_part(page, form, value, ids, count, place + event.at)
+    add_part(
+        page,
+        form,
+        value,
+        ids,
+        count,
+        place + event.at,
+        outer,
+    )
 }
 
 /// The event of the pod that the one of this event stands in; one of no pod where it stands in none.

@@ -96,7 +96,7 @@ no_front left e fault refused = fault_holds (IsRefused left) e fault refused
 pub stops : (layout : Layout) (mark start left old out : List ℕ) (why : Failure) → PrintedSoFar layout mark start left old out →
     ¬ (length left ≡ 0) → IsNoFront left why → IsStopped start why
 stops layout mark start left old out NoPods so some h = (left, (so.values, so.first, so.whole, so.members, λ d. some (ap length d)), h)
-stops layout mark start left old out (Line n c k p m) so some h = absurd h
+stops layout mark start left old out (Line n c k w p m) so some h = absurd h
 stops layout mark start left old out OutOfMemory so some h = tt
 stops layout mark start left old out WriteFailed so some h = absurd h
 
@@ -121,7 +121,7 @@ stops_whole input first left vs NoPods whole members h =
       no_pod = h.2;
       refused = λ us m. refused_behind_members (join_members vs b.0) us (first ++ b.1) h.0 both b.4 h.2 (subst (AreMembers us) all m);
     }
-stops_whole input first left vs (Line n c k p m) whole members h = absurd h
+stops_whole input first left vs (Line n c k w p m) whole members h = absurd h
 stops_whole input first left vs OutOfMemory whole members h = tt
 stops_whole input first left vs WriteFailed whole members h = absurd h
 

@@ -109,7 +109,7 @@ refused_at s text part k first line column none cut l c = record {
 pub not_read : (s : Strictness) (input left text behind pods : List ℕ) (line : ℕ) (why : Failure) → ReadSoFar s input left pods → BeginsText left text behind →
     line ≡ line_behind 1 (take (length input - length left) input) → IsNoText s text line why → RefusesTexts s input why
 not_read s input left text behind pods line NoPods so b is h = absurd h
-not_read s input left text behind pods line (Line l c k p m) so b is h = record {
+not_read s input left text behind pods line (Line l c k w p m) so b is h = record {
   values = so.values;
   before = so.before;
   left = left;
@@ -141,7 +141,7 @@ text_of s v w text line e t h a = subst (IsTextFor s w) t (subst (λ u. IsTextFo
 -- a refusal that memory isn't the cause of
 pub is_for : (s : Strictness) (line : List ℕ) (u : Unread) → HasNoPod s line → IsFor u → IsNoPod s line u
 is_for s line unread.OutOfMemory h w = tt
-is_for s line (unread.For kind offset path misfit) h w = h
+is_for s line (unread.For kind words offset path misfit) h w = h
 
 pub no_value : (s : Strictness) (line text : List ℕ) (c : Cause) → text ≡ line →
     (c ≢ cause.OutOfMemory → (v : Tree) → IsTextOf v text → ¬ (Admits s v)) → c ≢ cause.OutOfMemory → HasNoPod s line

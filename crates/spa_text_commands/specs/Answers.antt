@@ -13,8 +13,9 @@ use Rattle.spa_text_commands.specs.declared.showing.Printed.{Printed}
 -- what is said of a refusal
 abbrev pub failure_text : Failure → List ℕ
 failure_text NoPods = codes "no pods"
-failure_text (Line line column kind path misfit) =
-    codes "line " ++ (decimal line ++ (codes ", column " ++ (decimal column ++ (codes ": " ++ (kind.now ++ (path_text (string_bytes path) ++ misfit_text misfit))))))
+failure_text (Line line column kind words path misfit) =
+    codes "line " ++ (decimal line ++ (codes ", column " ++ (decimal column ++ (path_text (string_bytes path) ++ (codes ": " ++ (words.now
+    ++ (misfit_text misfit ++ (codes " (" ++ (kind.now ++ codes ")")))))))))
 failure_text OutOfMemory = codes "out of memory"
 failure_text WriteFailed = codes "write failed"
 

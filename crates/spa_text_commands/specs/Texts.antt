@@ -86,7 +86,7 @@ pub record HasNoTextAt (s : Strictness) (input : List ℕ) (line column : ℕ) :
 
 -- why texts aren't read
 abbrev pub RefusesTexts : Strictness → List ℕ → Failure → Type 0
-RefusesTexts s input (Line line column kind path misfit) = HasNoTextAt s input line column
+RefusesTexts s input (Line line column kind words path misfit) = HasNoTextAt s input line column
 RefusesTexts s input OutOfMemory = ⊤
 RefusesTexts s input _ = ⊥
 

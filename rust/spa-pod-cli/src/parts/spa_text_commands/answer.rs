@@ -10,12 +10,13 @@ use core::fmt;
 pub enum Failure {
     /// An input, or one of two, isn't pods one after another.
     NoPods,
-    /// The name of a refusal, the line up to which was read and the byte of it, both from 1, the path of the value that was being
-    /// read there, as `.props.rate`, or nothing, and the two types where the value isn't of the type that belongs under its key.
+    /// The line up to which was read and the byte of it, both from 1, the name of a refusal and what it says, the path of the value that
+    /// was being read there, as `.props.rate`, or nothing, and the two types where the value isn't of the type that belongs under its key.
     Line {
         line: usize,
         column: usize,
         kind: &'static str,
+        words: &'static str,
         path: String,
         misfit: Option<Misfit>,
     },
@@ -33,11 +34,12 @@ impl fmt::Display for Failure {
                 line,
                 column,
                 kind,
+                words,
                 path,
                 misfit,
             } => write!(
                 f,
-                "line {line}, column {column}: {kind}{}{}",
+                "line {line}, column {column}{}: {words}{} ({kind})",
                 AtPath(path.as_str()),
                 InPlace(*misfit)
             ),

@@ -15,6 +15,7 @@ enum Unread {
     OutOfMemory,
     For {
         kind: &'static str,
+        words: &'static str,
         /// How many bytes of it stand before the place up to which it was read.
         offset: usize,
         path: String,
@@ -90,6 +91,7 @@ fn failure_at(why: Unread, text: &[u8], first: usize) -> Failure {
         Unread::OutOfMemory => Failure::OutOfMemory,
         Unread::For {
             kind,
+            words,
             offset,
             path,
             misfit,
@@ -100,6 +102,7 @@ fn failure_at(why: Unread, text: &[u8], first: usize) -> Failure {
                 line,
                 column,
                 kind,
+                words,
                 path,
                 misfit,
             }
@@ -139,7 +142,10 @@ fn add_pod(
 ) -> Result<(), Unread> {
     let text = match core::str::from_utf8(bytes) {
         Ok(text) => text,
-        Err(error) => return Err(unread_at("Text", error.valid_up_to())),
+        Err(error) => {
+            let words = "the text isn't UTF-8";
+            return Err(unread_at("Text", words, error.valid_up_to()));
+        }
     };
     let value = match reader.read_with(text, strictness) {
         Ok(value) => Held::from(value),
@@ -149,6 +155,7 @@ fn add_pod(
             };
             return Err(Unread::For {
                 kind,
+                words: words_of(error.cause),
                 offset: error.offset,
                 path: error.path,
                 misfit: error.misfit,
@@ -158,17 +165,26 @@ fn add_pod(
     match write_sized(pods, &*value) {
         Ok(_) => Ok(()),
         Err(error) => match error {
-            GenError::NulInText => Err(unread_at("NulInText", 0)),
-            GenError::TooLarge => Err(unread_at("TooLarge", 0)),
+            GenError::NulInText => Err(unread_at(
+                "NulInText",
+                "a text of the value holds NUL, which ends texts of pods",
+                0,
+            )),
+            GenError::TooLarge => Err(unread_at(
+                "TooLarge",
+                "a size of the value's pod is past 32 bits",
+                0,
+            )),
             _ => Err(Unread::OutOfMemory),
         },
     }
 }
 
 /// A refusal behind so many bytes of a text, for which no path is known.
-fn unread_at(kind: &'static str, offset: usize) -> Unread {
+fn unread_at(kind: &'static str, words: &'static str, offset: usize) -> Unread {
     Unread::For {
         kind,
+        words,
         offset,
         path: String::new(),
         misfit: None,
@@ -180,5 +196,19 @@ fn kind_of(cause: Cause) -> Option<&'static str> {
     match cause {
         Cause::OutOfMemory => None,
         _ => Some(cause.kind()),
+    }
+}
+
+/// What is said of a cause.
+fn words_of(cause: Cause) -> &'static str {
+    match cause {
+        Cause::OutOfMemory => "out of memory",
+        Cause::Token => "another token is looked for, or the text isn't JSON",
+        Cause::Name => "there is no such key or name here",
+        Cause::Number => "a number is malformed or doesn't fit its type",
+        Cause::Type => "an array or a choice can't have a value of this type",
+        Cause::Count => "a choice has more or fewer values than its shape takes",
+        Cause::KeyType => "another type belongs under the key",
+        Cause::End => "something follows the value",
     }
 }

@@ -58,6 +58,8 @@ struct Told<'a> {
     rt: &'a HostRuntime,
     /// When a line was written last, or the program began. None: no line is written.
     last: Option<Instant>,
+    /// How many objects were told of.
+    told: usize,
 }
 
 impl<'a> Told<'a> {
@@ -68,21 +70,20 @@ impl<'a> Told<'a> {
         } else {
             None
         };
-        Told { rt, last }
+        Told { rt, last, told: 0 }
     }
 }
 
 impl Progress for Told<'_> {
-    fn tell(&mut self, left: usize, objects: usize) {
+    fn tell(&mut self, objects: usize) {
+        let tried = self.told;
+        self.told = tried.saturating_add(1);
         let Some(last) = self.last else { return };
         match last.elapsed(self.rt) {
             Ok(passed) if passed.as_secs() >= 1 => {}
             _ => return,
         }
-        let _ = writeln!(
-            self.rt.stderr(),
-            "pod: {left} of {objects} objects left to try"
-        );
+        let _ = writeln!(self.rt.stderr(), "pod: {tried} of {objects} objects tried");
         self.last = Instant::now(self.rt).ok();
     }
 }

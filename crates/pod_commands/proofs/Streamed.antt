@@ -3,12 +3,12 @@ use Rattle.std.proofs.Common.{◌≡◌, ◌≢◌, ◌⊎◌, ◌∙◌, ◌+�
 use Rattle.std.specs.Borrow.{Bor}
 use Rattle.std.specs.Io.KnownBytes.{Appends}
 use Rattle.spa_device.specs.Whole.{IsAllOf}
-use Rattle.std.specs.Prelude.{IfErr, IfOk, IfSome, Result, Ok, Err}
+use Rattle.std.specs.Prelude.{IfErr, IfOk, Result, Ok, Err}
 use Rattle.spa_recordings.specs.declared.reading.Reading.{Reading}
 use Rattle.spa_recordings.specs.Streaming.{EndsAtPod, MakesFirst, Stops, Streams}
 use Rattle.spa_recordings.specs.declared.streaming.Stop.{Stop}
 use Rattle.spa_recordings.specs.declared.streaming.Stop.TheVariants as stop
-use Rattle.pod_commands.specs.Answers.{Gets, Gives, IsExcluded, IsPlain, IsPrinted, IsShown, IsShownIn, IsStreamed, IsOutcome, IsUnread, IsWrittenAs, LooksFor, Outlet, outlet}
+use Rattle.pod_commands.specs.Answers.{Gets, Gives, IsExcluded, IsPlain, IsPrinted, IsShown, IsShownIn, IsStreamed, IsOutcome, IsUnread, IsWrittenAs, Outlet, looked_for, outlet}
 use Rattle.pod_commands.specs.Inputs.{AreMade, IsKnown, IsOpened, content_of, left_behind}
 use Rattle.pod_commands.specs.Sending.{IsSent}
 use Rattle.pod_commands.specs.StreamLaws.{nothing_written}
@@ -185,18 +185,18 @@ file_broken s name content remaining old new (Err why) o b = broken_file s name 
 
 -- all was written as it came
 pub written_as : (s : Streaming) (remaining : Option (List ℕ)) (names : List (Bor (List ℕ))) (o : Outlet) (refused : ℕ) (answer : Answer) →
-    (key : Option (Bor (List ℕ))) → IfSome key (LooksFor s) → IsOutcome key refused answer →
+    (key : Option (Bor (List ℕ))) → key ≡ looked_for s → IsOutcome key refused answer →
     Gives (λ out. AreMade (StreamsAs s) remaining o.before names out refused) o → IsWrittenAs s answer remaining names o
 written_as s remaining names o refused answer key looks (inl e) w =
     subst (λ a. IsWrittenAs s a remaining names o) (sym e.1) (subst (λ n. Gives (λ out. AreMade (StreamsAs s) remaining o.before names out n) o) e.0 w)
 written_as s remaining names o refused answer key looks (inr (inl e)) w = subst (λ a. IsWrittenAs s a remaining names o) (sym e.1) (e.0, w)
 written_as s remaining names o refused answer key looks (inr (inr e)) w =
     subst (λ a. IsWrittenAs s a remaining names o) (sym e.3)
-    (subst (λ k. IfSome k (LooksFor s)) e.2 looks, subst (λ n. Gives (λ out. AreMade (StreamsAs s) remaining o.before names out n) o) e.1 w)
+    (sym looks ∙ e.2, subst (λ n. Gives (λ out. AreMade (StreamsAs s) remaining o.before names out n) o) e.1 w)
 
 pub all_written : (s : Streaming) (target : Option (Bor (List ℕ))) (remaining : Option (List ℕ)) (holds : List ℕ → Option (List ℕ))
     (names : List (Bor (List ℕ))) (old new : Option (List ℕ)) (refused : ℕ) (answer : Answer) → target ≡ None →
-    (key : Option (Bor (List ℕ))) → IfSome key (LooksFor s) → IsOutcome key refused answer →
+    (key : Option (Bor (List ℕ))) → key ≡ looked_for s → IsOutcome key refused answer →
     ((out : List ℕ) × AreMade (StreamsAs s) remaining holds names out refused × Appends old new out) →
     IsWrittenAs s answer remaining names (outlet target old new holds holds)
 all_written s target remaining holds names old new refused answer none key looks is w =
@@ -225,7 +225,7 @@ streamed s reading fate target answer remaining names old new before after p w =
 
 -- the lines of all went to the file, or that couldn't be written
 pub shown_in : (printing : Printing) (remaining : Option (List ℕ)) (names : List (Bor (List ℕ))) (o : Outlet) (lines out : List ℕ) (refused : ℕ) (given answer : Answer) →
-    (key : Option (Bor (List ℕ))) → IfSome key (LooksFor (streaming.Print printing)) → IsOutcome key refused given →
+    (key : Option (Bor (List ℕ))) → key ≡ looked_for (streaming.Print printing) → IsOutcome key refused given →
     AreMade (StreamsAs (streaming.Print printing)) remaining o.before names out refused → Appends (Some []) (Some lines) out → IsSent lines given answer o →
     IsShownIn printing answer remaining names o
 shown_in printing remaining names o lines out refused given answer key looks (inl e) made is (inl k) =
@@ -235,7 +235,7 @@ shown_in printing remaining names o lines out refused given answer key looks (in
     subst (λ a. IsShownIn printing a remaining names o) (sym (k.0 ∙ e.1)) (e.0, (out, made, subst (Gets o.target o) is k.1))
 shown_in printing remaining names o lines out refused given answer key looks (inr (inr e)) made is (inl k) =
     subst (λ a. IsShownIn printing a remaining names o) (sym (k.0 ∙ e.3)) (
-      subst (λ z. IfSome z (LooksFor (streaming.Print printing))) e.2 looks,
+      sym looks ∙ e.2,
       (out, subst (AreMade (StreamsAs (streaming.Print printing)) remaining o.before names out) e.1 made, subst (Gets o.target o) is k.1),
     )
 shown_in printing remaining names o lines out refused given answer key looks e made is (inr k) =

@@ -230,17 +230,19 @@ IsMadeBy reading (GoesOn refused) making answer remaining names o = IsMadeInPart
 
 -- what it says of work that is written as inputs come: all was written, of which no pod is refused, or so many of those that are shown; or what was
 -- made till the work ended
--- values are looked for under keys of this name
-abbrev pub LooksFor : Streaming → Bor (List ℕ) → Type 0
-LooksFor (streaming.Print printing) name = printing.printout.selection.key ≡ Some name
-LooksFor _ name = ⊥
+-- the name of the keys under which values are looked for
+abbrev pub looked_for : Streaming → Option (Bor (List ℕ))
+looked_for (streaming.Json style) = None
+looked_for streaming.Rewrite = None
+looked_for (streaming.Print printing) = printing.printout.selection.key
+looked_for streaming.Check = None
 
 abbrev pub IsWrittenAs : Streaming → Answer → (remaining : Option (List ℕ)) → List (Bor (List ℕ)) → Outlet → Type 0
 IsWrittenAs streaming Done remaining names o = Gives (λ out. AreMade (StreamsAs streaming) remaining o.before names out 0) o
 IsWrittenAs streaming (Shown refused) remaining names o =
     (refused ≢ 0) × Gives (λ out. AreMade (StreamsAs streaming) remaining o.before names out refused) o
 IsWrittenAs streaming (Missing name) remaining names o =
-    LooksFor streaming name × Gives (λ out. AreMade (StreamsAs streaming) remaining o.before names out 0) o
+    (looked_for streaming ≡ Some name) × Gives (λ out. AreMade (StreamsAs streaming) remaining o.before names out 0) o
 IsWrittenAs streaming (Refused why) remaining names o = IsBroken streaming remaining o.before names o.old o.new why × KeepsFiles o
 IsWrittenAs streaming _ remaining names o = ⊥
 
@@ -269,7 +271,7 @@ IsShownIn printing Done remaining names o = Gives (λ out. AreMade (StreamsAs (s
 IsShownIn printing (Shown refused) remaining names o =
     (refused ≢ 0) × Gives (λ out. AreMade (StreamsAs (streaming.Print printing)) remaining o.before names out refused) o
 IsShownIn printing (Missing name) remaining names o =
-    LooksFor (streaming.Print printing) name × Gives (λ out. AreMade (StreamsAs (streaming.Print printing)) remaining o.before names out 0) o
+    (printing.printout.selection.key ≡ Some name) × Gives (λ out. AreMade (StreamsAs (streaming.Print printing)) remaining o.before names out 0) o
 IsShownIn printing (Refused why) remaining names o =
     Refuses (λ out. (refused : ℕ) × AreMade (StreamsAs (streaming.Print printing)) remaining o.before names out refused)
     (AreUnshown printing remaining o.before names) o why

@@ -13,6 +13,8 @@ use Rattle.pod_commands.specs.declared.colours.Colours.{Colours}
 use Rattle.pod_commands.specs.declared.colours.Colours.TheVariants.{Off, On}
 use Rattle.pod_commands.specs.declared.request.Fate.{Fate}
 use Rattle.pod_commands.specs.declared.request.Fate.TheVariants.{Stops, GoesOn}
+use Rattle.pod_commands.specs.declared.request.Making.{Making}
+use Rattle.pod_commands.specs.declared.request.Streaming.{Streaming as OfStreaming}
 use Rattle.pod_commands.specs.declared.request.Making.TheVariants.{Json, Read, Rewrite, Fixate, Check}
 use Rattle.pod_commands.specs.declared.request.Streaming.TheVariants as Streaming
 use Rattle.pod_commands.specs.declared.request.Word.{Word}
@@ -238,13 +240,25 @@ pub record Asks (words : List (Bor (List ℕ))) (screen : Screen) (request : Req
   pub target : option_map (λ s. s.now) request.target ≡ first_of (codes "output") rows
 
 -- a word that writes pods, and no text
+abbrev pub makes_pods : Making → Bool
+makes_pods (Json style) = false
+makes_pods (Read strictness) = true
+makes_pods Rewrite = true
+makes_pods Fixate = true
+makes_pods Check = false
+
+abbrev pub streams_pods : OfStreaming → Bool
+streams_pods (Streaming.Json style) = false
+streams_pods Streaming.Rewrite = true
+streams_pods (Streaming.Print printing) = false
+streams_pods Streaming.Check = false
+
 abbrev pub writes_pods : Word → Bool
-writes_pods (Make (Read strictness) manner) = true
-writes_pods (Make Rewrite manner) = true
-writes_pods (Make Fixate manner) = true
-writes_pods (Stream Streaming.Rewrite manner) = true
+writes_pods (Print printing manner) = false
+writes_pods (Make making manner) = makes_pods making
+writes_pods (Stream streaming manner) = streams_pods streaming
+writes_pods Diff = false
 writes_pods (Agree work) = true
-writes_pods _ = false
 
 -- pods would go to a terminal, which `-o` doesn't ask for
 abbrev pub fills_terminal : Screen → Request → Bool

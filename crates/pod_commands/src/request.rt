@@ -297,12 +297,36 @@ fn writes_pods(word: Word<'_>) -> bool
     ensures { result ≡ spec.writes_pods word.entry }
 {
     match word {
-        Word::Make(Making::Read(_), _) => true,
-        Word::Make(Making::Rewrite, _) => true,
-        Word::Make(Making::Fixate, _) => true,
-        Word::Stream(Streaming::Rewrite, _) => true,
+        Word::Print(_, _) => false,
+        Word::Make(making, _) => makes_pods(making),
+        Word::Stream(streaming, _) => streams_pods(streaming),
+        Word::Diff => false,
         Word::Agree(_) => true,
-        _ => false,
+    }
+}
+
+/// Whether this is made of pods.
+fn makes_pods(making: Making) -> bool
+    ensures { result ≡ spec.makes_pods making }
+{
+    match making {
+        Making::Json(_) => false,
+        Making::Read(_) => true,
+        Making::Rewrite => true,
+        Making::Fixate => true,
+        Making::Check => false,
+    }
+}
+
+/// Whether pods are written as inputs come.
+fn streams_pods(streaming: Streaming<'_>) -> bool
+    ensures { result ≡ spec.streams_pods streaming.entry }
+{
+    match streaming {
+        Streaming::Json(_) => false,
+        Streaming::Rewrite => true,
+        Streaming::Print(_) => false,
+        Streaming::Check => false,
     }
 }
 

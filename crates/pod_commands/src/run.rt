@@ -1,8 +1,7 @@
 //! The program's work, over a reader, files and a writer.
 ghost use Rattle.std.specs.Prelude.{◌≡◌, ◌≢◌, ◌⊎◌, IfNone, IfSome, None, false, true};
 ghost use Rattle.pod_commands.specs.Answers as spec;
-ghost use Rattle.pod_commands.specs.Answers.{AreFiles, AreUnmade, Gives, IsAgreed, IsAnswer, IsCompared, IsDone, IsExcluded, IsMadeBy, IsMadeInPart, IsPlain, IsPrinted, IsShown, IsShownIn, IsStreamed, IsOutcome, IsWrittenAs, LooksFor, MayReadTwice, OnAnswer, Refuses, outlet};
-ghost use Rattle.pod_commands.specs.declared.answer.Answer.TheVariants as answer;
+ghost use Rattle.pod_commands.specs.Answers.{AreFiles, AreUnmade, Gives, IsAgreed, IsAnswer, IsCompared, IsDone, IsExcluded, IsMadeBy, IsMadeInPart, IsPlain, IsPrinted, IsShown, IsShownIn, IsStreamed, IsOutcome, IsWrittenAs, MayReadTwice, OnAnswer, Refuses, outlet};
 ghost use Rattle.pod_commands.specs.declared.request.Fate.TheVariants.{Stops};
 ghost use Rattle.pod_commands.specs.declared.request.Making.TheVariants.{Rewrite};
 ghost use Rattle.spa_recordings.specs.declared.reading.Reading.TheVariants.{Exact};
@@ -169,12 +168,12 @@ fn rewrite_twice<'a, R: Read, S: Files, W: Write + Drop>(
         (outlet target.entry (W.contents device) (W.contents result.1) (S.holds files.old) (S.holds files.new)) }
 {
     match check_all(alloc, names, input, files) {
-        Ok(()) => {
-            if let Some(name) = emptied(names, files) {
+        Ok(()) => match emptied(names, files) {
+            Some(name) => {
                 let why = Failure::Unread(name, "emptied while it was read");
-                return (Answer::Refused(why), device);
+                (Answer::Refused(why), device)
             }
-            write_as(
+            None => write_as(
                 alloc,
                 Streaming::Rewrite,
                 names,
@@ -182,8 +181,8 @@ fn rewrite_twice<'a, R: Read, S: Files, W: Write + Drop>(
                 input,
                 files,
                 device,
-            )
-        }
+            ),
+        },
         Err(why) => (Answer::Refused(why), device),
     }
 }
@@ -278,11 +277,12 @@ fn write_as<'a, R: Read, S: Files, W: Write + Drop>(
         device,
         is_written: false,
     };
-    let streamed = stream_all(alloc, streaming, names, input, files, &mut output);
-    let Noted { device, is_written } = output;
-    match streamed {
-        Ok(refused) => (shown(refused, looked_for(streaming), is_written), device),
-        Err(why) => (Answer::Refused(why), device),
+    match stream_all(alloc, streaming, names, input, files, &mut output) {
+        Ok(refused) => {
+            let Noted { device, is_written } = output;
+            (shown(refused, looked_for(streaming), is_written), device)
+        }
+        Err(why) => (Answer::Refused(why), output.device),
     }
 }
 
@@ -308,11 +308,13 @@ impl<W: Write> Write for Noted<W> {
 
 /// The name of the keys under which values are looked for.
 fn looked_for<'a>(streaming: Streaming<'a>) -> Option<&'a str>
-    ensures { IfSome result (LooksFor streaming.entry) }
+    ensures { result ≡ spec.looked_for streaming.entry }
 {
     match streaming {
+        Streaming::Json(_) => None,
+        Streaming::Rewrite => None,
         Streaming::Print(printing) => printing.printout.selection.key,
-        _ => None,
+        Streaming::Check => None,
     }
 }
 
@@ -320,19 +322,12 @@ fn looked_for<'a>(streaming: Streaming<'a>) -> Option<&'a str>
 fn shown<'a>(refused: usize, key: Option<&'a str>, is_written: bool) -> Answer<'a>
     ensures { IsOutcome key.entry refused result }
 {
-    if refused > 0 {
+    if refused != 0 {
         return Answer::Shown(refused);
     }
-    match key {
-        Some(name) => missing_unless(is_written, name),
-        None => Answer::Done,
-    }
-}
-
-/// The answer where values were looked for under keys of this name, and some are written, or none.
-fn missing_unless<'a>(is_written: bool, name: &'a str) -> Answer<'a>
-    ensures { (result ≡ answer.Done) ⊎ (result ≡ answer.Missing name.entry) }
-{
+    let Some(name) = key else {
+        return Answer::Done;
+    };
     if is_written {
         return Answer::Done;
     }

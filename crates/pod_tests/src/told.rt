@@ -5,18 +5,16 @@ use spa_meet_commands::pair::Work;
 use spa_meet_commands::progress::Progress;
 use std::alloc::AllocError;
 
-/// What was told: how often, and the numbers of the last time.
+/// What was told: how often, and last of how many objects.
 #[derive(Drop)]
 struct Told {
     times: usize,
-    left: usize,
     objects: usize,
 }
 
 impl Progress for Told {
-    fn tell(&mut self, left: usize, objects: usize) {
+    fn tell(&mut self, objects: usize) {
         self.times = self.times.wrapping_add(1);
-        self.left = left;
         self.objects = objects;
     }
 }
@@ -31,7 +29,6 @@ const THREE: [u8; 48] = [
 fn told_of(rt: &HostRuntime, theirs: &[u8]) -> Result<Told, AllocError> {
     let mut told = Told {
         times: 0,
-        left: 0,
         objects: 0,
     };
     let found = of_lists(rt.alloc(), Work::Filter, &THREE, theirs, &mut told);
@@ -42,14 +39,12 @@ fn told_of(rt: &HostRuntime, theirs: &[u8]) -> Result<Told, AllocError> {
 }
 
 #[test]
-fn a_search_tells_what_is_left_before_each_object(rt: HostRuntime) -> Result<(), AllocError> {
+fn a_search_tells_of_each_object_that_it_tries(rt: HostRuntime) -> Result<(), AllocError> {
     let told = told_of(&rt, &THREE[32..])?;
     assert_eq!(rt; told.times, 3);
-    assert_eq!(rt; told.left, 1);
     assert_eq!(rt; told.objects, 3);
     // The first agrees.
     let told = told_of(&rt, &THREE)?;
     assert_eq!(rt; told.times, 1);
-    assert_eq!(rt; told.left, 3);
     Ok(())
 }

@@ -1,7 +1,7 @@
 -- The steps of passing a list, and of looking for the first pair of two.
-use Rattle.std.proofs.Common.{◌≡◌, ◌<◌, ◌+◌, ◌-◌, ℕ, List, [], ◌∷◌, ◌++◌, refl, sym, inl, inr, arith, drop, length, ◌∙◌, ap, subst, length-drop, append_assoc, append-nil}
+use Rattle.std.proofs.Common.{◌≡◌, ◌<◌, ◌+◌, ◌-◌, ℕ, List, [], ◌∷◌, ◌++◌, refl, sym, inl, inr, arith, drop, get_or, length, ◌∙◌, ap, subst, length-drop, append_assoc, append-nil}
 use Rattle.std.specs.Prelude.{Result}
-use Rattle.std.proofs.lemmas.List.{drop-drop, length-take-le, take-append-drop}
+use Rattle.std.proofs.lemmas.List.{drop-drop, drop_more, length-take-le, take-append-drop}
 use Rattle.spa_format.specs.Words.{extent, word_at}
 use Rattle.spa_format.specs.Front.{HasFront, IsRefused, front_of, rest_of}
 use Rattle.spa_format.specs.Walk.{walk}
@@ -129,6 +129,11 @@ stops input left viewed side place OutOfMemory is some so stop = tt
 stops input left viewed side place (Apart type e) is some so stop = absurd stop
 stops input left viewed side place More is some so stop = absurd stop
 stops input left viewed side place NoPair is some so stop = absurd stop
+
+-- the next object is the first of those that are left
+pub next_is : (objects : List ObjectPod) (i : ℕ) (object : ObjectPod) → i < length objects → object ≡ get_or objects i object →
+    drop i objects ≡ object ∷ drop (i + 1) objects
+next_is objects i object more is = drop_more objects i object more ∙ ap (λ z. z ∷ drop (i + 1) objects) (sym is)
 
 -- how far the second list was looked through: what comes of one object and those that are left comes of it and all, and where it agrees
 -- with none that is left it does with none

@@ -70,13 +70,11 @@ fn first_pair<P: Progress>(
     ensures none { IfOk result (λ found. IfNone found (OfBoth ours.now theirs.now NoneAgree)) }
     ensures cause { IfErr result (λ e. OfBoth ours.now theirs.now (λ ps qs. FirstPairGives work ps qs (Err e))) }
 {
-    let mut left = ours;
-    while let Some((object, behind)) = left.split_first() {
-        progress.tell(left.len(), ours.len());
+    for object in ours {
+        progress.tell(ours.len());
         if let Some(met) = first_with(alloc, work, object, theirs)? {
             return Ok(Some(met));
         }
-        left = behind;
     }
     Ok(None)
 }

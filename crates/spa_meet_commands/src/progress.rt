@@ -2,8 +2,8 @@
 
 /// Who is told how far a search for two objects that agree is.
 pub trait Progress {
-    /// Takes note that of so many objects of the first list so many are left to be tried. The search tells so before each of them.
-    fn tell(&mut self, left: usize, objects: usize);
+    /// Takes note that the next of so many objects of the first list is tried now with those of the second.
+    fn tell(&mut self, objects: usize);
 }
 
 /// Nobody.
@@ -11,5 +11,5 @@ pub trait Progress {
 pub struct Unwatched;
 
 impl Progress for Unwatched {
-    fn tell(&mut self, _left: usize, _objects: usize) {}
+    fn tell(&mut self, _objects: usize) {}
 }

@@ -39,19 +39,23 @@ fn main() -> ExitCode {
 struct Told {
     /// When a line was written last, or the program began. None: no line is written.
     last: Option<Instant>,
+    /// How many objects were told of.
+    told: usize,
 }
 
 impl Told {
     /// Nothing is told so far.
     fn new() -> Told {
-        Told { last: io::stderr().is_terminal().then(Instant::now) }
+        Told { last: io::stderr().is_terminal().then(Instant::now), told: 0 }
     }
 }
 
 impl Progress for Told {
-    fn tell(&mut self, left: usize, objects: usize) {
+    fn tell(&mut self, objects: usize) {
+        let tried = self.told;
+        self.told = tried.saturating_add(1);
         if self.last.is_some_and(|last| last.elapsed().as_secs() >= 1) {
-            let _ = writeln!(io::stderr(), "pod: {left} of {objects} objects left to try");
+            let _ = writeln!(io::stderr(), "pod: {tried} of {objects} objects tried");
             self.last = Some(Instant::now());
         }
     }

@@ -8,8 +8,8 @@ returns-in-Some g c =
     refused_first c.args.target (g.R.Read.remaining c.args.input.now) (g.S.Files.holds c.args.files.now) c.args.names.now (g.W.Write.contents c.args.device)
     _ (inl (inr (c.in-Some.name, _, refl)))
 
-pub returns-in-Ok : goal.returns-in-Ok
-returns-in-Ok g c =
+pub returns-in-None : goal.returns-in-None
+returns-in-None g c =
     let o = outlet c.args.target (g.W.Write.contents c.args.device) (g.W.Write.contents c.write_as.result.1) (g.S.Files.holds c.args.files.now)
     (g.S.Files.holds c.write_as.new.files) in
     read_again c.write_as.result.0 (g.R.Read.remaining c.args.input.now) _ c.args.names.now o c.requires c.in-Ok.ensures.accepted c.write_as.ensures

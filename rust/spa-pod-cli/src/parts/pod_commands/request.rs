@@ -252,12 +252,32 @@ pub(crate) fn fills_terminal(request: &Request<'_>, screen: Screen) -> bool {
 /// Whether this word writes pods, and no text.
 fn writes_pods(word: Word<'_>) -> bool {
     match word {
-        Word::Make(Making::Read(_), _) => true,
-        Word::Make(Making::Rewrite, _) => true,
-        Word::Make(Making::Fixate, _) => true,
-        Word::Stream(Streaming::Rewrite, _) => true,
+        Word::Print(_, _) => false,
+        Word::Make(making, _) => makes_pods(making),
+        Word::Stream(streaming, _) => streams_pods(streaming),
+        Word::Diff => false,
         Word::Agree(_) => true,
-        _ => false,
+    }
+}
+
+/// Whether this is made of pods.
+fn makes_pods(making: Making) -> bool {
+    match making {
+        Making::Json(_) => false,
+        Making::Read(_) => true,
+        Making::Rewrite => true,
+        Making::Fixate => true,
+        Making::Check => false,
+    }
+}
+
+/// Whether pods are written as inputs come.
+fn streams_pods(streaming: Streaming<'_>) -> bool {
+    match streaming {
+        Streaming::Json(_) => false,
+        Streaming::Rewrite => true,
+        Streaming::Print(_) => false,
+        Streaming::Check => false,
     }
 }
 

@@ -141,20 +141,20 @@ fn rewrite_twice<'a, R: Read, S: Files, W: Write>(
     device: W,
 ) -> (Answer<'a>, W) {
     match check_all(names, input, files) {
-        Ok(()) => {
-            if let Some(name) = emptied(names, files) {
+        Ok(()) => match emptied(names, files) {
+            Some(name) => {
                 let why = Failure::Unread(name, "emptied while it was read");
-                return (Answer::Refused(why), device);
+                (Answer::Refused(why), device)
             }
-            write_as(
+            None => write_as(
                 Streaming::Rewrite,
                 names,
                 target,
                 input,
                 files,
                 device,
-            )
-        }
+            ),
+        },
         Err(why) => (Answer::Refused(why), device),
     }
 }
@@ -231,11 +231,12 @@ fn write_as<'a, R: Read, S: Files, W: Write>(
         device,
         is_written: false,
     };
-    let streamed = stream_all(streaming, names, input, files, &mut output);
-    let Noted { device, is_written } = output;
-    match streamed {
-        Ok(refused) => (shown(refused, looked_for(streaming), is_written), device),
-        Err(why) => (Answer::Refused(why), device),
+    match stream_all(streaming, names, input, files, &mut output) {
+        Ok(refused) => {
+            let Noted { device, is_written } = output;
+            (shown(refused, looked_for(streaming), is_written), device)
+        }
+        Err(why) => (Answer::Refused(why), output.device),
     }
 }
 
@@ -259,24 +260,21 @@ impl<W: Write> Write for Noted<W> {
 /// The name of the keys under which values are looked for.
 fn looked_for<'a>(streaming: Streaming<'a>) -> Option<&'a str> {
     match streaming {
+        Streaming::Json(_) => None,
+        Streaming::Rewrite => None,
         Streaming::Print(printing) => printing.printout.selection.key,
-        _ => None,
+        Streaming::Check => None,
     }
 }
 
 /// The answer where all is written, which may be nothing, so many pods are refused, and values were looked for under keys of this name.
 fn shown<'a>(refused: usize, key: Option<&'a str>, is_written: bool) -> Answer<'a> {
-    if refused > 0 {
+    if refused != 0 {
         return Answer::Shown(refused);
     }
-    match key {
-        Some(name) => missing_unless(is_written, name),
-        None => Answer::Done,
-    }
-}
-
-/// The answer where values were looked for under keys of this name, and some are written, or none.
-fn missing_unless<'a>(is_written: bool, name: &'a str) -> Answer<'a> {
+    let Some(name) = key else {
+        return Answer::Done;
+    };
     if is_written {
         return Answer::Done;
     }

@@ -51,13 +51,11 @@ fn first_pair<P: Progress>(
     theirs: &[ObjectPod<'_>],
     progress: &mut P,
 ) -> Result<Option<Vec<u8>>, FilterError> {
-    let mut left = ours;
-    while let Some((object, behind)) = left.split_first() {
-        progress.tell(left.len(), ours.len());
+    for object in ours {
+        progress.tell(ours.len());
         if let Some(met) = first_with(work, object, theirs)? {
             return Ok(Some(met));
         }
-        left = behind;
     }
     Ok(None)
 }

@@ -80,10 +80,10 @@ enum Met<'a> {
 pub(crate) struct Waiting<'a> {
     /// Whether a key and flags stand before each pod.
     keyed: bool,
+    /// How many bytes of those that are looked at follow the pods that are left.
+    behind: u32,
     /// The pods that are left.
     pods: &'a [u8],
-    /// How many bytes of those that are looked at follow them.
-    behind: u32,
 }
 
 /// The short array, in which no list waits yet.

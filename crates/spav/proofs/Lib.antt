@@ -6,3 +6,4 @@ mod FirstFaults
 mod ItemsRead
 mod Placed
 mod WholePods
+mod Texts

@@ -2,7 +2,7 @@
 ghost use Rattle.std.specs.Prelude.{◌≡◌, ◌≢◌, ◌<◌, ◌≤◌, ◌⊎◌, List, drop, length, take, ℕ};
 ghost use Rattle.spa_bodies.specs.Reading.{Names};
 ghost use Rattle.spa_bodies.specs.Refusing.{Says};
-ghost use Rattle.spa_fixed_sized.specs.declared.fault.DeserializeError.TheVariants as error;
+ghost use Rattle.spa_fixed_sized.specs.declared.fault.DeserializeError.TheVariants as refusal;
 ghost use Rattle.spa_format.specs.Lenient.{ConveyMembers};
 ghost use Rattle.spa_format.specs.Tree.{Trees};
 ghost use Rattle.spa_format.specs.Walk.{walk};
@@ -186,7 +186,7 @@ pub extern "C" fn spav_fault_leniently(
 /// The cause of the refusal of the front of what is left, without its place.
 fn cause_of(left: &[u8], error: DeserializeError<&[u8]>) -> Refusal
     requires { Names (λ fault place. StandsLeniently fault place left.now) error }
-    ensures { Says (λ fault. (place : List ℕ) × StandsLeniently fault place left.now) (error ≡ error.OutOfMemory) result }
+    ensures { Says (λ fault. (place : List ℕ) × StandsLeniently fault place left.now) (error ≡ refusal.OutOfMemory) result }
 {
     match error {
         DeserializeError::Nom(fault) => match fault.kind {

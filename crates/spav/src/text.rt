@@ -1,15 +1,13 @@
 //! Pods as text with names, and back.
-ghost use Rattle.std.specs.Prelude.{◌≡◌, ◌<◌, ◌≤◌, ◌⊎◌, List, length, ℕ};
-ghost use Rattle.std.specs.Str.{IsUtf8};
+ghost use Rattle.std.specs.Prelude.{◌≡◌, ◌<◌, ◌≤◌, List, length, ℕ};
 ghost use Rattle.spa_format.specs.Encoding.{encoding_of};
 ghost use Rattle.spa_format.specs.Front.{Begins, IsRefused};
 ghost use Rattle.spa_format.specs.Tree.{Tree};
 ghost use Rattle.spa_format.specs.Writable.{HasNul, IsTooLarge};
 ghost use Rattle.spa_text_read.specs.Grammar.{IsTextOf};
-ghost use Rattle.spa_text_read.specs.declared.cause.Cause.TheVariants as cause;
 ghost use Rattle.spa_value.specs.View.{view};
 ghost use Rattle.spav.specs.Answers.{IsDone, IsInvalid, IsJsonRead, IsNoMemory, IsNoRoom, IsPast, IsRewritten};
-ghost use Rattle.spav.specs.Text.{IsJsonOf};
+ghost use Rattle.spav.specs.Text.{HasNoPod, IsJsonOf};
 ghost use Rattle.spav.specs.Lists.{IsWritten};
 ghost use Rattle.spav.specs.Reading.{TextIsPut};
 
@@ -68,7 +66,7 @@ pub extern "C" fn spav_from_json(
         × IsWritten (encoding_of value) written.new out.old out.new }
     ensures room { IsNoRoom result → (value : Tree) × IsTextOf value text.now
         × (written.new ≡ length (encoding_of value)) × (length out.old < length (encoding_of value)) }
-    ensures refused { IsInvalid result → ¬ (IsUtf8 text.now) ⊎ ((value : Tree) → IsTextOf value text.now → HasNul value) }
+    ensures refused { IsInvalid result → HasNoPod text.now }
     ensures past { IsPast result → (value : Tree) × IsTextOf value text.now × IsTooLarge value }
     ensures answers { IsJsonRead result }
     ensures unchanged { ¬ (IsDone result) → out.new ≡ out.old }

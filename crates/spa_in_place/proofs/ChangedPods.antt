@@ -1,6 +1,6 @@
 -- Pods that are replaced by their encodings behind canonical ones.
 use Rattle.std.proofs.Common.{◌≡◌, ◌≤◌, ℕ, ◌+◌, ◌-◌, List, [], ◌++◌, length, take, drop, refl, sym, ap, ◌∙◌, subst, arith, length-append, length-drop}
-use Rattle.std.proofs.lemmas.List.{drop-append-le, drop_at, length-take-le, take-append-drop, take-append-le, take_all, take_at}
+use Rattle.std.proofs.lemmas.List.{append-nil, drop-append-le, drop_at, length-take-le, nil_from_length, take-append-drop, take-append-le, take_all, take_at}
 use borrow.Rule.Slice.PartMut.{put_mid}
 use Rattle.spa_format.specs.Encoding.{member_encodings}
 use Rattle.spa_scan.specs.Canonical.{AreCanonical}
@@ -46,6 +46,11 @@ last_moved pods sub now new k len m w y b me e n =
     ∙ take_past (take len now) (take m (drop k now) ++ drop (len + m) now) len (length pods - k) many
     ∙ ap (λ x. take len now ++ x) (take_at (take m (drop k now)) (drop (len + m) now) (length pods - k) size)
     ∙ ap (λ x. x ++ take m (drop k now)) front ∙ ap (λ x. take len sub ++ x) all
+
+-- nothing is left behind canonical pods
+pub all_canonical : (input first others : List ℕ) → input ≡ first ++ others → length others ≡ 0 → AreCanonical first → AreCanonical input
+all_canonical input first others parts z c =
+    subst AreCanonical (sym (parts ∙ ap (λ o. first ++ o) (nil_from_length others z) ∙ append-nil first)) c
 
 -- the first pods are canonical, and those behind them rewritten
 pub behind_first : (input first others old sub out : List ℕ) (k m end : ℕ) → input ≡ first ++ others → AreCanonical first → take (length first) old ≡ first →

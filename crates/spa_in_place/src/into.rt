@@ -24,6 +24,10 @@ pub fn rewrite_into(input: &[u8], out: &mut [u8]) -> Option<usize>
     ensures short { length out.old < length input.now → out.new ≡ out.old }
 {
     let (first, others) = canonical_stretch(input);
+    if others.is_empty() {
+        put_where_it_fits(input, out);
+        return Some(input.len());
+    }
     let Ok(changed) = changed_pods(others) else {
         return None;
     };
@@ -34,6 +38,18 @@ pub fn rewrite_into(input: &[u8], out: &mut [u8]) -> Option<usize>
     put_first(input, out);
     replace_pods(changed, &mut out[first.len()..input.len()]);
     Some(len)
+}
+
+/// Copies bytes to the front of an output that is as long or longer; of a shorter one nothing changes.
+#[inline(always)]
+fn put_where_it_fits(bytes: &[u8], out: &mut [u8])
+    ensures copied { length bytes.now ≤ length out.old → out.new ≡ bytes.now ++ drop (length bytes.now) out.old }
+    ensures behind { drop (length bytes.now) out.new ≡ drop (length bytes.now) out.old }
+    ensures unchanged { length out.old < length bytes.now → out.new ≡ out.old }
+{
+    if bytes.len() <= out.len() {
+        put_first(bytes, out);
+    }
 }
 
 /// Copies bytes to the front of an output, where there are any.

@@ -1,7 +1,7 @@
-use Rattle.std.proofs.Common.{◌≡◌, ◌+◌, ◌++◌, ◌-◌, ◌∙◌, ap, arith, drop, length, length-append, refl, rules, subst, sym, take}
+use Rattle.std.proofs.Common.{◌≡◌, ◌+◌, ◌-◌, ◌∙◌, ap, arith, drop, length, length-append, refl, rules, subst, sym, take}
 use Rattle.std.specs.Prelude.{[], Some, vec_len}
 use Rattle.std.proofs.lemmas.Bool.{eqb-true}
-use Rattle.std.proofs.lemmas.List.{append-nil, nil_from_length, take_all, take_at, take_rest}
+use Rattle.std.proofs.lemmas.List.{take_all, take_at, take_rest}
 use Rattle.spa_scan.specs.Depth.{levels_looked_into}
 use Rattle.spa_rewrite.specs.Rewriting.{AreRewritten, RefusesFront}
 use Rattle.spa_rewrite.specs.Look.{AreChanged, IsRejected}
@@ -12,7 +12,7 @@ use Rattle.spa_rewrite.proofs.Changed.{changed_shorter}
 use Rattle.spa_rewrite.proofs.ShorterLemmas.{within_behind}
 use Rattle.spa_rewrite.proofs.Stretches.{canonical_rewritten, list_refused}
 use Rattle.spa_in_place.specs.InPlace.{RefusesListAt, moved}
-use Rattle.spa_in_place.proofs.ChangedPods.{behind_first}
+use Rattle.spa_in_place.proofs.ChangedPods.{all_canonical, behind_first}
 use Rattle.spa_in_place.proofs.InPlaceLemmas.{asks_behind, deep_memory, left_behind, offset_known, offset_unknown, others_left, refused_behind, rewritten_room}
 use Rattle.spa_in_place.proofs.in_place.rewrite_in_place.Goals as goal
 
@@ -20,10 +20,9 @@ pub returns-then-is_empty-clause-rewritten : goal.returns-then-is_empty-clause-r
 returns-then-is_empty-clause-rewritten c =
     let bytes = c.args.bytes.now in
     let first = c.canonical_stretch.result.0.now in
-    let none = nil_from_length _ (eqb-true _ _ (sym c.is_empty.ensures ∙ c.if-is_empty.true)) in
-    let all : bytes ≡ first = c.canonical_stretch.ensures.parts ∙ ap (λ o. first ++ o) none ∙ append-nil first in
-    subst (AreRewritten bytes []) (sym (take_all (length bytes) bytes (omega arith)))
-    (subst (λ x. AreRewritten x [] x) (sym all) (canonical_rewritten first c.canonical_stretch.ensures.canonical))
+    let none = eqb-true _ _ (sym c.is_empty.ensures ∙ c.if-is_empty.true) in
+    let all = all_canonical bytes first _ c.canonical_stretch.ensures.parts none c.canonical_stretch.ensures.canonical in
+    subst (AreRewritten bytes []) (sym (take_all (length bytes) bytes (omega arith))) (canonical_rewritten bytes all)
 
 pub replace_pods-requires : goal.replace_pods-requires
 replace_pods-requires c =

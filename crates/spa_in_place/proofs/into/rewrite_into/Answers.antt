@@ -1,16 +1,32 @@
 use Rattle.std.proofs.Common.{◌-◌, ◌∙◌, ap, arith, drop, length, length-append, refl, subst, sym, take}
 use Rattle.std.specs.Prelude.{[]}
-use Rattle.std.proofs.lemmas.List.{drop_at}
+use Rattle.std.proofs.lemmas.Bool.{eqb-true}
+use Rattle.std.proofs.lemmas.List.{drop_at, take_at}
 use Rattle.std.proofs.lemmas.Slice.{drop-put_mid}
 use Rattle.spa_scan.specs.Depth.{levels_looked_into}
 use Rattle.spa_rewrite.specs.Shorter.{ArePodsWithin}
 use Rattle.spa_rewrite.proofs.Changed.{changed_shorter}
 use Rattle.spa_rewrite.proofs.ShorterLemmas.{shorter_behind, within_behind}
+use Rattle.spa_rewrite.proofs.Stretches.{canonical_rewritten}
 use Rattle.spa_rewrite.specs.Look.{AreChanged}
 use Rattle.spa_rewrite.specs.Rewriting.{AreRewritten}
-use Rattle.spa_in_place.proofs.ChangedPods.{behind_first, copy_room, first_copied, others_copied}
+use Rattle.spa_in_place.proofs.ChangedPods.{all_canonical, behind_first, copy_room, first_copied, others_copied}
 use Rattle.spa_in_place.proofs.InPlaceLemmas.{into_counted}
 use Rattle.spa_in_place.proofs.into.rewrite_into.Goals as goal
+
+pub returns-then-is_empty-clause-counted : goal.returns-then-is_empty-clause-counted
+returns-then-is_empty-clause-counted c =
+    let none = eqb-true _ _ (sym c.is_empty.ensures ∙ c.if-is_empty.true) in
+    let all = all_canonical c.args.input.now _ _ c.canonical_stretch.ensures.parts none c.canonical_stretch.ensures.canonical in
+    record { values = all.values; members = all.members; long = ap length all.same }
+
+pub returns-then-is_empty-clause-rewritten : goal.returns-then-is_empty-clause-rewritten
+returns-then-is_empty-clause-rewritten c = λ room.
+    let input = c.args.input.now in
+    let none = eqb-true _ _ (sym c.is_empty.ensures ∙ c.if-is_empty.true) in
+    let all = all_canonical input _ _ c.canonical_stretch.ensures.parts none c.canonical_stretch.ensures.canonical in
+    subst (AreRewritten input []) (sym (ap (take (length input)) (c.put_where_it_fits.ensures.copied room) ∙ take_at input _ (length input) refl))
+    (canonical_rewritten input all)
 
 pub returns-in_default-clause-missed : goal.returns-in_default-clause-missed
 returns-in_default-clause-missed c = λ w.

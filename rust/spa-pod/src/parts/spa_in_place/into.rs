@@ -12,6 +12,10 @@ use crate::parts::spa_rewrite::{canonical_stretch, changed_pods};
 /// nothing.
 pub fn rewrite_into(input: &[u8], out: &mut [u8]) -> Option<usize> {
     let (first, others) = canonical_stretch(input);
+    if others.is_empty() {
+        put_where_it_fits(input, out);
+        return Some(input.len());
+    }
     let Ok(changed) = changed_pods(others) else {
         return None;
     };
@@ -22,6 +26,14 @@ pub fn rewrite_into(input: &[u8], out: &mut [u8]) -> Option<usize> {
     put_first(input, out);
     replace_pods(changed, &mut out[first.len()..input.len()]);
     Some(len)
+}
+
+/// Copies bytes to the front of an output that is as long or longer; of a shorter one nothing changes.
+#[cfg_attr(not(debug_assertions), inline(always))]
+fn put_where_it_fits(bytes: &[u8], out: &mut [u8]) {
+    if bytes.len() <= out.len() {
+        put_first(bytes, out);
+    }
 }
 
 /// Copies bytes to the front of an output, where there are any.

@@ -1,8 +1,8 @@
 -- Why pods aren't rewritten in place; and what was written elsewhere and copied back.
-use Rattle.std.proofs.Common.{◌≡◌, ℕ, ◌+◌, ◌-◌, ◌≤◌, List, [], ◌++◌, length, take, drop, refl, sym, ap, ◌∙◌, subst, arith, length-append}
+use Rattle.std.proofs.Common.{◌≡◌, ℕ, ◌+◌, ◌-◌, ◌≤◌, List, [], ◌++◌, length, drop, refl, sym, ap, ◌∙◌, subst, arith, length-append}
 use Rattle.std.specs.Borrow.{Bor}
 use Rattle.std.specs.Prelude.{Option, Some, None}
-use Rattle.std.proofs.lemmas.List.{drop_at, take_at}
+use Rattle.std.proofs.lemmas.List.{drop_at}
 use Rattle.spa_format.specs.Faults.{Short, Text}
 use Rattle.spa_format.proofs.Short.{short_members}
 use Rattle.spa_fixed_sized.specs.declared.fault.DeserializeError.{DeserializeError}

@@ -10,7 +10,7 @@ use Rattle.spa_format.specs.Pod.{AreMembers}
 use Rattle.spa_bodies.specs.Reading.{NamesFaultKind, OnFault}
 use Rattle.spa_rewrite.specs.Memory.{AsksMemory}
 use Rattle.spa_rewrite.specs.Offsets.{StandsAt, from_pod}
-use Rattle.spa_rewrite.specs.Rewriting.{AreRewritten, IsLeft, RefusesFront}
+use Rattle.spa_rewrite.specs.Rewriting.{IsLeft, RefusesFront}
 
 -- the first refusal has the cause of the second one, whose place is given by bytes
 abbrev pub IsFaultOf : {I : Type 0} → DeserializeError I → DeserializeError (Bor (List ℕ)) → Type 0

@@ -1,5 +1,5 @@
 -- Why a list of pods isn't rewritten in place, and why an input that conveys no values isn't.
-use Rattle.std.proofs.Common.{◌≡◌, ℕ, ◌-◌, ◌<◌, inl, inr, List, length, take, drop, refl, sym, ap, subst, ◌∙◌, arith, length-append, length-drop}
+use Rattle.std.proofs.Common.{◌≡◌, ◌≢◌, ℕ, ◌-◌, ◌<◌, inl, inr, List, length, take, drop, refl, sym, ap, subst, ◌∙◌, arith, length-append, length-drop}
 use Rattle.std.specs.Prelude.{⊤, Option, codes}
 use Rattle.std.specs.Borrow.{Bor}
 use Rattle.std.proofs.lemmas.Bool.{cases_lt}
@@ -15,7 +15,13 @@ use Rattle.spa_read.specs.Reading.{ConveysNothing}
 use Rattle.spa_lenient.specs.Rewriting.{RefusesList}
 use Rattle.spa_lenient.specs.Rewriting as lenient
 use Rattle.spa_lenient.proofs.Causes.{named_memory}
-use Rattle.spav.specs.Lenient.{NoneAreConveyed}
+use Rattle.spa_fixed_sized.specs.declared.fault.Refusal.{Refusal}
+use Rattle.spa_fixed_sized.specs.declared.fault.Refusal.TheVariants as refusal
+use Rattle.spa_format.specs.Faults.{Fault, Short, Text, InvalidType, InvalidChoiceType, MissingChoiceValues, WrongSize}
+use Rattle.spa_bodies.specs.Refusing.{Says}
+use Rattle.spa_read.specs.Reading.{StandsLeniently}
+use Rattle.spav.specs.Faults.{fault_number}
+use Rattle.spav.specs.Lenient.{FaultStandsLeniently, NoneAreConveyed}
 use Rattle.spav.specs.Lists.{IsForBytes, ListIsRefused}
 
 for_bytes : {I : Type 0} (e : DeserializeError I) → IsForBytes e → e ≡ error.OutOfMemory → ⊥
@@ -101,3 +107,34 @@ none_conveyed_at input at e r b =
     ] in
     let n : length input - length left ≡ at = omega arith in
     subst (NoneAreConveyed input) n (none_there input left r.placed r.list (λ o. named e b (r.same ∙ ap kind_text o)))
+
+-- the fault that a refusal of bytes names stands where no value is conveyed
+
+left_there : (input left : List ℕ) (e : DeserializeError (Bor (List ℕ))) → RefusesList input left e → drop (length input - length left) input ≡ left
+left_there input left e r =
+    let l = r.behind in
+    let at = length input - length left in
+    let s = ap length l.2 ∙ length-append l.1 left in
+    let long : length l.1 ≡ at = omega arith in
+    ap (drop at) l.2 ∙ drop_at l.1 left at long
+
+stands_there : (input left : List ℕ) (e : DeserializeError (Bor (List ℕ))) (k : Fault) (kind : ℕ) → RefusesList input left e → IsForBytes e →
+    (place : List ℕ) × StandsLeniently k place left → kind ≡ fault_number k → FaultStandsLeniently input kind (length input - length left)
+stands_there input left e k kind r b s n = record {
+  none = none_conveyed input left e r b;
+  fault = k;
+  its_kind = n;
+  place = s.0;
+  found = subst (StandsLeniently k s.0) (sym (left_there input left e r)) s.1;
+}
+
+pub fault_conveyed : (input left : List ℕ) (e : DeserializeError (Bor (List ℕ))) (why : Refusal) (kind : ℕ) → RefusesList input left e → IsForBytes e →
+    Says (λ k. (place : List ℕ) × StandsLeniently k place left) ⊤ why → Says (λ k. kind ≡ fault_number k) ⊥ why →
+    FaultStandsLeniently input kind (length input - length left)
+fault_conveyed input left e refusal.Short kind r b s n = stands_there input left e Short kind r b s n
+fault_conveyed input left e refusal.Text kind r b s n = stands_there input left e Text kind r b s n
+fault_conveyed input left e refusal.InvalidType kind r b s n = stands_there input left e InvalidType kind r b s n
+fault_conveyed input left e refusal.InvalidChoiceType kind r b s n = stands_there input left e InvalidChoiceType kind r b s n
+fault_conveyed input left e refusal.MissingChoiceValues kind r b s n = stands_there input left e MissingChoiceValues kind r b s n
+fault_conveyed input left e refusal.WrongSize kind r b s n = stands_there input left e WrongSize kind r b s n
+fault_conveyed input left e refusal.OutOfMemory kind r b s n = absurd n

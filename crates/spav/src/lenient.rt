@@ -1,8 +1,8 @@
 //! Inputs in the lenient reading: rewritten into the caller's memory or in place, checked, and read.
-ghost use Rattle.std.specs.Prelude.{◌≡◌, ◌≢◌, ◌<◌, ◌≤◌, ◌⊎◌, List, drop, length, take, ℕ};
+ghost use Rattle.std.specs.Prelude.{◌≡◌, ◌≢◌, ◌<◌, ◌≤◌, ◌⊎◌, List, drop, length, take, ⊤, ℕ};
 ghost use Rattle.spa_bodies.specs.Reading.{Names};
 ghost use Rattle.spa_bodies.specs.Refusing.{Says};
-ghost use Rattle.spa_fixed_sized.specs.declared.fault.DeserializeError.TheVariants as refusal;
+ghost use Rattle.spa_fixed_sized.specs.declared.fault.Refusal.TheVariants as refusal;
 ghost use Rattle.spa_format.specs.Lenient.{ConveyMembers};
 ghost use Rattle.spa_format.specs.Tree.{Trees};
 ghost use Rattle.spa_format.specs.Walk.{walk};
@@ -12,6 +12,7 @@ ghost use Rattle.spa_rewrite.specs.Shorter.{ArePodsWithin};
 ghost use Rattle.spa_scan.specs.Depth.{NestsDeeper, SomeOf, levels_looked_into};
 ghost use Rattle.spav.specs.Answers.{IsAsked, IsChecked, IsDone, IsInvalid, IsNoMemory, IsNoRoom, IsReadLeniently, IsRewritten, IsTooDeep};
 ghost use Rattle.spav.specs.Items.{ArePast, AreRead};
+ghost use Rattle.spav.specs.Lists.{IsForBytes};
 ghost use Rattle.spav.specs.Lenient.{ConveyedIsWritten, ConveyedLacksRoom, FaultStandsLeniently, NoneAreConveyed};
 
 use crate::answers::{DONE, INVALID, NO_MEMORY, NO_ROOM, TOO_DEEP};
@@ -168,25 +169,45 @@ pub extern "C" fn spav_fault_leniently(
     ensures unchanged { IsNoMemory result → (kind.new ≡ kind.old) × (top.new ≡ top.old) }
     ensures kept_without { IsDone result → kind.new ≡ 0 → top.new ≡ top.old }
 {
-    let (left, why) = match rewrite_into_leniently(alloc, input, &mut []) {
+    match rewrite_into_leniently(alloc, input, &mut []) {
         Ok(_) => {
             *kind = NO_FAULT;
-            return DONE;
+            DONE
         }
-        Err((left, error)) => (left, cause_of(left, error)),
-    };
-    if why == Refusal::OutOfMemory {
-        return NO_MEMORY;
+        Err((left, error)) => fault_named(input, left, error, kind, top),
     }
-    *kind = number_of(why);
-    *top = input.len() - left.len();
-    DONE
+}
+
+/// The answer to a refusal; `kind` is the fault that it names, and `top` the byte at which no value is conveyed.
+#[tactic(auto, using(crate::proofs::Refusals::fault_conveyed))]
+fn fault_named(
+    input: &[u8],
+    left: &[u8],
+    error: DeserializeError<&[u8]>,
+    kind: &mut u32,
+    top: &mut usize,
+) -> i32
+    requires { RefusesList input.now left.now error }
+    ensures fault { IsDone result → FaultStandsLeniently input.now kind.new top.new }
+    ensures some { IsDone result → kind.new ≢ 0 }
+    ensures answers { IsAsked result }
+    ensures unchanged { IsNoMemory result → (kind.new ≡ kind.old) × (top.new ≡ top.old) }
+{
+    match cause_of(left, error) {
+        Refusal::OutOfMemory => NO_MEMORY,
+        why => {
+            *kind = number_of(why);
+            *top = input.len() - left.len();
+            DONE
+        }
+    }
 }
 
 /// The cause of the refusal of the front of what is left, without its place.
 fn cause_of(left: &[u8], error: DeserializeError<&[u8]>) -> Refusal
     requires { Names (λ fault place. StandsLeniently fault place left.now) error }
-    ensures { Says (λ fault. (place : List ℕ) × StandsLeniently fault place left.now) (error ≡ refusal.OutOfMemory) result }
+    ensures said { Says (λ fault. (place : List ℕ) × StandsLeniently fault place left.now) ⊤ result }
+    ensures bytes { result ≢ refusal.OutOfMemory → IsForBytes error.entry }
 {
     match error {
         DeserializeError::Nom(fault) => match fault.kind {

@@ -102,19 +102,31 @@ pub fn spav_fault_leniently(
     kind: &mut u32,
     top: &mut usize,
 ) -> i32 {
-    let (left, why) = match rewrite_into_leniently(input, &mut []) {
+    match rewrite_into_leniently(input, &mut []) {
         Ok(_) => {
             *kind = NO_FAULT;
-            return DONE;
+            DONE
         }
-        Err((left, error)) => (left, cause_of(left, error)),
-    };
-    if why == Refusal::OutOfMemory {
-        return NO_MEMORY;
+        Err((left, error)) => fault_named(input, left, error, kind, top),
     }
-    *kind = number_of(why);
-    *top = input.len() - left.len();
-    DONE
+}
+
+/// The answer to a refusal; `kind` is the fault that it names, and `top` the byte at which no value is conveyed.
+fn fault_named(
+    input: &[u8],
+    left: &[u8],
+    error: DeserializeError<&[u8]>,
+    kind: &mut u32,
+    top: &mut usize,
+) -> i32 {
+    match cause_of(left, error) {
+        Refusal::OutOfMemory => NO_MEMORY,
+        why => {
+            *kind = number_of(why);
+            *top = input.len() - left.len();
+            DONE
+        }
+    }
 }
 
 /// The cause of the refusal of the front of what is left, without its place.

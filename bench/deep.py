@@ -62,13 +62,15 @@ def text_of(nest, levels):
 
 def calls(nest, levels):
     """The calls by name, each with its input and the number that it comes to."""
-    whole, other = nest(levels, TRUE), nest(levels, FALSE)
+    whole, other, unknown = (nest(levels, inner) for inner in (TRUE, FALSE, UNKNOWN))
     size = len(whole)
     pods = 1 + levels * (2 if nest is followed else 1)
     keyed, member = objects(1, whole), structs(1, whole)
     rows = {
         "read": (whole, size),
         "struct": (member, len(member)),
+        "skipped": (member, len(member)),
+        "passed": (keyed, len(keyed)),
         "held": (whole, 0),
         "discard": (whole, 0),
         "clone": (whole, 0),
@@ -94,6 +96,8 @@ def calls(nest, levels):
         "leniently": (whole, size),
         "counted": (whole, pods),
         "accept_all": (whole, size),
+        "find_fault": (whole, size),
+        "find_fault, innermost is unknown": (unknown, unknown.rindex(UNKNOWN)),
         "is_canonical": (whole, 1),
         "nests_within": (whole, 0),
         "any_depth": (whole, 1),

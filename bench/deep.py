@@ -23,7 +23,8 @@ HEADER, KEYED = 8, 24
 STACK = 2 << 20
 TRUE, SEVEN, FALSE, UNKNOWN = (struct.pack("<4I", 4, type_, word, 0) for type_, word in ((2, 1), (2, 7), (2, 0), (21, 7)))
 NONE = struct.pack("<2I", 0, 1)
-MOST, ROUNDS, TRIES = 20, 3, 5
+# A tenth of the levels counts as LEAST ms where it takes fewer: so little may stand in caches, where ten times as much doesn't.
+MOST, LEAST, ROUNDS, TRIES = 20, 0.25, 3, 5
 
 
 def structs(levels, inner):
@@ -199,7 +200,7 @@ def compare(few, many, once):
         fewer, more = ([once(*row) for _ in range(ROUNDS)] for row in (few, many))
         short, long = (min(least, *(it[0] for it in runs)) for least, runs in ((short, fewer), (long, more)))
         right = right and all(it[1] for it in (*fewer, *more))
-        if long <= MOST * max(short, 0.05):
+        if long <= MOST * max(short, LEAST):
             return short, long, right
     return short, long, False
 

@@ -20,8 +20,8 @@ loop-first-init c = record {
   within = omega arith;
 }
 
-pub loop-first-preserved-in-Some-inner : goal.loop-first-preserved-in-Some-inner
-loop-first-preserved-in-Some-inner c =
+pub loop-first-preserved : goal.loop-first-preserved
+loop-first-preserved c =
     let l = c.loop-first in
     let i = l.invariant in
     let f = c.in-Some.ensures.first in
@@ -73,8 +73,8 @@ loop-first-preserved-in-Some-inner c =
           (within_more _ _ _ behind around ends (subst (λ e. AreWithin (length c.args.pods.now) e around) same_end i.within));
     }
 
-pub loop-first-preserved-in-None-inner : goal.loop-first-preserved-in-None-inner
-loop-first-preserved-in-None-inner c =
+pub loop-first-preserved-in_default-inner : goal.loop-first-preserved-in_default-inner
+loop-first-preserved-in_default-inner c =
     let l = c.loop-first in
     let i = l.invariant in
     let f = c.in-Some.ensures.first in
@@ -93,7 +93,7 @@ loop-first-preserved-in-None-inner c =
     let same_end : end ≡ at + length c.in-Some.first.rest.now = omega arith in
     let same : inner_items (levels - 1) (depth + 1) c.list_pod-listed.result.inner ++ (rest ++ others)
     ≡ rest ++ waiting_items c.args.levels (at + length c.in-Some.first.rest.now) around =
-    ap (λ o. inner_items (levels - 1) (depth + 1) o ++ (rest ++ others)) c.in-None-inner.is
+    ap (λ o. inner_items (levels - 1) (depth + 1) o ++ (rest ++ others)) c.in_default-inner.is
     ∙ ap (λ e. rest ++ waiting_items c.args.levels e around) same_end in
     record {
       put =
@@ -110,13 +110,13 @@ pub returns-then-depth-eq0 : goal.returns-then-depth-eq0
 returns-then-depth-eq0 c =
     let l = c.loop-first in
     let end = l.level.at + length l.level.pods.now in
-    let none = none_listed (c.args.levels - l.depth) l.depth _ l.level.at _ c.in-None.ensures.none in
+    let none = none_listed (c.args.levels - l.depth) l.depth _ l.level.at _ c.in_default.ensures.none in
     all_put _ _ _ _ _ _ l.invariant.put
     (ap (λ xs. xs ++ waiting_items c.args.levels end (waiting_in l.outer l.depth)) none
     ∙ ap (λ d. waiting_items c.args.levels end (waiting_in l.outer d)) c.if-depth-eq0.true)
 
-pub loop-first-preserved : goal.loop-first-preserved
-loop-first-preserved c =
+pub loop-first-preserved-in_default : goal.loop-first-preserved-in_default
+loop-first-preserved-in_default c =
     let l = c.loop-first in
     let i = l.invariant in
     let some = c.if-depth-eq0.false in
@@ -132,7 +132,7 @@ loop-first-preserved c =
     let inside : AreWithin (length c.args.pods.now) end (get_or l.outer fewer none ∷ waiting_in l.outer fewer) =
     subst (AreWithin (length c.args.pods.now) end) p i.within in
     let room = i.room in
-    let ended = none_listed (c.args.levels - l.depth) l.depth _ l.level.at _ c.in-None.ensures.none in
+    let ended = none_listed (c.args.levels - l.depth) l.depth _ l.level.at _ c.in_default.ensures.none in
     let f = get_or l.outer fewer none in
     let at : padded_size end ≡ c.behind_padding.result = sym c.behind_padding.ensures in
     let within = subst (λ x. AreWithin (length c.args.pods.now) (x + length f.pods.now) (waiting_in l.outer fewer)) at inside.1 in

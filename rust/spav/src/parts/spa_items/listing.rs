@@ -94,41 +94,35 @@ fn list_pods<'a>(pods: &'a [u8], out: &mut [Item], outer: &mut [Inside<'a>], lev
         pods,
     };
     loop {
-        match first_pod(level.keyed, level.pods) {
-            Some(first) => {
-                let listed = list_pod(out, place, levels - depth, depth, level, first);
-                place = listed.place;
-                match listed.inner {
-                    Some(inner) => {
-                        outer[depth] = Inside {
-                            keyed: level.keyed,
-                            pods: first.rest,
-                        };
-                        depth += 1;
-                        level = inner;
-                    }
-                    None => {
-                        level = Level {
-                            at: level.at + (level.pods.len() - first.rest.len()),
-                            pods: first.rest,
-                            ..level
-                        };
-                    }
-                }
+        let Some(first) = first_pod(level.keyed, level.pods) else {
+            if depth == 0 {
+                return place;
             }
-            None => {
-                if depth == 0 {
-                    return place;
-                }
-                depth -= 1;
-                let around = outer[depth];
-                level = Level {
-                    keyed: around.keyed,
-                    at: behind_padding(level.at + level.pods.len()),
-                    pods: around.pods,
-                };
-            }
-        }
+            depth -= 1;
+            let around = outer[depth];
+            level = Level {
+                keyed: around.keyed,
+                at: behind_padding(level.at + level.pods.len()),
+                pods: around.pods,
+            };
+            continue;
+        };
+        let listed = list_pod(out, place, levels - depth, depth, level, first);
+        place = listed.place;
+        let Some(inner) = listed.inner else {
+            level = Level {
+                at: level.at + (level.pods.len() - first.rest.len()),
+                pods: first.rest,
+                ..level
+            };
+            continue;
+        };
+        outer[depth] = Inside {
+            keyed: level.keyed,
+            pods: first.rest,
+        };
+        depth += 1;
+        level = inner;
     }
 }
 

@@ -88,7 +88,6 @@ def calls(nest, levels):
         "rewrite, innermost isn't its own": (nest(levels, SEVEN), size),
         "rewrite_all": (whole, size),
         "rewrite_in_place": (nest(levels, SEVEN), size),
-        "rewrite_in_parts": (whole, size),
         "rewrite_into": (whole, None),
         "rewrite_leniently": (whole, size),
         "rewrite_all_leniently": (nest(levels, SEVEN), size),

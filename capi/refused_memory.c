@@ -160,7 +160,7 @@ static void refuse_deep(bool may_ask) {
 	SEE(may_ask == (refuse_at > 1));
 }
 
-/* A choice that gets shorter, deep in structs, alone or with an Int behind each: past 1000 levels it is rewritten by means of memory. */
+/* A choice that gets shorter, deep in structs: alone it asks for no memory; with an Int behind each, past 1000 levels, the look asks for it. */
 static void refuse_deep_in_place(void) {
 	enum { LEVELS = 1200, FEW = 8 * LEVELS + 40, MANY = FEW + 16 * LEVELS };
 	static const uint32_t shrinking[] = { 28, 19, 0, 5, 4, 4, 1, 2, 3, 0 }, number[] = { 4, 4, 7, 0 };
@@ -170,8 +170,8 @@ static void refuse_deep_in_place(void) {
 		deep[2 * i + 1] = 14;
 	}
 	memcpy(deep + 2 * LEVELS, shrinking, sizeof shrinking);
-	refuse_in_place(spav_rewrite_in_place, deep, FEW, true);
-	refuse_in_place(spav_rewrite_in_place_leniently, deep, FEW, true);
+	refuse_in_place(spav_rewrite_in_place, deep, FEW, false);
+	refuse_in_place(spav_rewrite_in_place_leniently, deep, FEW, false);
 	for (uint32_t i = 0; i < LEVELS; i++) {
 		deep[2 * i] = MANY - 24 * i - 8;
 		memcpy(deep + FEW / 4 + 4 * i, number, sizeof number);

@@ -52,10 +52,20 @@ CALLS = re.compile(r"it calls (.*), which (?:is|are) not proved")
 
 
 @dataclasses.dataclass
+class Written:
+    """An edit as it is written: its name, the promise that it breaks, where one is named, and its lines 'file:', 'old:' and 'new:'."""
+
+    name: str
+    promise: str
+    lines: list
+
+
+@dataclasses.dataclass
 class Edit:
     """A wrong change of a crate: the texts that it replaces, in order, as (file, old, new)."""
 
     name: str
+    promise: str
     changes: list
     # The functions that it changes, as (file, name); the name is empty where a line is in no function.
     functions: set
@@ -108,10 +118,24 @@ def listed(root):
     return lines
 
 
-def changes_in(text):
-    """The changes that the text of an edit names."""
+def written(root, name):
+    """The edits of edits/NAME.edits, in their order: paragraphs whose first line is 'NAME' or 'NAME: PROMISE'."""
+    file = root / f"edits/{name}.edits"
+    text = file.read_text(encoding="utf-8").strip("\n") if file.is_file() else ""
+    parts = [it.split("\n") for it in re.split(r"\n{2,}", text) if it]
+    return [Written(*map(str.strip, head.partition(":")[::2]), lines) for head, *lines in parts]
+
+
+def written_for_gate(root, name):
+    """The edits that the gate tries one by one: each a file of its own, whose name is the edit's."""
+    files = sorted(root.glob(f"crates/{name}/must-fail/*.edit"))
+    return [Written(it.stem, "", it.read_text(encoding="utf-8").rstrip("\n").split("\n")) for it in files]
+
+
+def changes_in(lines):
+    """The changes that the lines of an edit name."""
     changes, path, old = [], "", None
-    for line in text.split("\n"):
+    for line in lines:
         if line.startswith("file: "):
             path = line[len("file: ") :].strip()
         elif line.startswith("old: "):
@@ -164,20 +188,19 @@ class Crate:
         return [it for it in self.lines if it in found]
 
     def edits(self, without_the_gates):
-        """The edits in order of their names, with those that the gate tries one by one, or without them."""
-        files = [*self.root.glob(f"edits/{self.name}/*.edit")]
-        files += [] if without_the_gates else self.folder.glob("must-fail/*.edit")
-        return [self.edit(file) for file in sorted(files, key=lambda it: it.name)]
+        """The edits, with those that the gate tries one by one, or without them."""
+        gates = [] if without_the_gates else written_for_gate(self.root, self.name)
+        return [self.edit(it) for it in (*written(self.root, self.name), *gates)]
 
-    def edit(self, file):
-        changes, functions, texts = changes_in(file.read_text(encoding="utf-8")), set(), {}
+    def edit(self, it):
+        changes, functions, texts = changes_in(it.lines), set(), {}
         for path, old, new in changes:
             text = texts.get(path) or self.text_of(path)
             before = text[: text.index(old)]
             name = function_at(text.split("\n"), before.count("\n")) if path.startswith("src/") else ""
             functions.add((path, name))
             texts[path] = text.replace(old, new)
-        return Edit(f"{self.name}/{file.stem}", changes, functions, is_alone=("" in {it[1] for it in functions}))
+        return Edit(f"{self.name}/{it.name}", it.promise, changes, functions, is_alone=("" in {it[1] for it in functions}))
 
     def applied(self, edits):
         """The texts of the files that these edits change; None where one doesn't fit what those before it left."""

@@ -17,7 +17,7 @@ from crates import WHOLE, crates_of_packages
 GHOST_ATTRIBUTES = {'tactic', 'cycle', 'derive_where', 'rattlefmt'}
 MEMORY = r'(?:[&*] )*(?:(?:\w+ \. )+alloc(?: \( \))?|(?:\w+ \. )+allocator \( \)|self \. rt|rt|alloc|\$ alloc|Global)'
 TYPED = r'(?:mut )?_?alloc : (?:Global|%s)|rt : (?:&? ?HostRuntime|& impl Abort)|%s' % (MEMORY, MEMORY)
-RENAMED = [('push', 'try_push'), ('push_reserved', 'push'), ('reserve', 'make_room'), ('insert', 'try_insert'), ('resize', 'try_resize'),
+RENAMED = [('push', 'try_push'), ('reserve', 'make_room'), ('insert', 'try_insert'), ('resize', 'try_resize'),
            ('extend_from_slice', 'try_extend_from_slice'), ('push_str', 'try_push_str'), ('split_off', 'try_split_off'),
            ('repeat', 'try_repeat'), ('append', 'try_append'), ('with_capacity', 'with_room'), ('from_slice', 'try_from_slice'), ('reserve_exact', 'make_room_exact'),
            ('from_str', 'try_from_str'), ('from_array', 'try_from_array'), ('collect', 'try_to_vec'), ('to_vec', 'try_to_vec')]
@@ -86,7 +86,7 @@ RULES = [
     ('asserted', r'', r'assert ! \( [^;]* \) ;'),
     ('inlined', r'', r'# [ cfg_attr ( not ( debug_assertions ) , inline ( always ) ) ]'),
     ('inlined', r'', r'# [ inline ]'),
-    ('inlined', r'# \[ inline \( always \) \]', r'# [ cfg_attr ( not ( debug_assertions ) , inline ( always ) ) ]'),
+    ('inlined', r'# \[ inline \( (?:always|never) \) \]', r'# [ cfg_attr ( not ( debug_assertions ) , inline ( always ) ) ]'),
     ('surface', r'', r'# \[ (?:derive \( (?:Debug|Clone|Eq|Hash|Default) \)|cfg_attr \( not \( feature = "parts" \) , non_exhaustive \)|must_use) \]'),
     ('printed floats', r'# \[ derive \( Clone , Copy , Debug ,', r'# [ cfg_attr ( feature = "parts" , derive ( Debug ) ) ] # [ derive ( Clone , Copy ,'),
     ('bounded reads', r'deserialize_any(|_from|_leniently_from|_counted) \(', r'deserialize_any\1_unbounded ('),
@@ -94,6 +94,8 @@ RULES = [
      r'type Content = crate : : api : : levels : : Unbounded ; '
      r'fn of_content ( given : crate : : api : : levels : : Unbounded ) - > Held { Held : : from ( given . 0 ) }'),
     ('bounded reads', r'"InvalidType" , "a deep value"', r'"TooDeep" , "a deep value"'),
+    ('texts that are read', r'text_of \( body \) else \{ return Err \( Refusal : : Text \) ; \} ; Ok \( String : : from_str \( alloc , text \) \? \)',
+     r'crate : : shims : : memory : : try_text_of ( body ) ? else { return Err ( Refusal : : Text ) ; } ; Ok ( text )'),
     ('32 bits', r'', r'if size as usize > crate : : shims : : extents : : MOST { return crate : : shims : : extents : : BEYOND ; }'),
     ('32 bits', r'FOUR_WORDS as usize \+ size as usize', r'( FOUR_WORDS as usize ) . saturating_add ( size as usize )'),
     ('32 bits', r'HEADER_LEN \+ most \* u32_at \( values , 0 \) as usize',

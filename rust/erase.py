@@ -19,7 +19,7 @@ TYPED = r'(?:%s\s*:\s*(?:Global|&?HostRuntime|&impl Abort|%s)|%s)' % (MEMORY, ME
 
 # Methods of std that may be refused memory, as the module `memory` names them.
 FALLIBLE = {
-    'push': 'try_push', 'push_reserved': 'push', 'reserve': 'make_room', 'insert': 'try_insert', 'resize': 'try_resize',
+    'push': 'try_push', 'reserve': 'make_room', 'insert': 'try_insert', 'resize': 'try_resize',
     'extend_from_slice': 'try_extend_from_slice', 'push_str': 'try_push_str', 'split_off': 'try_split_off',
     'repeat': 'try_repeat', 'clone': 'try_clone', 'reserve_exact': 'make_room_exact',
 }
@@ -317,7 +317,7 @@ ASSERTED = {
 
 
 # Functions of a file whose calls cost as much as what they do.
-INLINED = [('leaves', 'read_string'), ('bodies', 'text_of')]
+INLINED = [('leaves', 'read_string'), ('leaves', 'put_string'), ('bodies', 'text_of')]
 # Small functions that rustc may put in place of their calls also where it compiles modules apart, as it does without link-time optimization.
 HINTED = [('front', 'open'), ('words', 'u32_at'), ('words', 'u64_at'), ('words', 'two_words'), ('words', 'joined'), ('words', 'word_body'),
           ('words', 'wide_body'), ('fixed', 'of_body')]
@@ -332,7 +332,7 @@ def inline(text, file):
     for attribute, functions in (('#[inline(always)]', INLINED), ('#[inline]', HINTED)):
         for where, name in functions:
             if where == os.path.basename(file):
-                text = re.sub(r'^( *)((?:pub )?fn %s\((?!.*;$))' % name, r'\1%s\n\1\2' % attribute, text, flags=re.M)
+                text = re.sub(r'^( *)(?:#\[inline\(never\)\]\n *)?((?:pub )?fn %s(?:<[^(]*>)?\((?!.*;$))' % name, r'\1%s\n\1\2' % attribute, text, flags=re.M)
     return text.replace('#[inline(always)]', OPTIMIZED)
 
 
@@ -393,7 +393,7 @@ def erase(source, place, of_std=()):
 
 
 # What the prelude has.
-IN_SCOPE = re.compile(r'\b(?:Vec|String|TryClone|VecRoom|has_nul|to_(?:un)?signed|in_chunks|try_\w+|make_room\w*|with_room)\b|\bwrite(?:ln)?!')
+IN_SCOPE = re.compile(r'\b(?:Vec|String|TryClone|VecRoom|has_nul|to_(?:un)?signed|in_chunks|try_\w+|make_room\w*|with_room|push_reserved)\b|\bwrite(?:ln)?!')
 
 
 def sources(folder, ending='.rt'):

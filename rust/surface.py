@@ -38,6 +38,11 @@ PLACES = {
     'tests/src/parts/spa_typed_tests/reading/visitors.rs': [
         ('assert_said(found.as_str(), "InvalidType", "a deep value")', 'assert_said(found.as_str(), "TooDeep", "a deep value")'),
     ],
+    # A text that is read is copied, and then checked.
+    'spa-pod/src/parts/spa_read/leaves.rs': [
+        ('let Some(text) = text_of(body) else {', 'let Some(text) = crate::shims::memory::try_text_of(body)? else {'),
+        ('    Ok(String::try_from_str(text)?)\n', '    Ok(text)\n'),
+    ],
     # The refusal of a value that nests too deep.
     'spa-pod/src/parts/spa_fixed_sized/fault.rs': [
         ('    OutOfMemory,\n}\n\nimpl<I> DeserializeError<I> {\n',

@@ -289,9 +289,12 @@ impl Id {
             self.assertEqual(erase.inline(source, 'src/counts'), erase.OPTIMIZED + '\n' + source)
             self.assertEqual(erase.inline(source, 'src/other'), source)
             self.assertEqual(erase.inline('#[inline(always)]\n' + source, 'src/other'), erase.OPTIMIZED + '\n' + source)
+            generic = '#[inline(never)]\n' + source.replace('(', '<T: Takes>(', 1)
+            self.assertEqual(erase.inline(generic, 'src/counts'), generic.replace('#[inline(never)]', erase.OPTIMIZED))
+            self.assertEqual(erase.inline(generic, 'src/other'), generic)
         finally:
             erase.INLINED.pop()
-        for attribute in '', '#[inline(always)]\n':
+        for attribute in '', '#[inline(always)]\n', '#[inline(never)]\n':
             self.assertEqual(faults(erase.OPTIMIZED + '\n' + source, attribute + source), [])
         self.assertNotEqual(faults(source, '#[inline(always)]\n' + source), [])
 

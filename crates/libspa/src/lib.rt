@@ -38,9 +38,7 @@ pub mod pod {
         rewrite_leniently,
     };
     pub use spa_print::Printed;
-    pub use spa_rewrite::{
-        Rejected, accept_all, find_fault, is_canonical, rewrite, rewrite_all, rewrite_in_parts,
-    };
+    pub use spa_rewrite::{Rejected, accept_all, find_fault, is_canonical, rewrite, rewrite_all};
     pub use spa_scan::{all_nest_within, nests_within};
     pub use spa_utils::Frame;
     pub use spa_value::{

@@ -1,4 +1,4 @@
-//! What README.md shows of the library, word for word, and what each of these functions answers on bytes that PipeWire's own C
+//! What README.md and docs/CALLING.md show of the library, word for word, and what each of these functions answers on bytes that PipeWire's own C
 //! builder made, or on a worked example of docs/FORMAT.md.
 use crate::bytes::{assert_holds, assert_number, assert_spelt};
 use crate::readme::fixate::settle;

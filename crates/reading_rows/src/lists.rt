@@ -1,9 +1,8 @@
 //! Rewriting lists of pods, by the calls that take a list.
-use crate::rewritten::is_rewritten_in_parts;
 use spa_bodies::error_at;
 use spa_fixed_sized::DeserializeError;
 use spa_in_place::rewrite_in_place;
-use spa_rewrite::{Rejected, accept_all, look_at_pods, rewrite_all, rewrite_in_parts};
+use spa_rewrite::{Rejected, accept_all, canonical_stretch, look_at_pods, rewrite_all};
 use std::alloc::{AllocError, Global};
 use test_bytes::push_spelling;
 
@@ -68,9 +67,6 @@ fn push_others(
     if answer_of(accept_all(alloc, input))? != answer {
         answers.push_str("; but it is accepted otherwise")?;
     }
-    if !is_so_in_parts(alloc, input, encodings, answer)? {
-        answers.push_str("; but its two parts are something else")?;
-    }
     if !is_so_in_place(alloc, input, encodings, answer)? {
         answers.push_str("; but in place it is something else")?;
     }
@@ -78,22 +74,6 @@ fn push_others(
         answers.push_str("; but a look finds something else")?;
     }
     Ok(())
-}
-
-/// Whether the rewriting in two parts is this one.
-fn is_so_in_parts(
-    alloc: Global,
-    input: &[u8],
-    encodings: &[u8],
-    answer: Answer,
-) -> Result<bool, AllocError> {
-    if answer.is_ok() {
-        return is_rewritten_in_parts(alloc, input, encodings);
-    }
-    match rewrite_in_parts(alloc, input) {
-        Ok(_) => Ok(false),
-        Err(refusal) => Ok(answer_of(Err(refusal))? == answer),
-    }
 }
 
 /// Whether `rewrite_in_place` gives this answer, and puts these encodings at the front.
@@ -130,10 +110,10 @@ pub(crate) fn is_left_so<P: Drop>(
 fn is_seen_so(input: &[u8], encodings: &[u8], answer: Answer) -> bool {
     match (look_at_pods(input), answer) {
         (Ok(all), Ok(())) => {
-            let first = input.get(..all.canonical);
+            let (first, others) = canonical_stretch(input);
             all.surplus == input.len().saturating_sub(encodings.len())
-                && first == encodings.get(..all.canonical)
-                && (all.canonical == input.len()) == (input == encodings)
+                && encodings.get(..first.len()) == Some(first)
+                && others.is_empty() == (input == encodings)
         }
         (Err((left, Rejected::Fault(place, _, why))), Err((name, behind))) => {
             error_at(place, why).kind() == name && left.len() == behind

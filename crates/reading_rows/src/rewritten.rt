@@ -1,7 +1,7 @@
 //! Rewritings of the front of an input.
 use crate::front::{Front, before, front_of};
 use spa_fixed_sized::DeserializeError;
-use spa_rewrite::{is_canonical, rewrite, rewrite_in_parts};
+use spa_rewrite::{is_canonical, rewrite};
 use std::alloc::{AllocError, Global};
 
 /// Whether the front of an input is rewritten as this encoding by each call, and is canonical exactly where it is the encoding.
@@ -17,26 +17,7 @@ pub(crate) fn is_rewritten(
         Err(_) => false,
     };
     let is_own = is_canonical(alloc, input)?;
-    Ok(rewritten && is_own == (front == encoding) && is_rewritten_in_parts(alloc, front, encoding)?)
-}
-
-/// Whether the two parts of the rewriting of a list, one after the other, are these bytes.
-pub(crate) fn is_rewritten_in_parts(
-    alloc: Global,
-    input: &[u8],
-    encoding: &[u8],
-) -> Result<bool, AllocError> {
-    match rewrite_in_parts(alloc, input) {
-        Ok((first, second)) => Ok(are_joined(first, second.as_slice(), encoding)),
-        Err((_, DeserializeError::OutOfMemory)) => Err(AllocError),
-        Err(_) => Ok(false),
-    }
-}
-
-/// Whether these are two pieces, one after the other.
-fn are_joined(first: &[u8], second: &[u8], both: &[u8]) -> bool {
-    let (start, end) = both.split_at(first.len().min(both.len()));
-    start == first && end == second
+    Ok(rewritten && is_own == (front == encoding))
 }
 
 /// Whether an encoding is read as what it encodes, and is canonical.

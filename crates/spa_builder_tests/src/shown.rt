@@ -1,4 +1,4 @@
-//! A format that `builder_add!` makes, as README.md shows it.
+//! A format that `builder_add!` makes.
 use crate::bytes::{are_words, assert_holds};
 use crate::shown::by_calls::format_pod;
 use spa_utils::Errno;

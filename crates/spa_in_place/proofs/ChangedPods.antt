@@ -2,55 +2,10 @@
 use Rattle.std.proofs.Common.{◌≡◌, ◌≤◌, ℕ, ◌+◌, ◌-◌, List, [], ◌++◌, length, take, drop, refl, sym, ap, ◌∙◌, subst, arith, length-append, length-drop}
 use Rattle.std.proofs.lemmas.List.{append-nil, drop-append-le, drop_at, length-take-le, nil_from_length, take-append-drop, take-append-le, take_all, take_at}
 use borrow.Rule.Slice.PartMut.{put_mid}
-use Rattle.spa_format.specs.Encoding.{member_encodings}
 use Rattle.spa_scan.specs.Canonical.{AreCanonical}
-use Rattle.spa_rewrite.specs.Emit.{EncodesAll}
-use Rattle.spa_rewrite.specs.Look.{AreChanged}
 use Rattle.spa_rewrite.specs.Rewriting.{AreRewritten}
-use Rattle.spa_rewrite.specs.declared.look.ChangedPods.{ChangedPods}
 use Rattle.spa_rewrite.proofs.Stretches.{both_rewritten, canonical_rewritten}
 use Rattle.spa_rewrite.proofs.Written.{take_past}
-
--- the canonical pods behind those that are replaced are moved down to the encodings of these
-pub others_replaced : (pods sub new : List ℕ) (changed : ChangedPods) (len : ℕ) → AreChanged pods changed → EncodesAll (take changed.others pods) sub len →
-    length sub ≡ length (take changed.others pods) → take (len + (length pods - changed.others)) new ≡ take len sub ++ drop changed.others pods →
-    AreRewritten pods [] (take (length pods - changed.surplus) new)
-others_replaced pods sub new changed len h e y n =
-    let k = changed.others in
-    let first = take k pods in
-    let last = drop k pods in
-    let s = h.shorter in
-    let written : take len sub ≡ member_encodings s.values = e.placed s.values s.members in
-    let few = e.within in
-    let within = h.within in
-    let first_long = length-take-le k pods within in
-    let sub_long = length-take-le len sub (omega arith) in
-    let size = ap length written in
-    let long = s.long in
-    let at : length pods - changed.surplus ≡ len + (length pods - k) = omega arith in
-    subst (AreRewritten pods []) (sym (ap (λ i. take i new) at ∙ n))
-    (both_rewritten pods first last (take len sub) last (sym (take-append-drop k pods)) (s.values, s.members, written) (canonical_rewritten last h.canonical))
-
-pub last_moved : (pods sub now new : List ℕ) (k len m : ℕ) → k ≤ length pods → length sub ≡ length (take k pods) → len ≤ length (take k pods) →
-    m ≡ length pods - k → now ≡ sub ++ drop k pods → new ≡ take len now ++ (take m (drop k now) ++ drop (len + m) now) →
-    take (len + (length pods - k)) new ≡ take len sub ++ drop k pods
-last_moved pods sub now new k len m w y b me e n =
-    let first_long = length-take-le k pods w in
-    let last : drop k now ≡ drop k pods = ap (drop k) e ∙ drop_at sub (drop k pods) k (y ∙ first_long) in
-    let front : take len now ≡ take len sub = ap (take len) e ∙ take-append-le len sub (drop k pods) (omega arith) in
-    let many : length (take len now) ≡ len = ap length front ∙ length-take-le len sub (omega arith) in
-    let rest = length-drop k pods in
-    let all : take m (drop k now) ≡ drop k pods = ap (take m) last ∙ take_all m (drop k pods) (omega arith) in
-    let size : length (take m (drop k now)) ≡ length pods - k = ap length all ∙ rest in
-    ap (take (len + (length pods - k))) n
-    ∙ take_past (take len now) (take m (drop k now) ++ drop (len + m) now) len (length pods - k) many
-    ∙ ap (λ x. take len now ++ x) (take_at (take m (drop k now)) (drop (len + m) now) (length pods - k) size)
-    ∙ ap (λ x. x ++ take m (drop k now)) front ∙ ap (λ x. take len sub ++ x) all
-
--- nothing is left behind canonical pods
-pub all_canonical : (input first others : List ℕ) → input ≡ first ++ others → length others ≡ 0 → AreCanonical first → AreCanonical input
-all_canonical input first others parts z c =
-    subst AreCanonical (sym (parts ∙ ap (λ o. first ++ o) (nil_from_length others z) ∙ append-nil first)) c
 
 -- the first pods are canonical, and those behind them rewritten
 pub behind_first : (input first others old sub out : List ℕ) (k m end : ℕ) → input ≡ first ++ others → AreCanonical first → take (length first) old ≡ first →

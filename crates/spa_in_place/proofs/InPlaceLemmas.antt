@@ -4,7 +4,6 @@ use Rattle.std.specs.Borrow.{Bor}
 use Rattle.std.specs.Prelude.{Option, Some, None}
 use Rattle.std.proofs.lemmas.List.{drop_at}
 use Rattle.spa_format.specs.Faults.{Short, Text}
-use Rattle.spa_format.proofs.Short.{short_members}
 use Rattle.spa_fixed_sized.specs.declared.fault.DeserializeError.{DeserializeError}
 use Rattle.spa_fixed_sized.specs.declared.fault.DeserializeError.TheVariants as error
 use Rattle.spa_fixed_sized.specs.declared.fault.Refusal.{Refusal}
@@ -15,6 +14,8 @@ use Rattle.spa_in_place.specs.InPlace.{IsFaultOf, NamesOffset, RefusesListAt, mo
 use Rattle.spa_rewrite.specs.Memory.{AsksMemory}
 use Rattle.spa_rewrite.specs.Offsets.{IsFaultAt, StandsAt, from_pod}
 use Rattle.spa_scan.specs.Canonical.{AreCanonical}
+use Rattle.spa_format.specs.Encoding.{member_encodings}
+use Rattle.spa_format.proofs.Unique.{same_members}
 use Rattle.spa_rewrite.specs.Rewriting.{AreRewritten, IsLeft, RefusesFront, RefusesList}
 use Rattle.spa_rewrite.specs.Shorter.{AreRewrittenAs, AreShorter}
 use Rattle.spa_rewrite.proofs.FirstPods.{left_behind_pods}
@@ -68,21 +69,6 @@ offset_known input left top at place refusal.MissingChoiceValues d f = tt
 offset_known input left top at place refusal.WrongSize d f = tt
 offset_known input left top at place refusal.OutOfMemory d f = tt
 
--- none, where memory was asked for
-pub offset_unknown : (input : List ℕ) (top : ℕ) (e : DeserializeError (Bor (List ℕ))) → AsksMemory input → NamesOffset input top (moved None e)
-offset_unknown input top (error.Nom f) a = a
-offset_unknown input top error.UnsupportedType a = tt
-offset_unknown input top error.InvalidType a = tt
-offset_unknown input top error.PropertyMissing a = tt
-offset_unknown input top (error.PropertyWrongKey k) a = tt
-offset_unknown input top error.InvalidChoiceType a = tt
-offset_unknown input top error.MissingChoiceValues a = tt
-offset_unknown input top error.WrongSize a = tt
-offset_unknown input top error.UnreadMembers a = tt
-offset_unknown input top error.NoElementLeft a = tt
-offset_unknown input top error.FailedReader a = tt
-offset_unknown input top error.OutOfMemory a = tt
-
 pub refused_behind : (input first others left : List ℕ) (at : ℕ) (offset : Option ℕ) (placed : DeserializeError (Bor (List ℕ))) → input ≡ first ++ others →
     AreCanonical first → RefusesList others left placed → at ≡ length input - length left → NamesOffset input at (moved offset placed) →
     RefusesListAt input at (moved offset placed)
@@ -107,9 +93,13 @@ left_behind input first others left at i k l n = left_at input left at (left_beh
 pub others_left : (input first others : List ℕ) → input ≡ first ++ others → drop (length first) input ≡ others
 others_left input first others i = ap (drop (length first)) i ∙ drop_at first others (length first) refl
 
--- no rewriting is longer
-pub rewritten_room : (pods out : List ℕ) → AreRewritten pods [] out → length out ≤ length pods
-rewritten_room pods out w = let s = short_members w.0 pods w.1 in let l = ap length w.2 in omega arith
+-- how long a rewriting is
+pub rewritten_long : (pods out : List ℕ) (n : ℕ) → AreShorter pods n → AreRewritten pods [] out → n + length out ≡ length pods
+rewritten_long pods out n s w =
+    let one = ap member_encodings (same_members w.0 s.values pods w.1 s.members) in
+    let e = ap length (w.2 ∙ one) in
+    let l = s.long in
+    omega arith
 
 -- the length that is answered
 pub into_counted : (input : List ℕ) (n len : ℕ) → AreShorter input n → len ≡ length input - n → AreRewrittenAs input len

@@ -8,7 +8,6 @@ use Rattle.spa_fixed_sized.specs.Faults.{kind_text}
 use Rattle.spa_format.specs.Tree.{Trees}
 use Rattle.spa_format.specs.Pod.{AreMembers}
 use Rattle.spa_bodies.specs.Reading.{NamesFaultKind, OnFault}
-use Rattle.spa_rewrite.specs.Memory.{AsksMemory}
 use Rattle.spa_rewrite.specs.Offsets.{StandsAt, from_pod}
 use Rattle.spa_rewrite.specs.Rewriting.{IsLeft, RefusesFront}
 
@@ -16,9 +15,9 @@ use Rattle.spa_rewrite.specs.Rewriting.{IsLeft, RefusesFront}
 abbrev pub IsFaultOf : {I : Type 0} → DeserializeError I → DeserializeError (Bor (List ℕ)) → Type 0
 IsFaultOf e placed = kind_text e ≡ kind_text placed
 
--- a fault of this kind stands at this offset of the input, in the pod that begins at `top`; without an offset, memory was asked for
+-- a fault of this kind stands at this offset of the input, in the pod that begins at `top`; there is always an offset
 abbrev pub StandsAtOffset : (input : List ℕ) (top : ℕ) → FaultKind → Option ℕ → Type 0
-StandsAtOffset input top kind None = AsksMemory input
+StandsAtOffset input top kind None = ⊥
 StandsAtOffset input top kind (Some offset) =
     (at : ℕ) × (offset ≡ top + at) × NamesFaultKind (λ k. StandsAt k from_pod at (drop top input)) kind
 

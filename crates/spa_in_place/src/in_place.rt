@@ -1,30 +1,25 @@
 //! Rewriting in place, in the buffer of the input.
-ghost use Rattle.std.specs.Prelude.{◌≡◌, ◌-◌, ◌≤◌, [], IfErr, IfOk, OnErr, length, take};
+ghost use Rattle.std.specs.Prelude.{◌≡◌, ◌≤◌, [], IfErr, IfOk, OnErr, length, take};
 ghost use Rattle.spa_in_place.specs.InPlace.{RefusesListAt, moved};
 ghost use Rattle.spa_bodies.specs.Reading.{OnMemory};
-ghost use Rattle.spa_rewrite.specs.Look.{AreChanged};
 ghost use Rattle.spa_rewrite.specs.Memory.{AsksMemory};
 ghost use Rattle.spa_rewrite.specs.Rewriting.{AreRewritten};
 ghost use Rattle.spa_rewrite.specs.Shorter.{ArePodsWithin};
 ghost use Rattle.spa_scan.specs.Depth.{levels_looked_into};
 
-use crate::into::put_first;
 use spa_bodies::error_at;
 use spa_fixed_sized::{DeserializeError, Fault};
-use spa_rewrite::{
-    ChangedPods, Rejected, canonical_stretch, changed_pods, emit, move_down, rewrite_all,
-};
+use spa_rewrite::{Rejected, canonical_stretch, changed_pods, encode_pods};
 use std::alloc::Global;
 
 /// Puts the rewritings of all pods that the bytes are at their front, and answers how many bytes these take: never more than the
 /// pods took. What the bytes behind them are isn't said.
 ///
 /// The call is refused exactly as `rewrite_all`, and then no byte is changed. A refusal gives the offset of the refused pod, and its fault;
-/// `Nom` has the offset of the byte at which the fault stands, or `None` where memory was asked for.
+/// `Nom` has the offset of the byte at which the fault stands.
 ///
-/// All pods are looked at first, and a fault that the look finds is the refusal. Then those up to the last one that isn't canonical are replaced, and the
-/// canonical ones that follow are moved at once. That takes no memory where at most 1000 structs and objects stand in one another. Where more do, the
-/// rewritings of the pods behind the first canonical ones are made in memory, by `rewrite_all`, and copied back.
+/// All pods are looked at first. Memory is taken only for a pod in which more than 1000 structs and objects stand in one another: for its open
+/// containers.
 pub fn rewrite_in_place(
     alloc: Global,
     bytes: &mut [u8],
@@ -44,37 +39,16 @@ pub fn rewrite_in_place(
         return Ok(len);
     }
     let from = first.len();
-    match changed_pods(others) {
-        Ok(changed) => {
-            replace_pods(changed, &mut bytes[from..]);
-            Ok(len - changed.surplus)
-        }
+    match changed_pods(alloc, others) {
+        Ok(changed) => Ok(from + encode_pods(changed, &mut bytes[from..])),
         Err((pod, rejected)) => match rejected {
             Rejected::Fault(place, at, why) => {
                 let top = len - pod.len();
                 Err((top, with_offset(Some(top + at), error_at(place, why))))
             }
-            Rejected::TooDeep => {
-                let mut written = Vec::new(alloc);
-                if let Err((left, error)) = rewrite_all(others, &mut written) {
-                    return Err((len - left.len(), with_offset(None, error)));
-                }
-                put_first(written.as_slice(), &mut bytes[from..]);
-                Ok(from + written.len())
-            }
+            Rejected::TooDeep => Err((len - pod.len(), DeserializeError::OutOfMemory)),
         },
     }
-}
-
-/// Replaces pods by their encodings, at their front: so many bytes of them, and canonical pods behind these are moved at once.
-#[inline(always)]
-pub(crate) fn replace_pods(changed: ChangedPods, pods: &mut [u8])
-    requires { AreChanged pods.old changed }
-    ensures { AreRewritten pods.old [] (take (length pods.old - changed.surplus) pods.new) }
-{
-    let last = pods.len() - changed.others;
-    let len = emit(&mut pods[..changed.others]);
-    move_down(changed.others, last, len, pods);
 }
 
 /// The refusal with the place given by its offset.

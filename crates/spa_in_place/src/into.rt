@@ -4,8 +4,7 @@ ghost use Rattle.spa_rewrite.specs.Rewriting.{AreRewritten};
 ghost use Rattle.spa_rewrite.specs.Shorter.{ArePodsWithin, AreRewrittenAs};
 ghost use Rattle.spa_scan.specs.Depth.{levels_looked_into};
 
-use crate::in_place::replace_pods;
-use spa_rewrite::{canonical_stretch, changed_pods};
+use spa_rewrite::{canonical_stretch, encode_pods, look_at_pods};
 
 /// Writes the rewritings of all pods of the input to the front of an output that is at least as long as the input, and answers how many bytes they take.
 /// The input is copied and replaced there: what is behind as many bytes as the input has stays as it was. To a shorter output it writes nothing, and
@@ -28,15 +27,15 @@ pub fn rewrite_into(input: &[u8], out: &mut [u8]) -> Option<usize>
         put_where_it_fits(input, out);
         return Some(input.len());
     }
-    let Ok(changed) = changed_pods(others) else {
+    let Ok(all) = look_at_pods(others) else {
         return None;
     };
-    let len = input.len() - changed.surplus;
+    let len = input.len() - all.surplus;
     if out.len() < input.len() {
         return Some(len);
     }
     put_first(input, out);
-    replace_pods(changed, &mut out[first.len()..input.len()]);
+    encode_pods(all.changed, &mut out[first.len()..input.len()]);
     Some(len)
 }
 
@@ -54,7 +53,7 @@ fn put_where_it_fits(bytes: &[u8], out: &mut [u8])
 
 /// Copies bytes to the front of an output, where there are any.
 #[inline(always)]
-pub(crate) fn put_first(bytes: &[u8], out: &mut [u8])
+fn put_first(bytes: &[u8], out: &mut [u8])
     requires { length bytes.now ≤ length out.old }
     ensures { out.new ≡ bytes.now ++ drop (length bytes.now) out.old }
 {

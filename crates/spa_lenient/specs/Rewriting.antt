@@ -8,6 +8,7 @@ use Rattle.spa_format.specs.Front.{HasFront}
 use Rattle.spa_format.specs.Lenient.{ConveyMembers}
 use Rattle.spa_in_place.specs.InPlace.{IsFaultOf}
 use Rattle.spa_bodies.specs.Reading.{IsShortAt, Names, OnFault, OnMemory}
+use Rattle.spa_rewrite.specs.Rewriting.{AreRewritten}
 use Rattle.spa_read.specs.Reading.{ConveysAtFront, ConveysNothing, ConveysWith, StandsLeniently}
 
 -- the front of the input conveys a value, and `out` is its encoding
@@ -21,6 +22,10 @@ AppendsFront input rest old new = (v : Tree) × ConveysWith input v rest × (new
 -- the encoding of a struct of the values that these bytes convey was appended
 abbrev pub AppendsStruct : List ℕ → List ℕ → List ℕ → Type 0
 AppendsStruct body old new = (vs : Trees) × ConveyMembers vs body × (new ≡ old ++ encoding_of (struct vs))
+
+-- zero or more first bytes are pods, whose encodings were appended, and `rest` follows them
+abbrev pub AppendsFirst : List ℕ → List ℕ → List ℕ → List ℕ → Type 0
+AppendsFirst input rest old new = (first : List ℕ) × (input ≡ first ++ rest) × AreRewritten first old new
 
 -- zero or more bytes were appended, and nothing else was changed
 abbrev pub Grows : List ℕ → List ℕ → Type 0

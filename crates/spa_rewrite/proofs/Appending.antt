@@ -1,7 +1,6 @@
 -- What is appended for accepted pods.
 use Rattle.std.proofs.Common.{◌≡◌, ℕ, ◌+◌, ◌-◌, List, [], ◌++◌, length, drop, take, refl, sym, ap, ◌∙◌, subst, arith, append_assoc, length-append}
-use Rattle.std.specs.Prelude.{Bool, true, false}
-use Rattle.std.proofs.lemmas.List.{append-nil, take-append-drop, take_at}
+use Rattle.std.proofs.lemmas.List.{append-nil, drop_all, take-append-drop, take_all, take_at}
 use Rattle.spa_format.specs.Tree.{Tree, no_trees, member, join_members}
 use Rattle.spa_format.specs.Pod.{AreMembers, IsPod}
 use Rattle.spa_format.specs.Encoding.{encoding_of, member_encodings}
@@ -10,25 +9,20 @@ use Rattle.spa_format.proofs.Sequences.{members_joined}
 use Rattle.spa_format.proofs.Unique.{same_members}
 use Rattle.spa_bodies.specs.Reading.{BeginsWith}
 use Rattle.spa_scan.specs.Canonical.{AreCanonical, BeginsCanonical}
-use Rattle.spa_rewrite.specs.Look.{IsAcceptedAsked}
-use Rattle.spa_rewrite.specs.Emit.{EncodesAll}
-use Rattle.spa_rewrite.specs.Rewriting.{AppendsEncodings, AppendsFront, ArePassed, IsLookedOver}
+use Rattle.spa_rewrite.specs.Look.{AreChanged}
+use Rattle.spa_rewrite.specs.Rewriting.{AppendsFront, AreRewritten, IsLookedOver}
 use Rattle.spa_rewrite.specs.Shorter.{AreShorter, BeginsShorter}
-use Rattle.spa_rewrite.specs.declared.look.AcceptedPod.{AcceptedPod}
 use Rattle.spa_rewrite.proofs.Rewritten.{parted}
-use Rattle.spa_rewrite.proofs.LeafBodies.{never}
-use Rattle.spa_rewrite.proofs.Stretches.{member_encodings-join}
-use Rattle.spa_rewrite.proofs.Written.{take_past}
+use Rattle.spa_rewrite.proofs.Stretches.{both_rewritten, canonical_rewritten, member_encodings-join}
 
--- canonical pods are copied,
-pub canonical_encodings : (pods old new : List ℕ) → AreCanonical pods → new ≡ old ++ pods → AppendsEncodings pods old new
-canonical_encodings pods old new k w = λ vs m.
-    w ∙ ap (λ l. old ++ l) (k.same ∙ ap member_encodings (same_members k.values vs pods k.members m))
-
--- and others replaced in a copy
-pub replaced_encodings : (pods old over new : List ℕ) (at len : ℕ) → EncodesAll pods over len → at ≡ length old → new ≡ take (at + len) (old ++ over) →
-    AppendsEncodings pods old new
-replaced_encodings pods old over new at len w e n = λ vs m. n ∙ take_past old over at len (sym e) ∙ ap (λ l. old ++ l) (w.placed vs m)
+-- canonical pods are copied, and others replaced behind them
+pub appended_behind : (pods old over new : List ℕ) (canonical len : ℕ) → AreCanonical (take canonical pods) →
+    AreRewritten (drop canonical pods) [] (take len over) → new ≡ (old ++ take canonical pods) ++ take len over → AreRewritten pods old new
+appended_behind pods old over new canonical len k r n =
+    let first = take canonical pods in
+    let out = take len over in
+    let b = both_rewritten pods first (drop canonical pods) first out (sym (take-append-drop canonical pods)) (canonical_rewritten first k) r in
+    (b.0, b.1, n ∙ append_assoc old first out ∙ ap (λ l. old ++ l) b.2)
 
 -- A pod at the front, as a list.
 
@@ -48,24 +42,34 @@ front_shorter input rest n c =
     let e = ap length (append-nil (encoding_of c.value)) in
     record { values = member c.value no_trees; members = alone (front_of input) c.value c.begins.begins.pod; long = omega arith }
 
-pub front_canonical : (input rest : List ℕ) → BeginsCanonical input rest → AreCanonical (front_of input)
-front_canonical input rest c = record {
-  values = member c.value no_trees;
-  members = alone (front_of input) c.value c.begins.begins.pod;
-  same = c.same ∙ sym (append-nil (encoding_of c.value));
-}
+-- it is appended as it is,
+pub front_copied : (input rest front old new : List ℕ) → BeginsCanonical input rest → front ≡ take (length input - length rest) input → new ≡ old ++ front →
+    AppendsFront input rest old new
+front_copied input rest front old new c e n =
+    (c.value, c.begins, n ∙ ap (λ l. old ++ l) (e ∙ before_rest input rest c.value c.begins ∙ c.same))
 
+-- or as it is rewritten
 pub front_written : (input rest front old new : List ℕ) (v : Tree) → BeginsWith input v rest → front ≡ take (length input - length rest) input →
-    AppendsEncodings front old new → AppendsFront input rest old new
-front_written input rest front old new v b e a =
+    AreRewritten front old new → AppendsFront input rest old new
+front_written input rest front old new v b e r =
     let same : front ≡ front_of input = e ∙ before_rest input rest v b in
     let m = subst (AreMembers (member v no_trees)) (sym same) (alone (front_of input) v b.begins.pod) in
-    (v, b, a (member v no_trees) m ∙ ap (λ l. old ++ l) (append-nil (encoding_of v)))
+    let one : r.0 ≡ member v no_trees = same_members r.0 (member v no_trees) front r.1 m in
+    (v, b, r.2 ∙ ap (λ vs. old ++ member_encodings vs) one ∙ ap (λ l. old ++ l) (append-nil (encoding_of v)))
 
-pub accepted_canonical : (asked : Bool) (input : List ℕ) (pod : AcceptedPod) → IsAcceptedAsked asked input pod → pod.canonical ≡ true →
-    BeginsCanonical input pod.rest.now
-accepted_canonical true input pod a e = (a.exactly refl).0 e
-accepted_canonical false input pod a e = absurd (never pod.canonical e (a.unasked refl))
+pub none_canonical : AreCanonical []
+none_canonical = record { values = no_trees; members = refl; same = refl }
+
+pub one_changed : (input rest front : List ℕ) (v : Tree) → BeginsWith input v rest → front ≡ take (length input - length rest) input →
+    AreChanged front (length front)
+one_changed input rest front v b e =
+    let same : front ≡ front_of input = e ∙ before_rest input rest v b in
+    let m = subst (AreMembers (member v no_trees)) (sym same) (alone (front_of input) v b.begins.pod) in
+    record {
+      within = omega arith;
+      first = (member v no_trees, subst (AreMembers (member v no_trees)) (sym (take_all (length front) front (omega arith))) m);
+      canonical = subst AreCanonical (sym (drop_all (length front) front (omega arith))) none_canonical;
+    }
 
 -- Pods that are looked over.
 
@@ -87,25 +91,3 @@ one_looked_over pods left rest surplus n h c =
       h.1 ∙ ap (λ l. h.0 ++ l) (parted left c.value rest c.begins) ∙ sym (append_assoc h.0 front rest),
       record { values = vs; members = members_joined s.values t.values h.0 front s.members t.members; long = omega arith },
     )
-
--- the pods that were passed, and those behind them
-pub record PassedParts (pods left accepted rest : List ℕ) : Type 0 where
-  pub surplus : ℕ
-  pub parts : pods ≡ accepted ++ rest
-  pub shorter : AreShorter accepted surplus
-  pub long : length accepted + length left ≡ length pods
-
-pub passed_parts : (pods left accepted rest : List ℕ) (k : ℕ) → ArePassed pods left → k ≡ length pods - length left → accepted ≡ take k pods →
-    rest ≡ drop k pods → PassedParts pods left accepted rest
-passed_parts pods left accepted rest k h e a r =
-    let first = h.1.0 in
-    let parts = h.1.1 in
-    let l = ap length parts ∙ length-append first left in
-    let n : k ≡ length first = omega arith in
-    let same : accepted ≡ first = a ∙ ap (take k) parts ∙ take_at first left k (sym n) in
-    record {
-      surplus = h.0;
-      parts = sym (ap (λ x. x ++ rest) a ∙ ap (λ x. take k pods ++ x) r ∙ take-append-drop k pods);
-      shorter = subst (λ x. AreShorter x h.0) (sym same) h.1.2;
-      long = (let s = ap length same in omega arith);
-    }

@@ -1,22 +1,22 @@
 -- Pods up to the last one that isn't canonical.
 use Rattle.std.proofs.Common.{◌≡◌, ℕ, ◌+◌, ◌-◌, ◌<◌, List, ◌++◌, length, take, drop, refl, sym, ap, ◌∙◌, subst, arith, append-nil, length-append, append_assoc}
+use Rattle.std.proofs.Math.Seq.{drop-append-add, take-append-add}
 use Rattle.std.proofs.lemmas.List.{drop_at, nil_from_length, take-append-drop, take_at}
-use Rattle.spa_format.specs.Tree.{join_members}
+use Rattle.spa_format.specs.Tree.{Trees, join_members}
 use Rattle.spa_format.specs.Pod.{AreMembers}
 use Rattle.spa_format.specs.Encoding.{member_encodings}
 use Rattle.spa_format.proofs.Sequences.{members_joined}
 use Rattle.spa_scan.specs.Canonical.{AreCanonical, IsStretch}
 use Rattle.spa_scan.specs.Depth.{levels_looked_into}
 use Rattle.spa_scan.proofs.Frames.{no_stretch}
-use Rattle.spa_rewrite.specs.Look.{AreChanged, IsAcceptedAsked}
+use Rattle.spa_rewrite.specs.Look.{AreAccepted, AreChanged}
 use Rattle.spa_rewrite.specs.Rewriting.{IsLookedOver}
-use Rattle.spa_rewrite.specs.Shorter.{ArePodsWithin, AreShorter}
-use Rattle.spa_rewrite.specs.declared.look.AcceptedPod.{AcceptedPod}
-use Rattle.spa_rewrite.specs.declared.look.ChangedPods.{ChangedPods}
+use Rattle.spa_rewrite.specs.Shorter.{ArePodsWithin, AreShorter, BeginsShorter}
+use Rattle.spa_rewrite.specs.declared.look.AcceptedPods.{AcceptedPods}
 use Rattle.spa_rewrite.proofs.Appending.{nothing_looked_over, one_looked_over}
 use Rattle.spa_rewrite.proofs.Stretches.{member_encodings-join}
 use Rattle.spa_rewrite.proofs.ShorterLemmas.{CountsOn, counts_more, counts_none, within_behind}
-use Rattle.std.specs.Prelude.{Bool, false}
+use Rattle.std.specs.Prelude.{false}
 
 -- All pods before what is left are accepted, and those behind the last one that isn't canonical are.
 pub record ChangesUpTo (pods tail left : List ℕ) (surplus : ℕ) : Type 0 where
@@ -92,28 +92,26 @@ stretch_passed pods tail left rest surplus h s =
     }
 
 -- one that isn't, or may not be
-pub others_more : (asked : Bool) (pods tail left : List ℕ) (pod : AcceptedPod) (surplus : ℕ) → ChangesUpTo pods tail left surplus →
-    0 < length left → IsAcceptedAsked asked left pod → ChangesUpTo pods pod.rest.now pod.rest.now (surplus + pod.surplus)
-others_more asked pods tail left pod surplus h l a =
-    let s = a.shorter in
-    let rest = pod.rest.now in
-    let seen = one_looked_over pods left rest surplus pod.surplus h.seen s in
+pub others_more : (pods tail left rest : List ℕ) (surplus more : ℕ) → ChangesUpTo pods tail left surplus → 0 < length left → BeginsShorter left rest more →
+    ChangesUpTo pods rest rest (surplus + more)
+others_more pods tail left rest surplus more h l s =
+    let seen = one_looked_over pods left rest surplus more h.seen s in
     record {
       seen = seen;
       changed = seen;
       last = no_stretch rest;
-      counts = counts_more false levels_looked_into pods left left rest surplus pod.surplus h.counts l refl s.begins.follows s;
+      counts = counts_more false levels_looked_into pods left left rest surplus more h.counts l refl s.begins.follows s;
     }
 
-pub all_changed : (pods tail left : List ℕ) (others surplus : ℕ) → ChangesUpTo pods tail left surplus → length left ≡ 0 →
-    others ≡ length pods - length tail → AreChanged pods (record { others = others; surplus = surplus })
-all_changed pods tail left others surplus h z e =
+pub all_changed : (pods tail left : List ℕ) (changed surplus : ℕ) → ChangesUpTo pods tail left surplus → length left ≡ 0 →
+    changed + length tail ≡ length pods → AreAccepted pods (record { changed = changed; surplus = surplus })
+all_changed pods tail left changed surplus h z e =
     let c = h.changed in
     let t = h.last in
     let l = ap length c.1 ∙ length-append c.0 tail in
-    let n : others ≡ length c.0 = omega arith in
-    let front : take others pods ≡ c.0 = ap (take others) c.1 ∙ take_at c.0 tail others (sym n) in
-    let back : drop others pods ≡ tail = ap (drop others) c.1 ∙ drop_at c.0 tail others (sym n) in
+    let n : changed ≡ length c.0 = omega arith in
+    let front : take changed pods ≡ c.0 = ap (take changed) c.1 ∙ take_at c.0 tail changed (sym n) in
+    let back : drop changed pods ≡ tail = ap (drop changed) c.1 ∙ drop_at c.0 tail changed (sym n) in
     let whole : tail ≡ t.0 = t.1 ∙ ap (λ x. t.0 ++ x) (nil_from_length left z) ∙ append-nil t.0 in
     record {
       shorter = subst (λ x. AreShorter x surplus) (sym front) c.2;
@@ -122,9 +120,33 @@ all_changed pods tail left others surplus h z e =
     }
 
 -- all of them are accepted
-pub changed_shorter : (pods : List ℕ) (c : ChangedPods) → AreChanged pods c → AreShorter pods c.surplus
-changed_shorter pods c h =
-    let none : c.surplus + 0 ≡ c.surplus = omega arith in
+pub accepted_shorter : (pods : List ℕ) (all : AcceptedPods) → AreAccepted pods all → AreShorter pods all.surplus
+accepted_shorter pods all h =
+    let none : all.surplus + 0 ≡ all.surplus = omega arith in
     subst (AreShorter pods) none
-    (shorter_joined pods (take c.others pods) (drop c.others pods) c.surplus 0 (sym (take-append-drop c.others pods)) h.shorter
-    (canonical_shorter (drop c.others pods) h.canonical))
+    (shorter_joined pods (take all.changed pods) (drop all.changed pods) all.surplus 0 (sym (take-append-drop all.changed pods)) h.shorter
+    (canonical_shorter (drop all.changed pods) h.canonical))
+
+pub accepted_changed : (pods : List ℕ) (all : AcceptedPods) → AreAccepted pods all → AreChanged pods all.changed
+accepted_changed pods all h = record { within = h.within; first = (h.shorter.values, h.shorter.members); canonical = h.canonical }
+
+-- behind accepted pods
+pub changed_behind : (pods first left : List ℕ) (vs : Trees) (all : AcceptedPods) → pods ≡ first ++ left → AreMembers vs first → AreAccepted left all →
+    AreChanged pods (length pods - length left + all.changed)
+changed_behind pods first left vs all e m h =
+    let l = ap length e ∙ length-append first left in
+    let within = h.within in
+    let n : length pods - length left + all.changed ≡ length first + all.changed = omega arith in
+    let front : take (length first + all.changed) pods ≡ first ++ take all.changed left = ap (take (length first + all.changed)) e ∙ take-append-add first left all.changed in
+    let back : drop (length first + all.changed) pods ≡ drop all.changed left = ap (drop (length first + all.changed)) e ∙ drop-append-add first left all.changed in
+    let ws = join_members vs h.shorter.values in
+    subst (AreChanged pods) (sym n) (record {
+      within = omega arith;
+      first = (ws, subst (AreMembers ws) (sym front) (members_joined vs h.shorter.values first (take all.changed left) m h.shorter.members));
+      canonical = subst AreCanonical (sym back) h.canonical;
+    })
+
+pub changed_members : (pods : List ℕ) (changed : ℕ) → AreChanged pods changed → (vs : Trees) × AreMembers vs pods
+changed_members pods changed h =
+    let vs = join_members h.first.0 h.canonical.values in
+    (vs, subst (AreMembers vs) (take-append-drop changed pods) (members_joined h.first.0 h.canonical.values (take changed pods) (drop changed pods) h.first.1 h.canonical.members))

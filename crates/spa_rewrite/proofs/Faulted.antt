@@ -9,7 +9,8 @@ use Rattle.spa_format.specs.Kind.{Fixed, IsFixedBody, Kind, body_size, content, 
 use Rattle.spa_format.specs.Tree.{Shape, none_choice, range_choice, step_choice, enum_choice, flags_choice, shape_number, Tree, choice, fixed, pointer, no_properties, array_type, choice_type, object_type, pointer_type, struct_type, type_of}
 use Rattle.spa_format.specs.Normal.{kept_flags}
 use Rattle.spa_format.specs.Pod.{AreElements, IsArray, IsBody, least_count, values_taken}
-use Rattle.spa_format.specs.Front.{HasFront, IsRefused}
+use Rattle.spa_format.specs.Front.{Begins, HasFront, IsRefused, rest_of}
+use Rattle.spa_format.specs.Typed.{IsBytes}
 use Rattle.spa_format.specs.Faults.{Fault, Short, Text, InvalidType, InvalidChoiceType, MissingChoiceValues, WrongSize, IsInvalidType, of_elements, IsWrongArray, IsWrongSize, of_fixed, of_choice, of_pointer, LacksValues, StandsAtFront, at_front, choice_header_size}
 use Rattle.spa_format.specs.Opened.{OpensHeaderAlone, no_front, no_parts, short_object}
 use Rattle.spa_format.proofs.FixedKinds.{kind_of_content, size_fits}
@@ -22,13 +23,16 @@ use Rattle.spa_bodies.specs.Refusing.{Says, StandsInBody}
 use Rattle.spa_bodies.proofs.Refusals.{at_front_of, says_through}
 use Rattle.spa_bodies.proofs.Steps.{pod_read}
 use Rattle.spa_scan.specs.Depth.{depth_of}
-use Rattle.spa_rewrite.specs.Look.{StopsAt}
-use Rattle.spa_events.specs.Inside.{IsBehindKey, key_size}
+use Rattle.spa_scan.specs.Canonical.{BeginsCanonical, IsSized, MissesOnly}
+use Rattle.spa_scan.proofs.Missed.{sized_front}
+use Rattle.spa_format.proofs.Shapes.{object_only, struct_only}
+use Rattle.spa_rewrite.specs.Look.{AreCanonicalInside, IsNoLeaf, Stops, StopsAt}
+use Rattle.spa_events.specs.Inside.{IsBehindKey, IsContainer, key_size}
 use Rattle.spa_rewrite.specs.Offsets.{StandsAt, at_key, at_pod, from_properties, scope_of}
 use Rattle.spa_rewrite.proofs.Bodies.{fewer, listed}
-use Rattle.spa_rewrite.proofs.Looks.{Awaits, stands_first}
+use Rattle.spa_rewrite.proofs.Looks.{Awaits, behind_bytes, first_own, stands_first}
 use Rattle.spa_rewrite.proofs.Offsets.{key_long, offset_first}
-use Rattle.spa_rewrite.proofs.LeafBodies.{leaf_depth}
+use Rattle.spa_rewrite.proofs.LeafBodies.{leaf_depth, never, some_key}
 use Rattle.spa_rewrite.proofs.SameLength.{array_same_length}
 
 -- no pod begins there, and not for what is inside it
@@ -54,6 +58,66 @@ leaf_there here body rest type o s l n = record {
     | inr e ↦ no_parts (λ t. s (o.its_type ∙ t)) (λ t. e (o.its_type ∙ t))
   ];
 }
+
+-- no value without members has such a body, where none is at the front
+pub no_leaf_body : (here body rest : List ℕ) (type : ℕ) → Opens here type body rest → ((v : Tree) → Begins here v → 0 < depth_of v) →
+    (v : Tree) → type_of v ≡ type → depth_of v ≡ 0 → ¬ (IsBody v body)
+no_leaf_body here body rest type o n v t z b =
+    let d = n v (pod_read here body rest type v o t b).begins in
+    omega arith
+
+-- where no value without members has such a body, none is at the front
+pub other_stops : (here body rest : List ℕ) (type : ℕ) → Opens here type body rest → ((v : Tree) → type_of v ≡ type → depth_of v ≡ 0 → ¬ (IsBody v body)) →
+    (v : Tree) → Begins here v → 0 < depth_of v
+other_stops here body rest type o n v b =
+    let q = begun here v b in
+    elim (cases_lt 0 (depth_of v)) [
+      | inl l ↦ l
+      | inr z ↦ absurd (n v (sym q.0 ∙ sym o.its_type) (omega arith) (subst (IsBody v) (sym o.its_body) q.1))
+    ]
+
+-- a struct or an object is no such pod
+container_depth : (v : Tree) → IsContainer (type_of v) → 0 < depth_of v
+container_depth v c = elim c [
+  | inl e ↦ let o = struct_only v e in let d = ap depth_of o.1 in omega arith
+  | inr e ↦ let o = object_only v e in let d = ap depth_of o.3 in omega arith
+]
+
+pub container_stops : (canonical : Bool) (here : List ℕ) → IsContainer (word_at here 4) → IsNoLeaf canonical here
+container_stops canonical here c = record { differs = λ _ rest k. deep k.value k.begins.begins; refused = λ _ v b. deep v b }
+  where
+    deep : (v : Tree) → Begins here v → 0 < depth_of v
+    deep v b = container_depth v (subst IsContainer (begun here v b).0 c)
+
+pub first_type : (keyed : Bool) (left here : List ℕ) → IsBehindKey keyed left here → word_at left (key_size keyed + 4) ≡ word_at here 4
+first_type true left here k = sym (ap (λ b. word_at b 4) k.1 ∙ word_at-drop 8 4 left)
+first_type false left here k = sym (ap (λ b. word_at b 4) k)
+
+-- a pod of fixed size has 16 bytes
+pub none_sized : (keyed : Bool) (left here : List ℕ) → IsBytes left → keyed ≡ true → length left < 24 → IsBehindKey keyed left here →
+    MissesOnly here (λ v. ¬ (IsSized v))
+none_sized true left here h e l k rest c z =
+    let d = ap length k.1 ∙ length-drop 8 left in
+    let s = (sized_front here rest (behind_bytes true left here h k) c z).long in
+    omega arith
+none_sized false left here h e l k rest c z = absurd (never false e refl)
+
+-- no struct or object begins there
+pub leaf_shallow : (here body rest : List ℕ) (type : ℕ) → Opens here type body rest → type ≢ struct_type → (type ≡ object_type → length body < header_size) →
+    (r : List ℕ) (c : BeginsCanonical here r) → depth_of c.value ≡ 0
+leaf_shallow here body rest type o s l r c =
+    let v = c.value in
+    let q = begun here v c.begins.begins in
+    let t : type_of v ≡ type = sym q.0 ∙ sym o.its_type in
+    leaf_depth v body (λ e. s (sym t ∙ e)) (λ e. l (sym t ∙ e)) (subst (IsBody v) (sym o.its_body) q.1)
+
+-- so it is no canonical pod, where only structs and objects may be
+pub leaf_differs : (here body rest : List ℕ) (type : ℕ) → Opens here type body rest → type ≢ struct_type → (type ≡ object_type → length body < header_size) →
+    ((r : List ℕ) (c : BeginsCanonical here r) → 0 < depth_of c.value) → (r : List ℕ) → ¬ (BeginsCanonical here r)
+leaf_differs here body rest type o s l f r c =
+    let z = leaf_shallow here body rest type o s l r c in
+    let d = f r c in
+    omega arith
 
 -- where a look stops
 pub stops_first : (keyed : Bool) (left here : List ℕ) → IsBehindKey keyed left here → 0 < length left → IsFaulted here → StopsAt keyed left here 0
@@ -90,19 +154,58 @@ stops_key true left e l some =
           subst (λ m. StandsAt c from_properties m left) same (at_key left (λ n. let z = ap length n in omega arith) l (only_short left c l s));
     }
 
-pub stops_in : (all keyed : Bool) (pods left place : List ℕ) (Then : ℕ → Type 0) (waiting behind surplus : ℕ) →
-    Awaits all pods Then waiting keyed left behind surplus → StopsAt keyed left place 0 → StopsAt all pods place behind
-stops_in all keyed pods left place Then waiting behind surplus w s =
+pub stops_in : (canonical all keyed : Bool) (pods left place : List ℕ) (Then : ℕ → Type 0) (waiting behind surplus : ℕ) →
+    Awaits canonical all pods Then waiting keyed left behind surplus → Stops canonical keyed left place 0 → Stops canonical all pods place behind
+stops_in canonical all keyed pods left place Then waiting behind surplus w q =
     let a = w.room in
-    let b = s.room in
+    let b = q.room in
     record {
-      refused = s.refused;
-      alone = s.alone;
-      stands = λ k x. w.stands k place (s.stands k x);
+      differs = λ t c. q.differs t (w.kept c);
       room = omega arith;
-      offset = λ k x.
-          let e : length pods - (length left + behind) + (length left - (length place + 0)) ≡ length pods - (length place + behind) = omega arith in
-          subst (λ m. StandsAt k (scope_of all) m pods) e (w.offset k (length left - (length place + 0)) (s.offset k x));
+      fault = λ f.
+          let s = q.fault f in
+          record {
+            refused = s.refused;
+            alone = s.alone;
+            stands = λ k x. w.stands k place (s.stands k x);
+            room = omega arith;
+            offset = λ k x.
+                let e : length pods - (length left + behind) + (length left - (length place + 0)) ≡ length pods - (length place + behind) = omega arith in
+                subst (λ m. StandsAt k (scope_of all) m pods) e (w.offset k (length left - (length place + 0)) (s.offset k x));
+          };
+    }
+
+-- where a look meets no struct or object, it stops, unless another pod is first
+
+-- no key is there,
+pub stops_without_key : (keyed canonical : Bool) (left : List ℕ) → keyed ≡ true → length left < header_size → 0 < length left → Stops canonical keyed left left 0
+stops_without_key keyed canonical left e l some = record { differs = λ _. no_key keyed e; room = omega arith; fault = λ _. stops_key keyed left e l some }
+  where
+    no_key : (keyed : Bool) → keyed ≡ true → ¬ (AreCanonicalInside keyed left)
+    no_key false e = absurd (never false e refl)
+    no_key true e = some_key left l some
+
+-- the front isn't there,
+pub stops_without_front : (keyed canonical : Bool) (left here : List ℕ) → IsBytes left → 0 < length left → IsBehindKey keyed left here → ¬ (HasFront here) →
+    Stops canonical keyed left here 0
+stops_without_front keyed canonical left here h l k n =
+    let e = key_long keyed left here k in
+    record {
+      differs = λ _ c. n (first_own keyed left here (rest_of here) h l k refl c).first.begins.begins.there;
+      room = omega arith;
+      fault = λ _. stops_first keyed left here k l (short_there here n);
+    }
+
+-- or it is another pod
+pub stops_at_other : (keyed canonical : Bool) (left here body rest : List ℕ) (type : ℕ) → IsBytes left → 0 < length left → IsBehindKey keyed left here →
+    Opens here type body rest → type ≢ struct_type → (type ≡ object_type → length body < header_size) → IsNoLeaf canonical here →
+    Stops canonical keyed left here 0
+stops_at_other keyed canonical left here body rest type h l k o s z n =
+    let e = key_long keyed left here k in
+    record {
+      differs = λ t c. leaf_differs here body rest type o s z (n.differs t) rest (first_own keyed left here rest h l k o.its_rest c).first;
+      room = omega arith;
+      fault = λ f. stops_first keyed left here k l (leaf_there here body rest type o s z (no_leaf_body here body rest type o (n.refused f)));
     }
 
 -- what is known of the body at such a place

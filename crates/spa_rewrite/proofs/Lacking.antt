@@ -1,17 +1,20 @@
 -- Refusals of the pod at the front, and what memory is asked for.
-use Rattle.std.proofs.Common.{◌≡◌, ℕ, ◌<◌, List, ◌++◌, length, refl, sym, ap, ◌∙◌, subst, arith, append_assoc}
+use Rattle.std.proofs.Common.{◌≡◌, ℕ, ◌<◌, List, [], ◌++◌, append-nil, length, refl, sym, ap, ◌∙◌, subst, arith, append_assoc}
 use Rattle.std.specs.Borrow.{Bor}
 use Rattle.spa_format.specs.Faults.{Stands}
 use Rattle.spa_format.specs.Front.{Begins, HasFront}
 use Rattle.spa_format.specs.Pod.{AreMembers, IsBody, IsPod}
-use Rattle.spa_format.specs.Tree.{Tree, Trees, no_trees, member, type_of}
+use Rattle.spa_format.specs.Tree.{Tree, Trees, no_trees, member, join_members, type_of}
+use Rattle.spa_format.proofs.Sequences.{members_joined}
+use Rattle.spa_scan.specs.Canonical.{AreCanonical}
+use Rattle.spa_rewrite.specs.Look.{AreChanged}
+use Rattle.spa_rewrite.proofs.Changed.{changed_members}
 use Rattle.spa_format.proofs.Fronts.{front_of_whole}
 use Rattle.spa_fixed_sized.specs.declared.fault.Refusal.{Refusal}
 use Rattle.spa_fixed_sized.specs.declared.fault.Refusal.TheVariants as refusal
 use Rattle.spa_bodies.specs.Reading.{OnMemory}
 use Rattle.spa_bodies.specs.Refusing.{Says, error_of}
 use Rattle.spa_rewrite.specs.Memory.{FrontAsksMemory, IsRefusal}
-use Rattle.spa_rewrite.specs.Rewriting.{RefusesFrontAt}
 use Rattle.spa_rewrite.proofs.Accepted.{fault_front}
 use Rattle.spa_rewrite.proofs.Refusals.{front_refused}
 
@@ -21,6 +24,17 @@ begins_with no_trees input first rest e m l = absurd (let z = ap length m in ome
 begins_with (member v vs) input first rest e m l =
     let f = front_of_whole input m.0 (m.1 ++ rest) (type_of v) (IsBody v) (e ∙ ap (λ x. x ++ rest) m.2 ∙ append_assoc m.0 m.1 rest) m.3 in
     (v, record { there = f.0; pod = subst (λ b. IsPod b v) f.1 m.3 })
+
+pub begins_all : (vs : Trees) (input : List ℕ) → AreMembers vs input → 0 < length input → (v : Tree) × Begins input v
+begins_all vs input m l = begins_with vs input input [] (sym (append-nil input)) m l
+
+-- accepted pods behind canonical ones begin with a pod, where they are some
+pub first_begins : (input first others : List ℕ) (changed : ℕ) → input ≡ first ++ others → AreCanonical first → AreChanged others changed →
+    0 < length input → (v : Tree) × Begins input v
+first_begins input first others changed e k h l =
+    let m = changed_members others changed h in
+    let vs = join_members k.values m.0 in
+    begins_all vs input (subst (AreMembers vs) (sym e) (members_joined k.values m.0 first others k.members m.1)) l
 
 -- memory ran out
 pub lacks : (input : List ℕ) (place : Bor (List ℕ)) (why : Refusal) → why ≡ refusal.OutOfMemory → HasFront input → FrontAsksMemory input →
@@ -49,14 +63,3 @@ fault_memory input place refusal.InvalidChoiceType A s = tt
 fault_memory input place refusal.MissingChoiceValues A s = tt
 fault_memory input place refusal.WrongSize A s = tt
 fault_memory input place refusal.OutOfMemory A s = absurd s
-
--- a front that asks for memory is refused
-pub is_refusal : (input : List ℕ) (place : Bor (List ℕ)) (why : Refusal) → RefusesFrontAt input place.now why → FrontAsksMemory input →
-    IsRefusal input (error_of place why)
-is_refusal input place refusal.Short h a = is_fault input place refusal.Short h
-is_refusal input place refusal.Text h a = is_fault input place refusal.Text h
-is_refusal input place refusal.InvalidType h a = is_fault input place refusal.InvalidType h
-is_refusal input place refusal.InvalidChoiceType h a = is_fault input place refusal.InvalidChoiceType h
-is_refusal input place refusal.MissingChoiceValues h a = is_fault input place refusal.MissingChoiceValues h
-is_refusal input place refusal.WrongSize h a = is_fault input place refusal.WrongSize h
-is_refusal input place refusal.OutOfMemory h a = lacks input place refusal.OutOfMemory refl h a

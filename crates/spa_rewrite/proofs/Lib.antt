@@ -14,15 +14,15 @@ pub mod FirstPods
 pub mod Levels
 pub mod Looks
 pub mod Offsets
-pub mod CanonicalLooks
 pub mod Faulted
 pub mod Accepted
-pub mod Lacking
 pub mod Appended
 pub mod Places
 pub mod PlacedBodies
 pub mod Written
 pub mod Appending
 pub mod Changed
+pub mod Moved
+pub mod Lacking
 pub mod Begun
 pub mod Emitted

@@ -20,16 +20,15 @@ use Rattle.spa_scan.proofs.Frames.{body_bytes, canonical_front, none_left, none_
 use Rattle.spa_scan.proofs.Made.{made_body, made_members, made_properties}
 use Rattle.spa_scan.proofs.Opened.{object_inside, struct_inside}
 use Rattle.spa_scan.specs.Depth.{NestsDeeperInside}
-use Rattle.spa_rewrite.specs.Look.{OpensInside, Passes, StandsInside, StopsAt, Surround}
+use Rattle.spa_rewrite.specs.Look.{BeginsAsked, Fits, OpensInside, Passes, StandsInside, Stops, StopsAt, Surround}
 use Rattle.spa_rewrite.specs.Look.{AreCanonicalInside}
 use Rattle.spa_rewrite.specs.Shorter.{AreShorterInside, BeginsShorter}
 use Rattle.spa_events.specs.Inside.{IsBehindKey, IsInside, key_size}
 use Rattle.spa_rewrite.specs.Offsets.{StandsAt, scope_of}
-use Rattle.spa_rewrite.specs.declared.look.Waiting.{Waiting}
+use Rattle.spa_rewrite.specs.declared.inside.Waiting.{Waiting}
 use Rattle.spa_rewrite.proofs.Offsets.{body_long, key_long, offset_behind, offset_first, offset_opened}
 use Rattle.spa_rewrite.proofs.ShorterLemmas.{shorter_inside, shorter_none, shorter_opened, shorter_room, shorter_step, whole_keyed, whole_list}
-use Rattle.spa_rewrite.proofs.Levels.{deep_behind, deep_inside}
-use Rattle.spa_rewrite.proofs.LeafBodies.{never}
+use Rattle.spa_rewrite.proofs.Levels.{as_deep_inside, deep_behind, deep_inside}
 use Rattle.spa_rewrite.proofs.Rewritten.{parted}
 
 -- a canonical pod in front of others
@@ -133,14 +132,23 @@ behind_shorter false left here k = let e = ap length k in omega arith
 rest_bytes : (here rest : List ℕ) → IsBytes here → rest ≡ rest_of here → IsBytes rest
 rest_bytes here rest h e = subst IsBytes (sym e) (IsBytes-drop (extent (word_at here 0)) here h)
 
+-- what stands behind a key and flags is there once,
+pub same_behind_key : (keyed : Bool) (left a b : List ℕ) → IsBehindKey keyed left a → IsBehindKey keyed left b → a ≡ b
+same_behind_key true left a b k l = k.1 ∙ sym l.1
+same_behind_key false left a b k l = k ∙ sym l
+
+-- or not at all
+pub no_behind_key : (keyed : Bool) (left here : List ℕ) → keyed ≡ true → length left < header_size → ¬ (IsBehindKey keyed left here)
+no_behind_key true left here e l k = let h = k.0 in omega arith
+no_behind_key false left here e l k = let t : false ≡ true = e in cc
+
 -- none is passed
 pub passes_none : (keyed canonical : Bool) (left : List ℕ) → IsBytes left → Passes keyed canonical left left 0
 passes_none keyed canonical left h = record {
-  shorter = λ m s. subst (AreShorterInside keyed left) (let e : m ≡ 0 + m = omega arith in e) s;
-  own = λ e c. c;
+  fits = λ m s. subst (Fits canonical keyed left) (let e : m ≡ 0 + m = omega arith in e) s;
   kept = λ c. c;
   stands = λ k place s. s;
-  offset = λ k n s. (let e : n ≡ length left - length left + n = omega arith in subst (λ m. StandsAt k (scope_of keyed) m left) e s);
+  offset = λ k m s. (let e : m ≡ length left - length left + m = omega arith in subst (λ m. StandsAt k (scope_of keyed) m left) e s);
   deep = λ n d. d;
   bytes = h;
   room = omega arith;
@@ -153,8 +161,7 @@ passes_more keyed canonical pods left rest n m p q =
     let a = p.room in
     let b = q.room in
     record {
-      shorter = λ k s. subst (AreShorterInside keyed pods) (let e : n + (m + k) ≡ n + m + k = omega arith in e) (p.shorter (m + k) (q.shorter k s));
-      own = λ e c. p.own e (q.own e c);
+      fits = λ k s. subst (Fits canonical keyed pods) (let e : n + (m + k) ≡ n + m + k = omega arith in e) (p.fits (m + k) (q.fits k s));
       kept = λ c. q.kept (p.kept c);
       stands = λ k place s. p.stands k place (q.stands k place s);
       offset = λ k at s.
@@ -165,16 +172,22 @@ passes_more keyed canonical pods left rest n m p q =
       room = omega arith;
     }
 
--- an accepted pod is passed
-pub passes_pod : (keyed canonical : Bool) (left here rest : List ℕ) (n : ℕ) → IsBytes left → 0 < length left → IsBehindKey keyed left here →
-    BeginsShorter here rest n → (canonical ≡ true → BeginsCanonical here rest) → Passes keyed canonical left rest n
-passes_pod keyed canonical left here rest n h l k b c =
+-- where something follows a pod, something is left
+pub some_left : (keyed : Bool) (left here : List ℕ) → IsBehindKey keyed left here → HasFront here → 0 < length left
+some_left keyed left here k h = let d = behind_shorter keyed left here k in let e = h.header in omega arith
+
+-- a pod that the look asks for is passed
+pub passes_pod : (keyed canonical : Bool) (left here rest : List ℕ) (n : ℕ) → IsBytes left → IsBehindKey keyed left here → BeginsAsked canonical here rest n →
+    Passes keyed canonical left rest n
+passes_pod keyed canonical left here rest n h k a =
+    let b = a.shorter in
+    let l = some_left keyed left here k b.begins.begins.there in
     let e = b.begins.follows in
     let r = shorter_room here rest n b in
     let d = behind_shorter keyed left here k in
     record {
-      shorter = λ m s. shorter_step keyed left here rest n m k b s;
-      own = λ t s. own_step keyed left here rest h k (c t) s;
+      fits = λ m s.
+          record { shorter = shorter_step keyed left here rest n m k b s.shorter; own = λ t. own_step keyed left here rest h k (a.own t) (s.own t) };
       kept = λ s. (first_own keyed left here rest h l k e s).others;
       stands = λ f place s. stands_behind keyed left here rest b.value f place k b.begins s;
       offset = λ f at s. offset_behind keyed left here rest b.value f at k b.begins s;
@@ -187,44 +200,49 @@ passes_pod keyed canonical left here rest n h l k b c =
 pub own_shorter : (here rest : List ℕ) → BeginsCanonical here rest → BeginsShorter here rest 0
 own_shorter here rest c = let l = ap length c.same in record { value = c.value; begins = c.begins; long = omega arith }
 
--- where something follows a pod, something is left
-pub some_left : (keyed : Bool) (left here : List ℕ) → IsBehindKey keyed left here → HasFront here → 0 < length left
-some_left keyed left here k h = let d = behind_shorter keyed left here k in let e = h.header in omega arith
+-- a canonical pod, where the look asks for it
+pub asked_own : (canonical : Bool) (here rest : List ℕ) → BeginsCanonical here rest → BeginsAsked canonical here rest 0
+asked_own canonical here rest c = record { shorter = own_shorter here rest c; own = λ _. c }
 
--- What is found further on holds of all: of what is left, once that is accepted and shorter by so much, the rest follows.
-pub record Awaits (all : Bool) (pods : List ℕ) (Then : ℕ → Type 0) (waiting : ℕ) (keyed : Bool) (left : List ℕ) (behind surplus : ℕ) : Type 0 where
+-- What is found further on holds of all: of what is left, once that fits and is shorter by so much, the rest follows.
+pub record Awaits (canonical all : Bool) (pods : List ℕ) (Then : ℕ → Type 0) (waiting : ℕ) (keyed : Bool) (left : List ℕ) (behind surplus : ℕ) : Type 0 where
   pub bytes : IsBytes left
-  pub ends : (m : ℕ) → AreShorterInside keyed left m → Then (surplus + m)
+  pub ends : (m : ℕ) → Fits canonical keyed left m → Then (surplus + m)
+  pub kept : AreCanonicalInside all pods → AreCanonicalInside keyed left
   pub stands : (k : Fault) (place : List ℕ) → StandsInside keyed left place k → StandsInside all pods place k
   pub room : length left + behind ≤ length pods
   pub offset : (k : Fault) (at : ℕ) → StandsAt k (scope_of keyed) at left → StandsAt k (scope_of all) (length pods - (length left + behind) + at) pods
   pub deep : (n : ℕ) → NestsDeeperInside n keyed left → NestsDeeperInside (n + waiting) all pods
 
--- what holds once the innermost list ends, where these wait, the innermost first
-abbrev pub Onward : Bool → List ℕ → List Waiting → ℕ → Type 0
-Onward all pods [] = AreShorterInside all pods
-Onward all pods (next ∷ outer) = Awaits all pods (Onward all pods outer) (length outer) next.keyed next.pods.now next.behind
+-- what holds once the innermost list ends, where these wait, the innermost first: the pods inside that all of these wait for are kept
+abbrev pub Onward : Bool → Bool → List ℕ → List Waiting → ℕ → Type 0
+Onward canonical all pods [] = Fits canonical all pods
+Onward canonical all pods (next ∷ outer) =
+    Awaits canonical all pods (Onward canonical all pods outer) (length outer) next.keyed next.pods.now next.behind
 
 -- these wait, and this is left of the innermost list
-abbrev pub AwaitsAll : Bool → List ℕ → List Waiting → Bool → List ℕ → ℕ → ℕ → Type 0
-AwaitsAll all pods outer = Awaits all pods (Onward all pods outer) (length outer)
+abbrev pub AwaitsAll : Bool → Bool → List ℕ → List Waiting → Bool → List ℕ → ℕ → ℕ → Type 0
+AwaitsAll canonical all pods outer = Awaits canonical all pods (Onward canonical all pods outer) (length outer)
 
-pub begins_look : (all : Bool) (pods : List ℕ) → IsBytes pods → AwaitsAll all pods [] all pods 0 0
-begins_look all pods h = record {
+pub begins_look : (canonical all : Bool) (pods : List ℕ) → IsBytes pods → AwaitsAll canonical all pods [] all pods 0 0
+begins_look canonical all pods h = record {
   bytes = h;
-  ends = λ m s. subst (AreShorterInside all pods) (let e : m ≡ 0 + m = omega arith in e) s;
+  ends = λ m s. subst (Fits canonical all pods) (let e : m ≡ 0 + m = omega arith in e) s;
+  kept = λ c. c;
   stands = λ k place s. s;
   room = omega arith;
   offset = λ k n s. (let e : n ≡ length pods - (length pods + 0) + n = omega arith in subst (λ m. StandsAt k (scope_of all) m pods) e s);
   deep = λ n d. subst (λ x. NestsDeeperInside x all pods) (let e : n ≡ n + 0 = omega arith in e) d;
 }
 
--- accepted pods are passed
-pub goes_on : (all keyed : Bool) (pods left rest : List ℕ) (Then : ℕ → Type 0) (waiting behind surplus n : ℕ) →
-    Awaits all pods Then waiting keyed left behind surplus → Passes keyed false left rest n → Awaits all pods Then waiting keyed rest behind (surplus + n)
-goes_on all keyed pods left rest Then waiting behind surplus n w p = record {
+-- pods are passed
+pub goes_on : (canonical all keyed : Bool) (pods left rest : List ℕ) (Then : ℕ → Type 0) (waiting behind surplus n : ℕ) →
+    Awaits canonical all pods Then waiting keyed left behind surplus → Passes keyed canonical left rest n →
+    Awaits canonical all pods Then waiting keyed rest behind (surplus + n)
+goes_on canonical all keyed pods left rest Then waiting behind surplus n w p = record {
   bytes = p.bytes;
-  ends = λ m s. subst Then (let e : surplus + (n + m) ≡ surplus + n + m = omega arith in e) (w.ends (n + m) (p.shorter m s));
+  ends = λ m s. subst Then (let e : surplus + (n + m) ≡ surplus + n + m = omega arith in e) (w.ends (n + m) (p.fits m s));
+  kept = λ c. p.kept (w.kept c);
   stands = λ k place s. w.stands k place (p.stands k place s);
   room = (let a = w.room in let b = p.room in omega arith);
   offset = λ k at s.
@@ -276,11 +294,12 @@ inside_own type here body rest behind inside false h o i c =
     let m = made_body here behind body rest type h c o in
     subst AreCanonical (sym i.1) (struct_inside type body i.0 m.canonical)
 
--- a struct or an object is opened, and what follows it waits
-pub goes_in : (all keyed inner : Bool) (pods left inside rest : List ℕ) (Then : ℕ → Type 0) (waiting behind after surplus : ℕ) →
-    Awaits all pods Then waiting keyed left behind surplus → OpensInside keyed left inner inside rest → Surround keyed left inner inside after →
-    Awaits all pods (Awaits all pods Then waiting keyed rest behind) (suc waiting) inner inside (behind + after) surplus
-goes_in all keyed inner pods left inside rest Then waiting behind after surplus w x long =
+-- a struct or an object is opened, in which so many more wait
+goes_inside : (canonical all keyed inner : Bool) (pods left inside rest : List ℕ) (Then : ℕ → Type 0) (waiting more behind after surplus : ℕ) →
+    Awaits canonical all pods Then waiting keyed left behind surplus → OpensInside keyed left inner inside rest → Surround keyed left inner inside after →
+    ((n : ℕ) → NestsDeeperInside n inner inside → NestsDeeperInside (n + more) all pods) →
+    Awaits canonical all pods (Awaits canonical all pods Then waiting keyed rest behind) more inner inside (behind + after) surplus
+goes_inside canonical all keyed inner pods left inside rest Then waiting more behind after surplus w x long deeper =
     let at = x.here in
     let o = x.opens in
     let i = x.its_inside in
@@ -289,9 +308,11 @@ goes_in all keyed inner pods left inside rest Then waiting behind after surplus 
     record {
       bytes = inside_bytes x.type x.body inside inner (body_bytes at x.body rest x.type h o) i;
       ends = λ m s.
-          let one = shorter_opened at x.body rest x.type m o (shorter_inside x.type x.body inside inner m i s) in
-          goes_on all keyed pods left rest Then waiting behind surplus m w
-          (passes_pod keyed false left at rest m w.bytes some x.its_key one (λ e. absurd (never false e refl)));
+          let one = shorter_opened at x.body rest x.type m o (shorter_inside x.type x.body inside inner m i s.shorter) in
+          goes_on canonical all keyed pods left rest Then waiting behind surplus m w
+          (passes_pod keyed canonical left at rest m w.bytes x.its_key
+          (record { shorter = one; own = λ e. own_opened x.type at x.body rest inside inner h o i (s.own e) }));
+      kept = λ c. inside_own x.type at x.body rest rest inside inner h o i (first_own keyed left at rest w.bytes some x.its_key o.its_rest (w.kept c)).first;
       stands = λ f place s. w.stands f place (stands_first keyed left at f place x.its_key some (stands_opened x.type at x.body rest inside inner f place o i s));
       room = (let a = w.room in omega arith);
       offset = λ f n s.
@@ -300,20 +321,46 @@ goes_in all keyed inner pods left inside rest Then waiting behind after surplus 
           let e : length pods - (length left + behind) + (key_size keyed + head) ≡ length pods - (length inside + (behind + after)) + n = omega arith in
           subst (λ m. StandsAt f (scope_of all) m pods) e
           (w.offset f (key_size keyed + head) (offset_first keyed left at f head some x.its_key (offset_opened x.type at x.body rest inside inner f n o i s)));
-      deep = λ n d.
-          subst (λ m. NestsDeeperInside m all pods) (let e : suc n + waiting ≡ n + suc waiting = omega arith in e)
-          (w.deep (suc n) (deep_inside n keyed inner left inside rest x d));
+      deep = deeper;
     }
+
+-- what follows it waits
+pub goes_in : (canonical all keyed inner : Bool) (pods left inside rest : List ℕ) (Then : ℕ → Type 0) (waiting behind after surplus : ℕ) →
+    Awaits canonical all pods Then waiting keyed left behind surplus → OpensInside keyed left inner inside rest → Surround keyed left inner inside after →
+    Awaits canonical all pods (Awaits canonical all pods Then waiting keyed rest behind) (suc waiting) inner inside (behind + after) surplus
+goes_in canonical all keyed inner pods left inside rest Then waiting behind after surplus w x long =
+    goes_inside canonical all keyed inner pods left inside rest Then waiting (suc waiting) behind after surplus w x long (λ n d.
+    subst (λ m. NestsDeeperInside m all pods) (let e : suc n + waiting ≡ n + suc waiting = omega arith in e) (w.deep (suc n) (deep_inside n keyed inner left inside rest x d)))
 
 pub none_own : (keyed : Bool) (left : List ℕ) → length left ≡ 0 → AreCanonicalInside keyed left
 none_own true left z = none_left_either left z
 none_own false left z = none_left left z
 
+pub none_fits : (canonical keyed : Bool) (left : List ℕ) → length left ≡ 0 → Fits canonical keyed left 0
+none_fits canonical keyed left z = record { shorter = shorter_none keyed left z; own = λ _. none_own keyed left z }
+
 -- the innermost list has ended
-pub list_ends : (all keyed : Bool) (pods left : List ℕ) (Then : ℕ → Type 0) (waiting behind surplus : ℕ) →
-    Awaits all pods Then waiting keyed left behind surplus → length left ≡ 0 → Then surplus
-list_ends all keyed pods left Then waiting behind surplus w z =
-    subst Then (let e : surplus + 0 ≡ surplus = omega arith in e) (w.ends 0 (shorter_none keyed left z))
+pub list_ends : (canonical all keyed : Bool) (pods left : List ℕ) (Then : ℕ → Type 0) (waiting behind surplus : ℕ) →
+    Awaits canonical all pods Then waiting keyed left behind surplus → length left ≡ 0 → Then surplus
+list_ends canonical all keyed pods left Then waiting behind surplus w z =
+    subst Then (let e : surplus + 0 ≡ surplus = omega arith in e) (w.ends 0 (none_fits canonical keyed left z))
+
+-- nothing follows the struct or object, and nothing more waits
+pub goes_in_last : (canonical all keyed inner : Bool) (pods left inside rest : List ℕ) (Then : ℕ → Type 0) (waiting behind after surplus : ℕ) →
+    Awaits canonical all pods Then waiting keyed left behind surplus → OpensInside keyed left inner inside rest → Surround keyed left inner inside after →
+    length rest ≡ 0 → Awaits canonical all pods Then waiting inner inside (behind + after) surplus
+goes_in_last canonical all keyed inner pods left inside rest Then waiting behind after surplus w x long z =
+    let n = goes_inside canonical all keyed inner pods left inside rest Then waiting waiting behind after surplus w x long (λ m d.
+    w.deep m (as_deep_inside m keyed inner left inside rest x d)) in
+    record {
+      bytes = n.bytes;
+      ends = λ m s. list_ends canonical all keyed pods rest Then waiting behind (surplus + m) (n.ends m s) z;
+      kept = n.kept;
+      stands = n.stands;
+      room = n.room;
+      offset = n.offset;
+      deep = n.deep;
+    }
 
 -- how much is left in those that wait
 abbrev pub left_waiting : List Waiting → ℕ
@@ -365,22 +412,28 @@ surround keyed inner left at body rest inside type after k o i e =
     omega arith
 
 -- first pods were passed, and nothing is left
-pub passed_all : (keyed : Bool) (pods left : List ℕ) (n : ℕ) → Passes keyed false pods left n → length left ≡ 0 → AreShorterInside keyed pods n
-passed_all keyed pods left n p z =
-    subst (AreShorterInside keyed pods) (let e : n + 0 ≡ n = omega arith in e) (p.shorter 0 (shorter_none keyed left z))
+pub passed_all : (canonical keyed : Bool) (pods left : List ℕ) (n : ℕ) → Passes keyed canonical pods left n → length left ≡ 0 → Fits canonical keyed pods n
+passed_all canonical keyed pods left n p z =
+    subst (Fits canonical keyed pods) (let e : n + 0 ≡ n = omega arith in e) (p.fits 0 (none_fits canonical keyed left z))
 
 -- what is found behind these
-pub stops_behind : (keyed : Bool) (pods left place : List ℕ) (behind n : ℕ) → Passes keyed false pods left n → StopsAt keyed left place behind →
-    StopsAt keyed pods place behind
-stops_behind keyed pods left place behind n p s =
+pub stops_behind : (canonical keyed : Bool) (pods left place : List ℕ) (behind n : ℕ) → Passes keyed canonical pods left n →
+    Stops canonical keyed left place behind → Stops canonical keyed pods place behind
+stops_behind canonical keyed pods left place behind n p w =
     let a = p.room in
-    let b = s.room in
+    let b = w.room in
     record {
-      refused = s.refused;
-      alone = s.alone;
-      stands = λ k x. p.stands k place (s.stands k x);
+      differs = λ t c. w.differs t (p.kept c);
       room = omega arith;
-      offset = λ k x.
-          let e : length pods - length left + (length left - (length place + behind)) ≡ length pods - (length place + behind) = omega arith in
-          subst (λ m. StandsAt k (scope_of keyed) m pods) e (p.offset k (length left - (length place + behind)) (s.offset k x));
+      fault = λ f.
+          let s = w.fault f in
+          record {
+            refused = s.refused;
+            alone = s.alone;
+            stands = λ k x. p.stands k place (s.stands k x);
+            room = omega arith;
+            offset = λ k x.
+                let e : length pods - length left + (length left - (length place + behind)) ≡ length pods - (length place + behind) = omega arith in
+                subst (λ m. StandsAt k (scope_of keyed) m pods) e (p.offset k (length left - (length place + behind)) (s.offset k x));
+          };
     }

@@ -207,21 +207,6 @@ member_depth-join : (vs ws : Trees) → member_depth vs ≤ member_depth (join_m
 member_depth-join no_trees ws = omega arith
 member_depth-join (member v vs) ws = let others = member_depth-join vs ws in omega arith
 
--- what is between other pods
-pub within_part : (levels same_length others : ℕ) (pods : List ℕ) (vs ws : Trees) → AreMembers vs (take same_length pods) →
-    AreMembers ws (take others (drop same_length pods)) → ArePodsWithin levels pods → ArePodsWithin levels (take others (drop same_length pods))
-within_part levels same_length others pods vs ws m n s =
-    let first = take same_length pods in
-    let rest = drop same_length pods in
-    let part = take others rest in
-    let behind = within_behind vs first rest levels m (subst (ArePodsWithin levels) (sym (take-append-drop same_length pods)) s) in
-    let left = members_left ws behind.values part (drop others rest) n
-    (subst (AreMembers behind.values) (sym (take-append-drop others rest)) behind.members) in
-    let depth = ap member_depth left.1 in
-    let some = member_depth-join ws left.0 in
-    let all = behind.shallow in
-    record { values = ws; members = n; shallow = omega arith }
-
 pub shorter_behind : (input first rest : List ℕ) (n : ℕ) → input ≡ first ++ rest → AreCanonical first → AreShorter rest n → AreShorter input n
 shorter_behind input first rest n e c s =
     let l = ap length (member_encodings-join c.values s.values) ∙ length-append (member_encodings c.values) (member_encodings s.values) in

@@ -10,9 +10,8 @@ use Rattle.spa_format.specs.Front.{front_of}
 use Rattle.spa_format.proofs.Sequences.{members_joined}
 use Rattle.spa_fixed_sized.specs.declared.fault.DeserializeError.{DeserializeError}
 use Rattle.spa_scan.specs.Canonical.{AreCanonical}
-use Rattle.spa_rewrite.specs.Rewriting.{AppendsEncodings, AppendsFirst, AppendsFront, AreRewritten, AreRewrittenInParts, IsLeft, RefusesFront, RefusesList}
-use Rattle.spa_rewrite.specs.Shorter.{AreShorter}
-use Rattle.spa_rewrite.proofs.Rewritten.{no_members, parted}
+use Rattle.spa_rewrite.specs.Rewriting.{AreRewritten, IsLeft, RefusesFront, RefusesList}
+use Rattle.spa_rewrite.proofs.Rewritten.{no_members}
 
 pub member_encodings-join : (vs ws : Trees) →
     member_encodings (join_members vs ws) ≡ member_encodings vs ++ member_encodings ws
@@ -38,6 +37,11 @@ property_encodings-join (property k f v ps) qs =
 pub canonical_rewritten : (pods : List ℕ) → AreCanonical pods → AreRewritten pods [] pods
 canonical_rewritten pods k = (k.values, k.members, k.same)
 
+-- nothing is left behind canonical pods
+pub all_canonical : (input first others : List ℕ) → input ≡ first ++ others → length others ≡ 0 → AreCanonical first → AreCanonical input
+all_canonical input first others parts z c =
+    subst AreCanonical (sym (parts ∙ ap (λ o. first ++ o) (nil_from_length others z) ∙ append-nil first)) c
+
 pub both_rewritten : (input first rest before out : List ℕ) → input ≡ first ++ rest → AreRewritten first [] before →
     AreRewritten rest [] out → AreRewritten input [] (before ++ out)
 both_rewritten input first rest before out e f r =
@@ -47,10 +51,6 @@ both_rewritten input first rest before out e f r =
     ap (λ l. l ++ out) f.2 ∙ ap (λ l. member_encodings f.0 ++ l) r.2
     ∙ sym (member_encodings-join f.0 r.0) in
     (vs, subst (AreMembers vs) (sym e) members, same)
-
-pub in_parts : (input first rest out : List ℕ) → input ≡ first ++ rest → AreCanonical first →
-    AreRewritten rest [] out → AreRewrittenInParts input first out
-in_parts input first rest out e k r = (rest, e, canonical_rewritten first k, r)
 
 -- what is left behind canonical pods, and others
 pub left_behind : (input first rest left : List ℕ) → input ≡ first ++ rest → AreCanonical first →
@@ -79,61 +79,3 @@ pub record FirstMembers (input left : List ℕ) : Type 0 where
 
 pub no_first_member : (input : List ℕ) → FirstMembers input input
 no_first_member input = record { values = no_trees; first = []; parts = refl; members = refl }
-
-pub first_left : (input left : List ℕ) → FirstMembers input left → left ≢ [] → IsLeft input left
-first_left input left h n = (h.values, h.first, h.parts, h.members, n)
-
--- First pods whose encodings were appended.
-
-pub none_appended : (input old : List ℕ) → AppendsFirst input input old old
-none_appended input old = ([], refl, (no_trees, refl, sym (append-nil old)))
-
-pub first_appended : (input left rest old now new : List ℕ) → AppendsFirst input left old now → AppendsFirst left rest now new →
-    AppendsFirst input rest old new
-first_appended input left rest old now new a b =
-    let r : AreRewritten a.0 old now = a.2 in
-    let s : AreRewritten b.0 now new = b.2 in
-    let vs = join_members r.0 s.0 in
-    let first = a.0 ++ b.0 in
-    let parts : input ≡ first ++ rest = a.1 ∙ ap (λ l. a.0 ++ l) b.1 ∙ sym (append_assoc a.0 b.0 rest) in
-    let written : new ≡ old ++ member_encodings vs =
-    s.2 ∙ ap (λ l. l ++ member_encodings s.0) r.2 ∙ append_assoc old (member_encodings r.0) (member_encodings s.0)
-    ∙ ap (λ l. old ++ l) (sym (member_encodings-join r.0 s.0)) in
-    (first, parts, (vs, members_joined r.0 s.0 a.0 b.0 r.1 s.1, written))
-
--- all of them
-pub all_appended : (input left old now : List ℕ) → AppendsFirst input left old now → length left ≡ 0 → AreRewritten input old now
-all_appended input left old now a z =
-    let r : AreRewritten a.0 old now = a.2 in
-    let same : input ≡ a.0 = a.1 ∙ ap (λ l. a.0 ++ l) (nil_from_length left z) ∙ append-nil a.0 in
-    (r.0, subst (AreMembers r.0) (sym same) r.1, r.2)
-
--- what is left
-pub left_appended : (input left old now : List ℕ) → AppendsFirst input left old now → left ≢ [] → IsLeft input left
-left_appended input left old now a n =
-    let r : AreRewritten a.0 old now = a.2 in
-    (r.0, a.0, a.1, r.1, n)
-
--- one pod
-pub front_appended : (input rest old new : List ℕ) → AppendsFront input rest old new → AppendsFirst input rest old new
-front_appended input rest old new a =
-    let v = a.0 in
-    let front = front_of input in (
-      front,
-      parted input v rest a.1,
-      (
-        member v no_trees,
-        (front, [], sym (append-nil front), a.1.begins.pod, refl),
-        a.2 ∙ ap (λ l. old ++ l) (sym (append-nil (encoding_of v))),
-      ),
-    )
-
--- canonical ones
-pub canonical_appended : (left first rest old new : List ℕ) → left ≡ first ++ rest → AreCanonical first → new ≡ old ++ first →
-    AppendsFirst left rest old new
-canonical_appended left first rest old new e k w = (first, e, (k.values, k.members, w ∙ ap (λ l. old ++ l) k.same))
-
--- accepted ones
-pub pods_appended : (pods first rest old new : List ℕ) (n : ℕ) → pods ≡ first ++ rest → AreShorter first n → AppendsEncodings first old new →
-    AppendsFirst pods rest old new
-pods_appended pods first rest old new n e s a = (first, e, (s.values, s.members, a s.values s.members))

@@ -1,10 +1,12 @@
 //! Pods are replaced by their encodings where they are. It takes no memory and calls itself nowhere: the header of a container whose encoding is begun
 //! holds, until that is complete, where the container around it begins, and how much of that is left.
-ghost use Rattle.std.specs.Prelude.{◌≡◌, ◌+◌, ◌-◌, ◌<◌, ◌≤◌, ◌++◌, Bool, IfNone, IfSome, drop, length, take};
+ghost use Rattle.std.specs.Prelude.{[], ◌≡◌, ◌+◌, ◌-◌, ◌<◌, ◌≤◌, ◌++◌, Bool, IfNone, IfSome, drop, length, take};
 ghost use Rattle.spa_format.specs.Words.{header_size, size_limit, word_at, word_bytes};
 ghost use Rattle.spa_events.specs.Inside.{key_size};
 ghost use Rattle.spa_rewrite.specs.Emit.{Begins, EncodesAll, EncodesFirst, IsAround, IsLink, IsRun, last_bit};
 ghost use Rattle.spa_rewrite.specs.Placed.{HoldsWhole, type_inside};
+ghost use Rattle.spa_rewrite.specs.Look.{AreChanged};
+ghost use Rattle.spa_rewrite.specs.Rewriting.{AreRewritten};
 
 use crate::patch::{behind_words, encode_leaf, place_behind};
 use spa_bytes::{HEADER_LEN, open, two_words, u32_at};
@@ -44,9 +46,22 @@ struct Run {
     after: After,
 }
 
+/// Replaces pods one after another by their encodings, which are put at the front, and returns how many bytes these take: so many first bytes of the pods,
+/// and canonical pods behind them, which are moved at once.
+pub fn encode_pods(changed: usize, pods: &mut [u8]) -> usize
+    requires { AreChanged pods.old changed }
+    ensures written { AreRewritten pods.old [] (take result pods.new) }
+    ensures within { result ≤ length pods.old }
+{
+    let others = pods.len() - changed;
+    let len = emit(&mut pods[..changed]);
+    move_down(changed, others, len, pods);
+    len + others
+}
+
 /// Replaces pods one after another by their encodings, which are put at the front, and returns how many bytes these take. Of bytes that aren't such pods it
 /// promises nothing.
-pub fn emit(bytes: &mut [u8]) -> usize
+fn emit(bytes: &mut [u8]) -> usize
     ensures { EncodesAll bytes.old bytes.new result }
 {
     let mut list = OpenList {
@@ -135,7 +150,7 @@ fn encode_leaves(keyed: bool, pods: &mut [u8]) -> Run
 
 /// Copies so many bytes down to a place before them, where they aren't there already.
 #[inline(always)]
-pub fn move_down(from: usize, len: usize, to: usize, bytes: &mut [u8])
+fn move_down(from: usize, len: usize, to: usize, bytes: &mut [u8])
     requires down { to ≤ from }
     requires within { from + len ≤ length bytes.old }
     ensures { bytes.new ≡ take to bytes.old ++ (take len (drop from bytes.old) ++ drop (to + len) bytes.old) }

@@ -1,29 +1,22 @@
-//! One look at pods: whether they are accepted, whether they are canonical, and how long their encodings are. It writes nothing, takes no
-//! memory and calls itself nowhere: what is left of the structs and objects around a pod waits in an array of fixed size.
-ghost use Rattle.std.specs.Prelude.{◌≡◌, ◌≢◌, ◌+◌, ◌<◌, ◌≤◌, ◌⊎◌, IfErr, IfNone, IfOk, IfSome, List, length, true, false, ℕ};
-ghost use Rattle.spa_format.specs.Faults.{StandsAtFront};
-ghost use Rattle.spa_format.specs.Front.{Begins, IsRefused, rest_of};
-ghost use Rattle.spa_format.specs.Opened.{OpensHeaderAlone};
-ghost use Rattle.spa_format.specs.Pod.{IsBody};
-ghost use Rattle.spa_format.specs.Tree.{Tree, array_type, choice_type, object_type, struct_type, type_of};
-ghost use Rattle.spa_format.specs.Words.{header_size, size_limit};
-ghost use Rattle.spa_bodies.specs.Refusing.{Says, StandsInBody};
-ghost use Rattle.spa_rewrite.specs.Look.{AreAccepted, AreChanged, IsAccepted, IsAcceptedAsked, IsFound, IsMet, IsRejected, Passes};
+//! Looks at pods: whether they are accepted, whether they are canonical, and how long their encodings are. They write nothing and call themselves
+//! nowhere, and take memory only for pods in which more lists wait than an array has room for.
+ghost use Rattle.std.specs.Prelude.{◌≡◌, ◌+◌, ◌<◌, ◌≤◌, ◌++◌, IfErr, IfNone, IfOk, IfSome, OnOk, [], length};
+ghost use Rattle.spa_format.specs.Front.{Begins, HasFront};
+ghost use Rattle.spa_format.specs.Pod.{AreMembers};
+ghost use Rattle.spa_format.specs.Tree.{Tree, Trees};
+ghost use Rattle.spa_rewrite.specs.Look.{AreAccepted, AreChanged, IsAccepted, IsFrontLook, IsRejected};
 ghost use Rattle.spa_rewrite.specs.Rewriting.{IsLeft};
-ghost use Rattle.spa_rewrite.specs.Shorter.{ArePodsWithin, AreShorter, BeginsShorter, IsShorterBody};
-ghost use Rattle.spa_scan.specs.Canonical.{BeginsCanonical, IsStretch, MissesOnly};
-ghost use Rattle.spa_scan.specs.Depth.{depth_of, levels_looked_into};
+ghost use Rattle.spa_rewrite.specs.Shorter.{ArePodsWithin, BeginsShorter};
+ghost use Rattle.spa_scan.specs.Canonical.{AreCanonical, BeginsCanonical, IsStretch, MissesOnly};
+ghost use Rattle.spa_scan.specs.Depth.{AreShallow, NestsDeeper, depth_of, levels_looked_into};
 
-use crate::leading::{
-    CanonicalLook, canonical_stretch, is_inside_first, is_leaf, look_for_canonical, no_frames,
-};
-use crate::surplus::{CHOICE_HEADER, leaf_surplus, short_front};
-use spa_bodies::VALUE_TYPE_AT;
-use spa_bytes::{HEADER_LEN, SECOND_WORD, open, u32_at};
-use spa_events::{Inside, behind_key, inside_of};
-use spa_fixed_sized::{FLAGS_SHAPE, Refusal};
-use spa_scan::fixed_len;
-use spa_utils::SpaTypes;
+use crate::fault::fault;
+use crate::inside::{Found, MANY, Waiting, few_frames, look_inside, look_into, none_waiting};
+use crate::leaf::leaf;
+use spa_bytes::{HEADER_LEN, open};
+use spa_events::inside_of;
+use spa_fixed_sized::Refusal;
+use std::alloc::Global;
 
 /// A pod that is accepted.
 #[derive(Clone, Copy)]
@@ -36,21 +29,12 @@ pub struct AcceptedPod<'a> {
     pub surplus: usize,
 }
 
-/// Pods one after another that are all accepted.
+/// Pods one after another that are all accepted: some first ones, and canonical ones.
 #[derive(Clone, Copy)]
 pub struct AcceptedPods {
-    /// How many bytes the canonical pods take before the first one that isn't canonical.
-    pub canonical: usize,
-    /// By how many bytes the encodings of all are shorter than the pods.
-    pub surplus: usize,
-}
-
-/// Pods one after another that are all accepted: those up to the last one that isn't canonical, and canonical ones.
-#[derive(Clone, Copy)]
-pub struct ChangedPods {
-    /// How many first bytes are pods up to the last one that isn't canonical.
-    pub others: usize,
-    /// By how many bytes the encodings of all are shorter than the pods.
+    /// How many first bytes are pods up to the last one that isn't canonical, or the first one.
+    pub changed: usize,
+    /// By how many bytes the encodings of all are shorter.
     pub surplus: usize,
 }
 
@@ -60,73 +44,20 @@ pub enum Rejected<'a> {
     /// It is malformed. The fault stands at the front of these bytes: what is left from there on of the input, or of the struct or object
     /// inside which it stands. The number is that place's offset in the pod.
     Fault(&'a [u8], usize, Refusal),
-    /// More than 1000 structs and objects stand in one another.
+    /// More than 1000 structs and objects stand in one another, and no memory was given for them, or it ran out.
     TooDeep,
 }
 
-/// What is found inside a struct or an object.
+/// What a look finds of the pod at the front.
 #[derive(Clone, Copy)]
-pub(crate) enum Found<'a> {
-    /// Accepted pods, whose encodings are so many bytes shorter.
-    Fits(usize),
-    /// A fault stands at the front of these bytes, which so many follow of those that are looked at.
+enum FrontLook<'a> {
+    /// It is accepted, or canonical: what follows it, and by how many bytes its encoding is shorter.
+    Fits(&'a [u8], usize),
+    /// It isn't: the first pod inside that isn't is at the front of these bytes, at this offset.
     Stops(&'a [u8], usize),
     /// There is no room for one more list that waits.
     TooDeep,
 }
-
-/// What stands first in a list.
-#[derive(Clone, Copy)]
-enum Met<'a> {
-    /// Accepted pods that hold no others: what follows them, and by how many bytes their encodings are shorter.
-    Leaves(&'a [u8], usize),
-    /// A struct or an object: what is inside, what follows it, and how many bytes stand behind what is inside, with the padding.
-    Inner(Inside<'a>, &'a [u8], usize),
-    /// A fault stands at the front of these bytes.
-    Fault(&'a [u8]),
-}
-
-/// What is left of a list while the look is inside of a pod in it.
-#[derive(Clone, Copy)]
-pub(crate) struct Waiting<'a> {
-    /// Whether a key and flags stand before each pod.
-    keyed: bool,
-    /// How many bytes of those that are looked at follow the pods that are left.
-    behind: u32,
-    /// The pods that are left.
-    pods: &'a [u8],
-}
-
-/// The short array, in which no list waits yet.
-#[inline(always)]
-pub(crate) fn few_frames(pods: &[u8]) -> [Waiting<'_>; FEW] {
-    [none_waiting(pods); FEW]
-}
-
-/// An array in which no list can wait: for a single pod one is made only where a list has to wait.
-#[inline(always)]
-pub(crate) fn no_room(pods: &[u8]) -> [Waiting<'_>; 0] {
-    [none_waiting(pods); 0]
-}
-
-/// An entry of an array in which no list waits.
-#[inline(always)]
-pub(crate) fn none_waiting(pods: &[u8]) -> Waiting<'_> {
-    Waiting {
-        keyed: false,
-        pods,
-        behind: 0,
-    }
-}
-
-/// How many lists can wait in the short array.
-pub(crate) const FEW: usize = 8;
-
-/// How many can wait in the next one, which is taken where the short one is full.
-pub(crate) const SOME: usize = 64;
-
-/// How many can wait in the long one.
-pub(crate) const MANY: usize = 1000;
 
 /// Looks at the pod at the front of the input.
 ///
@@ -137,12 +68,28 @@ pub fn look_at_pod(input: &[u8]) -> Result<AcceptedPod<'_>, Rejected<'_>>
     // Each pod of so many levels is accepted.
     ensures missed { IfErr result (λ _. (v : Tree) → Begins input.now v → levels_looked_into < depth_of v) }
 {
-    look_at_front(true, input, &mut no_room(input))
+    let mut frames = few_frames(input);
+    match look_at_front(true, input, &mut frames) {
+        FrontLook::Fits(rest, surplus) => Ok(AcceptedPod {
+            rest,
+            canonical: true,
+            surplus,
+        }),
+        FrontLook::Stops(_, _) => match accept_front(input, &mut frames) {
+            Ok((rest, surplus)) => Ok(AcceptedPod {
+                rest,
+                canonical: false,
+                surplus,
+            }),
+            Err(rejected) => Err(rejected),
+        },
+        FrontLook::TooDeep => Err(Rejected::TooDeep),
+    }
 }
 
 /// Looks at all pods that the input consists of. A refusal gives what is left of the input from the refused pod on.
 ///
-/// It takes no memory, and accepts pods as `look_at_pod` does.
+/// It takes no memory, and accepts pods as `look_at_pod` does. Of the first pod it isn't asked whether it is canonical.
 pub fn look_at_pods(pods: &[u8]) -> Result<AcceptedPods, (&[u8], Rejected<'_>)>
     ensures accepted { IfOk result (AreAccepted pods.now) }
     ensures left { IfErr result (λ refusal. IsLeft pods.now refusal.0.now) }
@@ -152,438 +99,183 @@ pub fn look_at_pods(pods: &[u8]) -> Result<AcceptedPods, (&[u8], Rejected<'_>)>
 {
     let mut frames = few_frames(pods);
     let mut left = pods;
-    let mut all = true;
-    let (mut canonical, mut surplus) = (0, 0);
+    let (mut changed, mut surplus) = (0, 0);
     while !left.is_empty() {
-        let pod = match look_at_front(all, left, &mut frames) {
-            Ok(pod) => pod,
-            Err(why) => return Err((left, why)),
-        };
-        canonical = canonical_len(canonical, pod.canonical, pods.len() - pod.rest.len());
-        surplus += pod.surplus;
-        all = pod.canonical;
-        left = pod.rest;
-    }
-    Ok(AcceptedPods { canonical, surplus })
-}
-
-/// How many bytes of pods are looked at or written together at most: so many fit into a processor's cache.
-const BLOCK: usize = 65536;
-
-/// How many bytes of pods aren't asked whether they are canonical, behind one that was and isn't, where so many weren't before: none behind canonical
-/// pods, and more while no pod that is asked is canonical.
-#[inline(always)]
-pub(crate) fn more_unasked(unasked: usize) -> usize {
-    if unasked < BLOCK { 4 * unasked } else { BLOCK }
-}
-
-/// Finds the pods of an input up to the last one that isn't canonical, or the first one, and the canonical ones behind them: of the first it isn't asked
-/// whether it is canonical. It is refused as `look_at_pods` is.
-pub fn changed_pods(pods: &[u8]) -> Result<ChangedPods, (&[u8], Rejected<'_>)>
-    ensures there { IfOk result (AreChanged pods.now) }
-    ensures left { IfErr result (λ refusal. IsLeft pods.now refusal.0.now) }
-    ensures rejected { IfErr result (λ refusal. IsRejected refusal.0.now refusal.1) }
-    ensures missed { IfErr result (λ _. ¬ (ArePodsWithin levels_looked_into pods.now)) }
-{
-    let mut frames = few_frames(pods);
-    let mut left = pods;
-    let mut tail = pods;
-    let mut surplus = 0;
-    let (mut unasked, mut asked_from) = (1, 1);
-    loop {
-        let asked = pods.len() - left.len() >= asked_from;
-        let other = behind_canonical_pods(asked, left);
-        if asked {
-            unasked = if other.len() < left.len() {
-                1
-            } else {
-                more_unasked(unasked)
-            };
-            asked_from = (pods.len() - other.len()).saturating_add(unasked);
-        }
-        if other.is_empty() {
-            return Ok(ChangedPods {
-                others: pods.len() - tail.len(),
-                surplus,
-            });
-        }
-        let pod = match look_at_front(false, other, &mut frames) {
-            Ok(pod) => pod,
-            Err(why) => return Err((other, why)),
-        };
-        tail = pod.rest;
-        surplus += pod.surplus;
-        left = pod.rest;
-    }
-}
-
-/// What follows the first canonical pods, where it is asked which these are.
-#[inline(always)]
-fn behind_canonical_pods(asked: bool, pods: &[u8]) -> &[u8]
-    ensures { IsStretch pods.now result.now }
-{
-    if !asked {
-        return pods;
-    }
-    let (_, rest) = canonical_stretch(pods);
-    rest
-}
-
-/// How many first bytes are canonical pods, where so many are of those before a pod that ends there.
-#[inline(always)]
-fn canonical_len(canonical: usize, are_all: bool, end: usize) -> usize
-    ensures more { are_all ≡ true → result ≡ end }
-    ensures same { are_all ≡ false → result ≡ canonical }
-{
-    if are_all { end } else { canonical }
-}
-
-/// Looks at the pod at the front of the input as `look_at_pod` does. Where `canonical` isn't set it isn't asked whether the pod is canonical, and the
-/// answer says that it isn't. Where it is asked, that is looked for first.
-#[inline(always)]
-pub(crate) fn look_at_front<'a>(
-    canonical: bool,
-    input: &'a [u8],
-    frames: &mut [Waiting<'a>],
-) -> Result<AcceptedPod<'a>, Rejected<'a>>
-    ensures accepted { IfOk result (IsAcceptedAsked canonical input.now) }
-    ensures rejected { IfErr result (IsRejected input.now) }
-{
-    let Some(front) = open(input) else {
-        return Err(Rejected::Fault(input, 0, Refusal::Short));
-    };
-    let Some(inside) = inside_of(front.type_, front.body) else {
-        let Some(surplus) = leaf_surplus(front.type_, front.body) else {
-            return Err(Rejected::Fault(input, 0, fault(input)));
-        };
-        return Ok(AcceptedPod {
-            rest: front.rest,
-            canonical: is_asked_leaf(canonical, input),
-            surplus,
-        });
-    };
-    if canonical {
-        match look_for_canonical(inside.keyed, inside.pods, &mut no_frames(input)) {
-            CanonicalLook::Same => {
-                return Ok(AcceptedPod {
-                    rest: front.rest,
-                    canonical: true,
-                    surplus: 0,
-                });
-            }
-            CanonicalLook::Differs => {}
-            CanonicalLook::TooDeep => return Err(Rejected::TooDeep),
-        }
-    }
-    match look_into(inside.keyed, inside.pods, frames) {
-        Found::Fits(surplus) => Ok(AcceptedPod {
-            rest: front.rest,
-            canonical: false,
-            surplus,
-        }),
-        Found::Stops(place, behind) => {
-            let at = HEADER_LEN + front.body.len() - (place.len() + behind);
-            Err(Rejected::Fault(place, at, fault(place)))
-        }
-        Found::TooDeep => Err(Rejected::TooDeep),
-    }
-}
-
-/// Looks inside a struct or an object: at its first pods that hold no others, which need no array, and at what follows them.
-#[inline(always)]
-pub(crate) fn look_into<'a>(keyed: bool, pods: &'a [u8], frames: &mut [Waiting<'a>]) -> Found<'a>
-    requires { length pods.now < size_limit }
-    ensures { IsFound levels_looked_into keyed pods.now result }
-{
-    let (left, surplus) = behind_accepted(keyed, pods);
-    if left.is_empty() {
-        return Found::Fits(surplus);
-    }
-    match look_inside(keyed, left, frames) {
-        Found::Fits(more) => Found::Fits(surplus + more),
-        Found::Stops(place, behind) => Found::Stops(place, behind),
-        Found::TooDeep => look_deeper(keyed, pods),
-    }
-}
-
-/// Looks inside a struct or an object with the short array, or a longer one.
-#[inline(never)]
-fn look_deeper(keyed: bool, pods: &[u8]) -> Found<'_>
-    requires { length pods.now < size_limit }
-    ensures { IsFound levels_looked_into keyed pods.now result }
-{
-    match look_inside(keyed, pods, &mut few_frames(pods)) {
-        Found::Fits(surplus) => Found::Fits(surplus),
-        Found::Stops(place, behind) => Found::Stops(place, behind),
-        Found::TooDeep => look_further(keyed, pods),
-    }
-}
-
-/// Looks inside a struct or an object with the next array, or the long one.
-#[cold]
-#[inline(never)]
-fn look_further(keyed: bool, pods: &[u8]) -> Found<'_>
-    requires { length pods.now < size_limit }
-    ensures { IsFound levels_looked_into keyed pods.now result }
-{
-    match look_inside(keyed, pods, &mut [none_waiting(pods); SOME]) {
-        Found::Fits(surplus) => Found::Fits(surplus),
-        Found::Stops(place, behind) => Found::Stops(place, behind),
-        Found::TooDeep => look_deep(keyed, pods),
-    }
-}
-
-/// Looks inside a struct or an object with the long array alone.
-#[cold]
-#[inline(never)]
-fn look_deep(keyed: bool, pods: &[u8]) -> Found<'_>
-    requires { length pods.now < size_limit }
-    ensures { IsFound levels_looked_into keyed pods.now result }
-{
-    look_inside(keyed, pods, &mut [none_waiting(pods); MANY])
-}
-
-/// Looks inside a struct or an object. What is left behind an inner one waits in the array.
-#[inline(never)]
-pub(crate) fn look_inside<'a>(
-    are_keyed: bool,
-    pods: &'a [u8],
-    frames: &mut [Waiting<'a>],
-) -> Found<'a>
-    requires { length pods.now < size_limit }
-    ensures { IsFound (length frames.old) are_keyed pods.now result }
-{
-    let (mut waiting, mut surplus, mut behind) = (0, 0, 0);
-    let mut keyed = are_keyed;
-    let mut left = pods;
-    loop {
-        if left.is_empty() {
-            if waiting == 0 {
-                return Found::Fits(surplus);
-            }
-            waiting -= 1;
-            let outer = frames[waiting];
-            keyed = outer.keyed;
-            left = outer.pods;
-            behind = outer.behind as usize;
-            continue;
-        }
-        match meet(keyed, left) {
-            Met::Leaves(rest, more) => {
+        match accept_front(left, &mut frames) {
+            Ok((rest, more)) => {
+                changed = pods.len() - rest.len();
                 surplus += more;
-                left = rest;
+                left = behind_canonical_pods(rest, &mut frames);
             }
-            Met::Inner(inner, rest, more) => {
-                if waiting >= frames.len() {
-                    return Found::TooDeep;
-                }
-                frames[waiting] = Waiting {
-                    keyed,
-                    pods: rest,
-                    behind: behind as u32,
-                };
-                waiting += 1;
-                keyed = inner.keyed;
-                left = inner.pods;
-                behind += more;
-            }
-            Met::Fault(place) => return Found::Stops(place, behind),
+            Err(why) => return Err((left, why)),
         }
     }
+    Ok(AcceptedPods { changed, surplus })
 }
 
-/// What stands first in pods: accepted ones that hold no others, a struct or an object, or a fault.
-#[inline(always)]
-fn meet(keyed: bool, left: &[u8]) -> Met<'_>
-    requires { 0 < length left.now }
-    ensures { IsMet keyed left.now result }
+/// Looks at all pods that the input consists of, however deep they nest, and answers how many first bytes are pods up to the last one that isn't
+/// canonical, or the first one. A refusal gives what is left of the input from the refused pod on, and the fault, with its place and its offset in that
+/// pod.
+///
+/// It takes memory only for a pod in which more than 1000 structs and objects stand in one another: for its open containers. Where that memory
+/// runs out, and nowhere else, it answers `TooDeep`.
+pub fn changed_pods(alloc: Global, input: &[u8]) -> Result<usize, (&[u8], Rejected<'_>)>
+    ensures accepted { IfOk result (AreChanged input.now) }
+    ensures left { IfErr result (λ refusal. IsLeft input.now refusal.0.now) }
+    ensures rejected { IfErr result (λ refusal. IsRejected refusal.0.now refusal.1) }
+    // Pods that nest in 1000 levels at most are never refused.
+    ensures missed { IfErr result (λ _. ¬ (ArePodsWithin levels_looked_into input.now)) }
 {
-    if !is_inside_first(keyed, left) {
-        let (rest, surplus) = behind_accepted(keyed, left);
-        if rest.len() < left.len() {
-            return Met::Leaves(rest, surplus);
+    let mut left = input;
+    loop {
+        match look_at_pods(left) {
+            Ok(all) => return Ok(input.len() - left.len() + all.changed),
+            Err((pod, rejected)) => match rejected {
+                Rejected::Fault(_, _, _) => return Err((pod, rejected)),
+                Rejected::TooDeep => match accept_deep(alloc, pod) {
+                    Ok((rest, _)) => left = rest,
+                    Err(rejected) => return Err((pod, rejected)),
+                },
+            },
         }
-    }
-    let Some(here) = behind_key(keyed, left) else {
-        return Met::Fault(left);
-    };
-    let Some(front) = open(here) else {
-        return Met::Fault(here);
-    };
-    if let Some(inner) = inside_of(front.type_, front.body) {
-        let behind = here.len() - HEADER_LEN - front.body.len();
-        return Met::Inner(inner, front.rest, behind);
-    }
-    match rare_surplus(front.type_, front.body) {
-        Some(surplus) => Met::Leaves(front.rest, surplus),
-        None => Met::Fault(here),
     }
 }
 
-/// Does what `leaf_surplus` does, by a call: where it is asked, a struct or an object is met most often.
+/// Looks at all pods that the input consists of as `changed_pods` does.
+pub fn find_fault(alloc: Global, input: &[u8]) -> Result<(), (&[u8], Rejected<'_>)>
+    ensures accepted { OnOk result ((vs : Trees) × AreMembers vs input.now) }
+    ensures left { IfErr result (λ refusal. IsLeft input.now refusal.0.now) }
+    ensures rejected { IfErr result (λ refusal. IsRejected refusal.0.now refusal.1) }
+    // Pods that nest in 1000 levels at most are never refused.
+    ensures missed { IfErr result (λ _. ¬ (ArePodsWithin levels_looked_into input.now)) }
+{
+    match changed_pods(alloc, input) {
+        Ok(_) => Ok(()),
+        Err(refusal) => Err(refusal),
+    }
+}
+
+/// What follows the pod at the front, where a look finds that it is canonical: its padding is zeros, its truth values are 0 or 1, its choices hold
+/// no surplus values, its pointers take 16 bytes, and the same holds of its members. It takes no memory.
+///
+/// `None` says that it isn't, or that more than 1000 structs and objects stand in one another: such a pod may not be looked into, and may still be
+/// canonical.
+pub fn canonical_front(input: &[u8]) -> Option<&[u8]>
+    ensures taken { IfSome result (λ rest. BeginsCanonical input.now rest.now) }
+    ensures shorter { IfSome result (λ rest. length rest.now + 8 ≤ length input.now) }
+    ensures missed { IfNone result (MissesOnly input.now (λ v. levels_looked_into < depth_of v)) }
+{
+    next_canonical(input, &mut few_frames(input))
+}
+
+/// The first pods, as many as `canonical_front` finds to be canonical, and what follows them.
 #[inline(never)]
-fn rare_surplus(type_: u32, body: &[u8]) -> Option<usize>
-    ensures there { IfSome result (λ surplus. IsShorterBody type_ body.now surplus) }
-    ensures missed { IfNone result ((v : Tree) → type_of v ≡ type_ → depth_of v ≡ 0 → ¬ (IsBody v body.now)) }
+pub fn canonical_stretch(input: &[u8]) -> (&[u8], &[u8])
+    ensures parts { input.now ≡ result.0.now ++ result.1.now }
+    ensures canonical { AreCanonical result.0.now }
+    ensures front { 0 < length result.0.now → HasFront input.now }
+    // Nothing follows where the input is such pods that nest no deeper.
+    ensures all { AreShallow levels_looked_into input.now → result.1.now ≡ [] }
 {
-    leaf_surplus(type_, body)
+    let left = behind_canonical_pods(input, &mut few_frames(input));
+    input.split_at(input.len() - left.len())
 }
 
-/// The length in bytes of a key, flags and a pod whose body is one or two words.
-const KEYED_LEN: usize = 24;
-
-/// What follows the first pods whose bodies are one or two words and of a kind of fixed size.
+/// What follows the first canonical pods, with an array in which lists can wait.
 #[inline(always)]
-fn behind_short(keyed: bool, pods: &[u8]) -> &[u8]
-    ensures { Passes keyed false pods.now result.now 0 }
+fn behind_canonical_pods<'a>(pods: &'a [u8], frames: &mut [Waiting<'a>]) -> &'a [u8]
+    ensures stretch { IsStretch pods.now result.now }
+    ensures all { AreShallow levels_looked_into pods.now → result.now ≡ [] }
 {
     let mut left = pods;
-    while let Some(rest) = short_leaf(keyed, left) {
+    while let Some(rest) = next_canonical(left, frames) {
         left = rest;
     }
     left
 }
 
-/// What follows the first member or property, where its body is one or two words and of a kind of fixed size.
+/// What follows the pod at the front as `canonical_front` says it, with an array in which lists can wait.
 #[inline(always)]
-fn short_leaf(keyed: bool, left: &[u8]) -> Option<&[u8]>
-    ensures passed { IfSome result (λ rest. Passes keyed false left.now rest.now 0) }
-    ensures shorter { IfSome result (λ rest. length rest.now + 8 ≤ length left.now) }
+fn next_canonical<'a>(input: &'a [u8], frames: &mut [Waiting<'a>]) -> Option<&'a [u8]>
+    ensures taken { IfSome result (λ rest. BeginsCanonical input.now rest.now) }
+    ensures shorter { IfSome result (λ rest. length rest.now + 8 ≤ length input.now) }
+    ensures missed { IfNone result (MissesOnly input.now (λ v. levels_looked_into < depth_of v)) }
 {
-    if keyed && left.len() < KEYED_LEN {
-        return None;
+    match look_at_front(true, input, frames) {
+        FrontLook::Fits(rest, _) => Some(rest),
+        FrontLook::Stops(_, _) => None,
+        FrontLook::TooDeep => None,
     }
-    let Some(here) = behind_key(keyed, left) else {
-        return None;
+}
+
+/// What follows the pod at the front, which is accepted, and by how many bytes its encoding is shorter.
+#[inline(always)]
+pub(crate) fn accept_front<'a>(
+    input: &'a [u8],
+    frames: &mut [Waiting<'a>],
+) -> Result<(&'a [u8], usize), Rejected<'a>>
+    ensures accepted { IfOk result (λ front. BeginsShorter input.now front.0.now front.1) }
+    ensures rejected { IfErr result (IsRejected input.now) }
+{
+    match look_at_front(false, input, frames) {
+        FrontLook::Fits(rest, surplus) => Ok((rest, surplus)),
+        FrontLook::Stops(place, at) => Err(Rejected::Fault(place, at, fault(place))),
+        FrontLook::TooDeep => Err(Rejected::TooDeep),
+    }
+}
+
+/// Looks at the pod at the front: whether it is canonical, where that is asked, and else whether it is accepted.
+#[inline(always)]
+fn look_at_front<'a>(canonical: bool, input: &'a [u8], frames: &mut [Waiting<'a>]) -> FrontLook<'a>
+    ensures { IsFrontLook canonical input.now result }
+{
+    let Some(front) = open(input) else {
+        return FrontLook::Stops(input, 0);
     };
-    short_front(here)
-}
-
-/// What follows the first accepted pods that hold no others, and by how many bytes their encodings are shorter: of properties by one loop, and of
-/// members by another.
-#[inline(never)]
-fn behind_accepted(keyed: bool, pods: &[u8]) -> (&[u8], usize)
-    ensures { Passes keyed false pods.now result.0.now result.1 }
-{
-    if keyed {
-        return behind_leaves(true, pods);
-    }
-    behind_leaves(false, pods)
-}
-
-/// What follows the first accepted pods that hold no others, with key and flags before each where `keyed` is set, and by how many bytes their
-/// encodings are shorter.
-#[inline(always)]
-fn behind_leaves(keyed: bool, pods: &[u8]) -> (&[u8], usize)
-    ensures { Passes keyed false pods.now result.0.now result.1 }
-{
-    let mut left = behind_short(keyed, pods);
-    let mut surplus = 0;
-    loop {
-        let Some(here) = behind_key(keyed, left) else {
-            return (left, surplus);
+    let Some(inside) = inside_of(front.type_, front.body) else {
+        return match leaf(canonical, input) {
+            Some((rest, surplus)) => FrontLook::Fits(rest, surplus),
+            None => FrontLook::Stops(input, 0),
         };
-        let Some(front) = open(here) else {
-            return (left, surplus);
-        };
-        let Some(more) = leaf_surplus(front.type_, front.body) else {
-            return (left, surplus);
-        };
-        surplus += more;
-        left = behind_short(keyed, front.rest);
+    };
+    match look_into(canonical, inside.keyed, inside.pods, frames) {
+        Found::Fits(surplus) => FrontLook::Fits(front.rest, surplus),
+        Found::Stops(place, behind) => {
+            let at = HEADER_LEN + front.body.len() - (place.len() + behind);
+            FrontLook::Stops(place, at)
+        }
+        Found::TooDeep => FrontLook::TooDeep,
     }
 }
 
-/// Whether the pod at the front, which holds no others, is canonical, where that is asked.
-fn is_asked_leaf(asked: bool, pod: &[u8]) -> bool
-    ensures asked { result ≡ true → asked ≡ true }
-    ensures own { result ≡ true → BeginsCanonical pod.now (rest_of pod.now) }
-    ensures differs { result ≡ false → (asked ≡ false) ⊎ MissesOnly pod.now (λ v. 0 < depth_of v) }
-{
-    asked && is_leaf(pod)
-}
-
-/// The fault that stands at the front of these bytes, which begin with no pod, and not for what is inside one.
+/// Does what `accept_front` does for a pod in which more lists wait than an array has room for: these wait in memory, with room for four times as many
+/// whenever that is full. `TooDeep`: memory ran out.
 #[cold]
 #[inline(never)]
-pub(crate) fn fault(place: &[u8]) -> Refusal
-    requires refused { IsRefused place.now }
-    requires alone { OpensHeaderAlone place.now }
-    ensures { Says (λ k. StandsAtFront k place.now) ⊥ result }
+pub(crate) fn accept_deep(alloc: Global, input: &[u8]) -> Result<(&[u8], usize), Rejected<'_>>
+    requires { NestsDeeper levels_looked_into input.now }
+    ensures accepted { IfOk result (λ front. BeginsShorter input.now front.0.now front.1) }
+    ensures rejected { IfErr result (IsRejected input.now) }
 {
-    match open(place) {
-        Some(front) => body_fault(front.type_, front.body),
-        None => Refusal::Short,
+    let Some(front) = open(input) else {
+        unreachable!();
+    };
+    let Some(inside) = inside_of(front.type_, front.body) else {
+        unreachable!();
+    };
+    let mut room = 4 * MANY;
+    loop {
+        let mut frames = Vec::new(alloc);
+        let Ok(()) = frames.resize(room, none_waiting(input)) else {
+            return Err(Rejected::TooDeep);
+        };
+        match look_inside(false, inside.keyed, inside.pods, frames.as_mut_slice()) {
+            Found::Fits(surplus) => return Ok((front.rest, surplus)),
+            Found::Stops(place, behind) => {
+                let at = HEADER_LEN + front.body.len() - (place.len() + behind);
+                return Err(Rejected::Fault(place, at, fault(place)));
+            }
+            Found::TooDeep => room = 4 * room,
+        }
     }
-}
-
-/// The fault of a body of this type.
-fn body_fault(type_: u32, body: &[u8]) -> Refusal
-    requires refused { (v : Tree) → type_of v ≡ type_ → ¬ (IsBody v body.now) }
-    requires no_struct { type_ ≢ struct_type }
-    requires short_object { type_ ≡ object_type → length body.now < header_size }
-    ensures { Says (StandsInBody type_ body.now) ⊥ result }
-{
-    match SpaTypes(type_) {
-        SpaTypes::String => Refusal::Text,
-        SpaTypes::Bytes => unreachable!(),
-        SpaTypes::Bitmap => unreachable!(),
-        SpaTypes::Array => array_fault(body),
-        SpaTypes::Struct => unreachable!(),
-        SpaTypes::Choice => choice_fault(body),
-        SpaTypes::None => Refusal::WrongSize,
-        SpaTypes::Bool => Refusal::WrongSize,
-        SpaTypes::Id => Refusal::WrongSize,
-        SpaTypes::Int => Refusal::WrongSize,
-        SpaTypes::Long => Refusal::WrongSize,
-        SpaTypes::Float => Refusal::WrongSize,
-        SpaTypes::Double => Refusal::WrongSize,
-        SpaTypes::Rectangle => Refusal::WrongSize,
-        SpaTypes::Fraction => Refusal::WrongSize,
-        SpaTypes::Fd => Refusal::WrongSize,
-        SpaTypes::Object => Refusal::WrongSize,
-        SpaTypes::Pointer => Refusal::WrongSize,
-        _ => Refusal::InvalidType,
-    }
-}
-
-/// The longest body of fixed size, in bytes.
-const WIDE_LEN: u32 = 8;
-
-/// The fault of an array's body.
-fn array_fault(body: &[u8]) -> Refusal
-    requires { (v : Tree) → type_of v ≡ array_type → ¬ (IsBody v body.now) }
-    ensures { Says (StandsInBody array_type body.now) ⊥ result }
-{
-    if body.len() < HEADER_LEN {
-        return Refusal::WrongSize;
-    }
-    if fixed_len(u32_at(body, SECOND_WORD)) > WIDE_LEN {
-        return Refusal::InvalidType;
-    }
-    Refusal::WrongSize
-}
-
-/// The fault of a choice's body.
-fn choice_fault(body: &[u8]) -> Refusal
-    requires { (v : Tree) → type_of v ≡ choice_type → ¬ (IsBody v body.now) }
-    ensures { Says (StandsInBody choice_type body.now) ⊥ result }
-{
-    if body.len() < CHOICE_HEADER {
-        return Refusal::WrongSize;
-    }
-    let len = fixed_len(u32_at(body, VALUE_TYPE_AT));
-    if len == 0 || len > WIDE_LEN {
-        return Refusal::InvalidType;
-    }
-    if u32_at(body, HEADER_LEN) != len {
-        return Refusal::WrongSize;
-    }
-    if (body.len() - CHOICE_HEADER) % len as usize != 0 {
-        return Refusal::WrongSize;
-    }
-    if u32_at(body, 0) > FLAGS_SHAPE {
-        return Refusal::InvalidChoiceType;
-    }
-    Refusal::MissingChoiceValues
 }

@@ -45,7 +45,7 @@ fn compare(input: &[u8]) -> bool {
         (Some(wanted), _) => {
             assert_eq!(&out, wanted);
             assert_eq!(in_place, Ok(wanted.len()));
-            assert_eq!((&place[..wanted.len()], &place[wanted.len()..]), (&wanted[..], &input[wanted.len()..]));
+            assert_eq!(&place[..wanted.len()], &wanted[..]);
         }
         (None, Err((left, _))) => {
             let at = input.len() - left.len();

@@ -22,11 +22,38 @@ pub enum Token<'a> {
 /// The letters that stand behind a backslash, and those for which they stand there.
 const ESCAPES: [(char, char); 8] = [('"', '"'), ('\\', '\\'), ('b', '\u{8}'), ('f', '\u{c}'), ('n', '\n'), ('r', '\r'), ('t', '\t'), ('/', '/')];
 
-const BLANKS: [char; 4] = [' ', '\t', '\n', '\r'];
-
 /// Whether a byte can't be in a string as it is.
 fn is_stop(byte: u8) -> bool {
     matches!(byte, b'"' | b'\\' | 0..0x20)
+}
+
+#[inline(always)]
+fn is_blank(byte: u8) -> bool {
+    byte <= b' ' && matches!(byte, b' ' | b'\t' | b'\n' | b'\r')
+}
+
+/// Whether a word goes on with this byte: no blank, comma, colon or bracket.
+#[inline(always)]
+fn is_inner(byte: u8) -> bool {
+    !(is_blank(byte) || matches!(byte, b',' | b':' | b'[' | b']' | b'{' | b'}'))
+}
+
+/// The first byte from this one on that can't be in a string as it is. Of eight bytes at once the high bits of such are found, of the first one surely.
+#[inline]
+fn stop_from(text: &[u8], from: usize) -> Option<usize> {
+    const ONES: u64 = u64::MAX / 255;
+    let (mut at, mut left) = (from, text.get(from..)?);
+    while let Some((eight, behind)) = left.split_first_chunk() {
+        let bytes = u64::from_le_bytes(*eight);
+        let (quote, backslash) = (bytes ^ (ONES * u64::from(b'"')), bytes ^ (ONES * u64::from(b'\\')));
+        let below = (bytes.wrapping_sub(ONES * 0x20) & !bytes) | (quote.wrapping_sub(ONES) & !quote) | (backslash.wrapping_sub(ONES) & !backslash);
+        let found = below & (ONES * 0x80);
+        if found != 0 {
+            return Some(at + found.trailing_zeros() as usize / 8);
+        }
+        (at, left) = (at + 8, behind);
+    }
+    Some(at + left.iter().position(|byte| is_stop(*byte))?)
 }
 
 /// Takes what stands behind a backslash, and gives the letter for which it stands. Four digits are a unit of UTF-16; a letter has one or two.
@@ -57,72 +84,115 @@ pub type Scratch = Vec<u8>;
 
 /// The tokens of a text.
 pub struct Reader<'a> {
-    left: &'a str,
-    len: usize,
-    /// The byte before what is left, blanks apart: a bracket before the first token, and NUL behind what is none.
-    behind: u8,
+    text: &'a str,
+    /// The byte at which the next token begins.
+    at: usize,
+    state: u8,
     room: &'a mut [u8],
 }
+
+/// A value or a key may begin; what is open may be closed, or the text end. Neither holds behind what is no token.
+const BEGINS: u8 = 1;
+const CLOSES: u8 = 2;
 
 impl<'a> Reader<'a> {
     pub fn new(text: &'a str, room: &'a mut Scratch) -> Result<Reader<'a>, AllocError> {
         // No string is longer than what is written for it.
         let least = if text.contains('\\') { text.len() } else { 0 };
         room.try_resize(least.max(room.len()), 0)?;
-        Ok(Reader { left: text.trim_start_matches(BLANKS), len: text.len(), behind: b'[', room })
+        let mut reader = Reader { text, at: 0, state: BEGINS | CLOSES, room };
+        reader.go_to(0);
+        Ok(reader)
     }
 
     /// The byte at which the next token begins.
     pub fn offset(&self) -> usize {
-        self.len - self.left.len()
+        self.at
     }
 
-    /// Passes so many bytes, and the blanks behind them.
-    fn pass(&mut self, count: usize) {
-        let (passed, left) = self.left.split_at(count);
-        self.behind = passed.bytes().last().unwrap_or(self.behind);
-        self.left = left.trim_start_matches(BLANKS);
+    /// Goes to this byte, and over the blanks from there on; gives what stands behind them.
+    #[inline(always)]
+    fn go_to(&mut self, to: usize) -> Option<u8> {
+        let bytes = self.text.as_bytes();
+        self.at = to;
+        while bytes.get(self.at).is_some_and(|byte| is_blank(*byte)) {
+            self.at += 1;
+        }
+        bytes.get(self.at).copied()
+    }
+
+    /// Goes behind what opens an array or an object, or behind a key and its colon.
+    #[inline(always)]
+    fn open(&mut self, to: usize, token: Token<'a>) -> Option<Token<'a>> {
+        self.state = BEGINS | CLOSES;
+        self.go_to(to);
+        Some(token)
+    }
+
+    /// Goes behind a value that ends before this byte, where this one stands, and over a comma.
+    #[inline(always)]
+    fn end(&mut self, behind: Option<u8>, token: Token<'a>) -> Option<Token<'a>> {
+        self.state = CLOSES;
+        if behind == Some(b',') {
+            self.state = BEGINS;
+            self.go_to(self.at + 1);
+        }
+        Some(token)
     }
 
     /// The next token.
     #[allow(clippy::should_implement_trait)]
     pub fn next(&mut self) -> Option<Token<'a>> {
-        let (len, token) = match (self.behind, self.left.as_bytes()) {
-            (0, _) => return None,
-            (behind, []) if behind != b',' => return None,
-            (behind, [b'}', ..]) if behind != b',' => (1, Token::EndObject),
-            (behind, [b']', ..]) if behind != b',' => (1, Token::EndArray),
-            (b'{' | b'[' | b':' | b',', [b'{', ..]) => (1, Token::BeginObject),
-            (b'{' | b'[' | b':' | b',', [b'[', ..]) => (1, Token::BeginArray),
-            (b'{' | b'[' | b':' | b',', [b'"', ..]) => self.string().unwrap_or((0, Token::Bad)),
-            (b'{' | b'[' | b':' | b',', _) => self.word(),
-            _ => (0, Token::Bad),
-        };
-        self.pass(len);
-        match token {
-            Token::Bad => self.behind = 0,
-            Token::String(text) if self.left.starts_with(':') => {
-                self.pass(1);
-                return Some(Token::Key(text));
+        let (begins, closes) = (self.state & BEGINS != 0, self.state & CLOSES != 0);
+        let to = self.at + 1;
+        match self.text.as_bytes().get(self.at) {
+            Some(b'"') if begins => {
+                if let Some((end, text)) = self.string() {
+                    let behind = self.go_to(end);
+                    return if behind == Some(b':') { self.open(self.at + 1, Token::Key(text)) } else { self.end(behind, Token::String(text)) };
+                }
             }
-            Token::BeginObject | Token::BeginArray => {}
-            _ if self.left.starts_with(',') => self.pass(1),
+            Some(b'}') if closes => {
+                let behind = self.go_to(to);
+                return self.end(behind, Token::EndObject);
+            }
+            Some(b']') if closes => {
+                let behind = self.go_to(to);
+                return self.end(behind, Token::EndArray);
+            }
+            Some(b'{') if begins => return self.open(to, Token::BeginObject),
+            Some(b'[') if begins => return self.open(to, Token::BeginArray),
+            Some(_) if begins => {
+                if let Some((end, token)) = self.word() {
+                    let behind = self.go_to(end);
+                    return self.end(behind, token);
+                }
+            }
+            None if closes => return None,
+            _ if self.state == 0 => return None,
             _ => {}
         }
-        Some(token)
+        self.state = 0;
+        Some(Token::Bad)
     }
 
-    /// The string in front, and how many bytes it has as it is written.
-    fn string(&mut self) -> Option<(usize, Token<'a>)> {
-        let bytes = self.left.as_bytes();
-        let stop_from = |from: usize| Some(from + bytes.get(from..)?.iter().position(|byte| is_stop(*byte))?);
-        let first = stop_from(1)?;
-        let mut end = first;
-        while bytes[end] == b'\\' {
-            end = stop_from(end + 2)?;
+    /// The end of the string in front, and what it is.
+    #[inline(always)]
+    fn string(&mut self) -> Option<(usize, &'a str)> {
+        let (text, from) = (self.text, self.at + 1);
+        let end = stop_from(text.as_bytes(), from)?;
+        if text.as_bytes()[end] == b'"' { Some((end + 1, &text[from..end])) } else { self.escaped(from, end) }
+    }
+
+    /// The end of the string that begins at the first of these bytes, and has its first escape at the second, and what it is.
+    #[inline(never)]
+    fn escaped(&mut self, from: usize, first: usize) -> Option<(usize, &'a str)> {
+        let (text, mut end) = (self.text, first);
+        while text.as_bytes()[end] == b'\\' {
+            end = stop_from(text.as_bytes(), end + 2)?;
         }
-        let raw = self.left[..end].get(1..).filter(|_| bytes[end] == b'"')?;
-        Some((end + 1, Token::String(if end == first { raw } else { self.unescape(raw)? })))
+        let raw = text.get(from..end).filter(|_| text.as_bytes()[end] == b'"')?;
+        Some((end + 1, self.unescape(raw)?))
     }
 
     fn unescape(&mut self, raw: &str) -> Option<&'a str> {
@@ -136,14 +206,32 @@ impl<'a> Reader<'a> {
         from_utf8(text).ok()
     }
 
-    /// The word in front, up to a blank or a mark, so that what runs into another token is none.
-    fn word(&self) -> (usize, Token<'a>) {
-        let len = self.left.bytes().take_while(|it| !matches!(it, b' ' | b'\t' | b'\n' | b'\r' | b',' | b':' | b'[' | b']' | b'{' | b'}')).count();
-        match &self.left[..len] {
-            word if is_number(word) => (len, Token::Number(word)),
-            "null" => (len, Token::Null),
-            word => word.parse().map_or((0, Token::Bad), |flag| (len, Token::Bool(flag))),
+    /// The end of the word in front, which is a blank or a mark, and what it is: what runs into another token is none.
+    #[inline(always)]
+    fn word(&self) -> Option<(usize, Token<'a>)> {
+        let left = self.text.as_bytes().get(self.at..)?;
+        let sign = usize::from(left.first() == Some(&b'-'));
+        let mut len = sign;
+        while left.get(len).is_some_and(u8::is_ascii_digit) {
+            len += 1;
         }
+        // Most words are whole numbers, which need no closer look.
+        if len > sign && (left[sign] != b'0' || len == sign + 1) && left.get(len).is_none_or(|byte| !is_inner(*byte)) {
+            let end = self.at + len;
+            return Some((end, Token::Number(&self.text[self.at..end])));
+        }
+        self.other_word()
+    }
+
+    #[inline(never)]
+    fn other_word(&self) -> Option<(usize, Token<'a>)> {
+        let end = self.at + self.text.bytes().skip(self.at).take_while(|byte| is_inner(*byte)).count();
+        let token = match self.text.get(self.at..end)? {
+            word if is_number(word) => Token::Number(word),
+            "null" => Token::Null,
+            word => Token::Bool(word.parse().ok()?),
+        };
+        Some((end, token))
     }
 }
 
@@ -187,11 +275,12 @@ impl<const ON_LINES: bool> Tokens<ON_LINES> {
 
     /// Puts a string and what stands behind it.
     fn put_string(&mut self, text: &str, behind: &str) -> Result<(), AllocError> {
-        self.out.make_room(text.len() + 2 + behind.len())?;
+        self.out.make_room(text.len() + 1 + behind.len())?;
         self.out.push(b'"');
-        if !text.bytes().any(is_stop) {
+        if stop_from(text.as_bytes(), 0).is_none() {
             self.out.extend_from_slice(text.as_bytes());
-            return self.put(behind);
+            self.out.extend_from_slice(behind.as_bytes());
+            return Ok(());
         }
         for byte in text.bytes() {
             match ESCAPES[..7].iter().find(|escape| escape.1 == char::from(byte)) {

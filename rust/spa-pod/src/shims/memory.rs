@@ -1,4 +1,5 @@
 //! Growth that answers want of memory in place of ending the process.
+use super::bytes::Bytes;
 use alloc::string::String;
 use alloc::vec::Vec;
 use core::fmt;
@@ -58,6 +59,8 @@ pub trait VecRoom<T>: Sized {
     fn with_room(count: usize) -> Result<Self, AllocError>;
     /// Asks for room for so many more.
     fn make_room(&mut self, more: usize) -> Result<(), AllocError>;
+    /// Puts an element at the end, for which there is room.
+    fn push_reserved(&mut self, x: T);
     /// Puts an element at the end.
     fn try_push(&mut self, x: T) -> Result<(), AllocFailed<T>>;
     /// Puts copies of these at the end.
@@ -97,6 +100,16 @@ impl<T> VecRoom<T> for Vec<T> {
     fn make_room(&mut self, more: usize) -> Result<(), AllocError> {
         let answer = if self.capacity() == 0 { self.try_reserve_exact(more) } else { self.try_reserve(more) };
         answer.map_err(|_| AllocError)
+    }
+
+    /// Without the growth of Rust's `push`, for which an element would be put together elsewhere, and copied.
+    #[inline(always)]
+    fn push_reserved(&mut self, x: T) {
+        if self.len() == self.capacity() {
+            core::mem::forget(x);
+            unreachable!("there is room for an element");
+        }
+        self.push(x);
     }
 
     #[inline(always)]
@@ -151,6 +164,29 @@ impl Text for String {
             }
             Err(_) => Err(AllocError),
         }
+    }
+}
+
+/// `text_of` of a string's body, and a copy of the text. The bytes are copied before they are checked: without link-time optimization Rust makes a
+/// vector's room in fewer instructions than a text's. None: the body isn't that of a text.
+///
+/// # Errors
+/// Want of memory for the copy.
+#[inline(always)]
+pub fn try_text_of(body: &[u8]) -> Result<Option<String>, AllocError> {
+    let Some((0, text)) = body.split_last() else {
+        return Ok(None);
+    };
+    if text.has_nul() {
+        return Ok(None);
+    }
+    let mut copy = Vec::<u8>::new();
+    match copy.try_reserve_exact(text.len()) {
+        Ok(()) => {
+            copy.extend_from_slice(text);
+            Ok(String::from_utf8(copy).ok())
+        }
+        Err(_) => Err(AllocError),
     }
 }
 
@@ -344,5 +380,27 @@ pub mod more {
         fn from(_: AllocFailed<T>) -> std::io::Error {
             std::io::Error::from(AllocError)
         }
+    }
+}
+
+#[cfg(test)]
+mod tests {
+    use super::{AllocError, String, try_text_of};
+    use crate::parts::spa_bodies::text_of;
+
+    #[test]
+    fn a_copied_text_is_the_one_that_is_borrowed() {
+        let text = "a text of more than sixteen letters, \u{fc}\u{266b}\u{1f50a}\0".as_bytes();
+        for len in 0..=text.len() {
+            // Cut anywhere, in a letter too; with its NUL, with another byte in its place, and with a NUL inside.
+            let mut body = text[..len].to_vec();
+            for last in [1, 0, 0] {
+                let copied: Result<Option<String>, AllocError> = try_text_of(&body);
+                assert_eq!(copied.as_ref().map(|it| it.as_deref()), Ok(text_of(&body)), "{body:?}");
+                body.push(last);
+            }
+        }
+        assert_eq!(try_text_of(text).map(|it| it.map(|it| it.len())), Ok(Some(text.len() - 1)));
+        assert_eq!(try_text_of(b"a\0b\0"), Ok(None));
     }
 }

@@ -18,12 +18,22 @@ pub fn parse<T: FromStr, S: AsRef<[u8]>>(text: S) -> Result<T, FromHexError> {
     from_utf8(text.as_ref()).ok().and_then(|text| text.parse().ok()).ok_or(FromHexError::NoDigits)
 }
 
+/// The number that a few digits are.
+fn few_digits(text: &[u8]) -> Option<u64> {
+    let is_short = (1..=18).contains(&text.len()) && text.iter().all(u8::is_ascii_digit);
+    is_short.then(|| text.iter().fold(0, |number, digit| 10 * number + u64::from(digit - b'0')))
+}
+
 pub fn parse_u64(text: &[u8]) -> Result<u64, FromHexError> {
-    parse(text)
+    few_digits(text).map_or_else(|| parse(text), Ok)
 }
 
 pub fn parse_i64(text: &[u8]) -> Result<i64, FromHexError> {
-    parse(text)
+    let number = match text {
+        [b'-', digits @ ..] => few_digits(digits).map(|number| -(number as i64)),
+        _ => few_digits(text).map(|number| number as i64),
+    };
+    number.map_or_else(|| parse(text), Ok)
 }
 
 /// Room for the digits of a number.

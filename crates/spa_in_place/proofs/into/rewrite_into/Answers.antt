@@ -1,17 +1,17 @@
-use Rattle.std.proofs.Common.{◌-◌, ◌∙◌, ap, arith, drop, length, length-append, refl, subst, sym, take}
+use Rattle.std.proofs.Common.{◌≡◌, ◌-◌, ◌∙◌, ap, arith, drop, length, length-append, refl, subst, sym, take}
 use Rattle.std.specs.Prelude.{[]}
 use Rattle.std.proofs.lemmas.Bool.{eqb-true}
-use Rattle.std.proofs.lemmas.List.{drop_at, take_at}
+use Rattle.std.proofs.lemmas.List.{drop_at, length-take-le, take_at}
 use Rattle.std.proofs.lemmas.Slice.{drop-put_mid}
 use Rattle.spa_scan.specs.Depth.{levels_looked_into}
 use Rattle.spa_rewrite.specs.Shorter.{ArePodsWithin}
-use Rattle.spa_rewrite.proofs.Changed.{changed_shorter}
+use Rattle.spa_rewrite.proofs.Changed.{accepted_changed, accepted_shorter}
 use Rattle.spa_rewrite.proofs.ShorterLemmas.{shorter_behind, within_behind}
-use Rattle.spa_rewrite.proofs.Stretches.{canonical_rewritten}
+use Rattle.spa_rewrite.proofs.Stretches.{all_canonical, canonical_rewritten}
 use Rattle.spa_rewrite.specs.Look.{AreChanged}
 use Rattle.spa_rewrite.specs.Rewriting.{AreRewritten}
-use Rattle.spa_in_place.proofs.ChangedPods.{all_canonical, behind_first, copy_room, first_copied, others_copied}
-use Rattle.spa_in_place.proofs.InPlaceLemmas.{into_counted}
+use Rattle.spa_in_place.proofs.ChangedPods.{behind_first, copy_room, first_copied, others_copied}
+use Rattle.spa_in_place.proofs.InPlaceLemmas.{into_counted, rewritten_long}
 use Rattle.spa_in_place.proofs.into.rewrite_into.Goals as goal
 
 pub returns-then-is_empty-clause-counted : goal.returns-then-is_empty-clause-counted
@@ -36,20 +36,21 @@ returns-in_default-clause-missed c = λ w.
 
 pub returns-then-out-input-clause-counted : goal.returns-then-out-input-clause-counted
 returns-then-out-input-clause-counted c =
-    let rest = changed_shorter _ _ c.in-Ok.ensures.there in
+    let rest = accepted_shorter _ _ c.in-Ok.ensures.accepted in
     into_counted _ _ _ (shorter_behind _ _ _ _ c.canonical_stretch.ensures.parts c.canonical_stretch.ensures.canonical rest) refl
 
 pub returns-clause-counted : goal.returns-clause-counted
 returns-clause-counted c =
-    let rest = changed_shorter _ _ c.in-Ok.ensures.there in
+    let rest = accepted_shorter _ _ c.in-Ok.ensures.accepted in
     into_counted _ _ _ (shorter_behind _ _ _ _ c.canonical_stretch.ensures.parts c.canonical_stretch.ensures.canonical rest) refl
 
-pub replace_pods-requires : goal.replace_pods-requires
-replace_pods-requires c =
+pub encode_pods-requires : goal.encode_pods-requires
+encode_pods-requires c =
     let first = c.canonical_stretch.result.0.now in
     let others = c.canonical_stretch.result.1.now in
-    subst (λ x. AreChanged x c.in-Ok.changed)
-    (sym (others_copied c.args.input.now first others _ _ c.canonical_stretch.ensures.parts c.put_first.ensures)) c.in-Ok.ensures.there
+    subst (λ x. AreChanged x c.in-Ok.all.changed)
+    (sym (others_copied c.args.input.now first others _ _ c.canonical_stretch.ensures.parts c.put_first.ensures))
+    (accepted_changed _ _ c.in-Ok.ensures.accepted)
 
 pub returns-clause-rewritten : goal.returns-clause-rewritten
 returns-clause-rewritten c = λ room.
@@ -61,14 +62,18 @@ returns-clause-rewritten c = λ room.
     let is = others_copied input first others _ copy parts c.put_first.ensures in
     let long = ap length is in
     let all = ap length parts ∙ length-append first others in
-    let shorter = (changed_shorter _ _ c.in-Ok.ensures.there).long in
-    let n = c.in-Ok.changed.surplus in
-    let sub = c.replace_pods.new.pods in
-    let same = c.replace_pods.auto.pods in
-    let out = take (length (take (length input - length first) (drop (length first) copy)) - n) sub in
+    let s = accepted_shorter _ _ c.in-Ok.ensures.accepted in
+    let shorter = s.long in
+    let sub = c.encode_pods.new.pods in
+    let same = c.encode_pods.auto.pods in
+    let out = take c.encode_pods.result sub in
+    let w = subst (λ x. AreRewritten x [] out) is c.encode_pods.ensures.written in
+    let within = c.encode_pods.ensures.within in
+    let few : length out ≡ c.encode_pods.result = length-take-le c.encode_pods.result sub (omega arith) in
+    let size = rewritten_long others out _ s w in
     behind_first input first others copy sub out (length input - length first) _ _ parts c.canonical_stretch.ensures.canonical
-    (first_copied input first others _ copy parts c.put_first.ensures) (copy_room input first others _ copy parts c.put_first.ensures)
-    (subst (λ x. AreRewritten x [] out) is c.replace_pods.ensures) refl (omega arith) (omega arith)
+    (first_copied input first others _ copy parts c.put_first.ensures) (copy_room input first others _ copy parts c.put_first.ensures) w refl (omega arith)
+    (omega arith)
 
 pub returns-clause-behind : goal.returns-clause-behind
 returns-clause-behind c =
@@ -79,6 +84,6 @@ returns-clause-behind c =
     let copy = c.put_first.new.out in
     let is = ap length (others_copied input first others _ copy parts c.put_first.ensures) in
     let all = ap length parts ∙ length-append first others in
-    drop-put_mid (length first) (length input - length first) copy c.replace_pods.new.pods (length input) (omega arith)
-    (copy_room input first others _ copy parts c.put_first.ensures) (c.replace_pods.auto.pods ∙ is ∙ omega arith)
+    drop-put_mid (length first) (length input - length first) copy c.encode_pods.new.pods (length input) (omega arith)
+    (copy_room input first others _ copy parts c.put_first.ensures) (c.encode_pods.auto.pods ∙ is ∙ omega arith)
     ∙ ap (drop (length input)) c.put_first.ensures ∙ drop_at input _ (length input) refl

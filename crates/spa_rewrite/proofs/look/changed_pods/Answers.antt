@@ -1,32 +1,39 @@
-use Rattle.std.proofs.Common.{◌<◌, ap, arith, length, refl, sym, ◌∙◌}
-use Rattle.std.proofs.lemmas.Bool.{eqb-false, eqb-true}
-use Rattle.spa_rewrite.proofs.Accepted.{rejected_first}
-use Rattle.spa_rewrite.proofs.Changed.{all_changed, no_changes, others_more, stretch_passed}
+use Rattle.std.proofs.Common.{subst}
+use Rattle.spa_rewrite.specs.Look.{IsRejected}
+use Rattle.spa_rewrite.proofs.Accepted.{behind_left, left_behind, missed_behind, shorter_left}
+use Rattle.spa_rewrite.proofs.Changed.{changed_behind}
+use Rattle.spa_rewrite.proofs.Stretches.{no_first_member}
 use Rattle.spa_rewrite.proofs.look.changed_pods.Goals as goal
 
-pub loop-asked_from-init : goal.loop-asked_from-init
-loop-asked_from-init c = no_changes _
+pub loop-all-init : goal.loop-all-init
+loop-all-init c = no_first_member c.args.input.now
 
-pub returns-then-is_empty-clause-there : goal.returns-then-is_empty-clause-there
-returns-then-is_empty-clause-there c =
-    let is = stretch_passed _ _ _ _ _ c.loop-asked_from.invariant c.behind_canonical_pods-other.ensures in
-    all_changed _ _ _ _ _ is (eqb-true _ _ (sym c.is_empty.ensures ∙ c.if-is_empty.true)) refl
+pub returns-in-Ok-clause-accepted : goal.returns-in-Ok-clause-accepted
+returns-in-Ok-clause-accepted c =
+    let h = c.loop-all.invariant in
+    changed_behind _ h.first _ h.values _ h.parts h.members c.in-Ok.ensures.accepted
 
-pub returns-in-Err-clause-missed : goal.returns-in-Err-clause-missed
-returns-in-Err-clause-missed c = λ w.
-    let some = eqb-false _ 0 (sym c.is_empty.ensures ∙ c.if-is_empty.false) in
-    let is = stretch_passed _ _ _ _ _ c.loop-asked_from.invariant c.behind_canonical_pods-other.ensures in
-    rejected_first _ _ (omega (arith, some)) c.in-Err.ensures.rejected (is.counts.within w)
+pub returns-in-Fault-clause-left : goal.returns-in-Fault-clause-left
+returns-in-Fault-clause-left c = left_behind _ _ _ c.loop-all.invariant c.in-Err.ensures.left
 
-pub returns-in-Err-clause-left : goal.returns-in-Err-clause-left
-returns-in-Err-clause-left c =
-    let some = eqb-false _ 0 (sym c.is_empty.ensures ∙ c.if-is_empty.false) in
-    let seen = (stretch_passed _ _ _ _ _ c.loop-asked_from.invariant c.behind_canonical_pods-other.ensures).seen in
-    (seen.2.values, seen.0, seen.1, seen.2.members, λ e. some (ap length e))
+pub returns-in-Fault-clause-missed : goal.returns-in-Fault-clause-missed
+returns-in-Fault-clause-missed c = missed_behind _ _ c.loop-all.invariant c.in-Err.ensures.missed
 
-pub loop-asked_from-preserved : goal.loop-asked_from-preserved
-loop-asked_from-preserved c =
-    let some = eqb-false _ 0 (sym c.is_empty.ensures ∙ c.if-is_empty.false) in
-    let long : 0 < length c.behind_canonical_pods-other.result.now = omega (arith, some) in
-    let is = stretch_passed _ _ _ _ _ c.loop-asked_from.invariant c.behind_canonical_pods-other.ensures in
-    others_more _ _ _ _ c.in-Ok.pod _ is long c.in-Ok.ensures.accepted
+pub accept_deep-requires : goal.accept_deep-requires
+accept_deep-requires c = subst (IsRejected c.in-Err.pod.now) c.in-TooDeep.is c.in-Err.ensures.rejected
+
+pub loop-all-preserved : goal.loop-all-preserved
+loop-all-preserved c =
+    let a = c.in-Ok-accept_deep.ensures.accepted in
+    behind_left _ _ _ _ a.value c.loop-all.invariant c.in-Err.ensures.left a.begins
+
+pub loop-all-smaller : goal.loop-all-smaller
+loop-all-smaller c =
+    let a = c.in-Ok-accept_deep.ensures.accepted in
+    shorter_left _ _ _ a.value c.in-Err.ensures.left a.begins
+
+pub returns-in-Err-accept_deep-clause-left : goal.returns-in-Err-accept_deep-clause-left
+returns-in-Err-accept_deep-clause-left c = left_behind _ _ _ c.loop-all.invariant c.in-Err.ensures.left
+
+pub returns-in-Err-accept_deep-clause-missed : goal.returns-in-Err-accept_deep-clause-missed
+returns-in-Err-accept_deep-clause-missed c = missed_behind _ _ c.loop-all.invariant c.in-Err.ensures.missed

@@ -1,9 +1,9 @@
 use Rattle.std.proofs.Common.{length}
-use Rattle.spa_rewrite.proofs.Changed.{ChangesUpTo}
+use Rattle.spa_rewrite.proofs.Stretches.{FirstMembers}
 use Rattle.spa_rewrite.proofs.look.changed_pods.Given as goal
 
-abbrev pub invariant-loop-asked_from : goal.invariant-loop-asked_from
-invariant-loop-asked_from l = ChangesUpTo l.pods l.tail l.left l.surplus
+abbrev pub invariant-loop-all : goal.invariant-loop-all
+invariant-loop-all l = FirstMembers l.input l.left
 
-abbrev pub decreases-loop-asked_from : goal.decreases-loop-asked_from
-decreases-loop-asked_from l = length l.left
+abbrev pub decreases-loop-all : goal.decreases-loop-all
+decreases-loop-all l = length l.left

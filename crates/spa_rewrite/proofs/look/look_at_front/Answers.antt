@@ -1,67 +1,50 @@
 use Rattle.std.proofs.Common.{arith, refl}
-use Rattle.std.specs.Prelude.{false}
 use Rattle.spa_format.specs.Typed.{IsBytes}
-use Rattle.spa_rewrite.proofs.Accepted.{front_stops, inside_stops, leaf_differs, leaf_exactly, leaf_unasked}
-use Rattle.spa_rewrite.proofs.Faulted.{leaf_there}
+use Rattle.spa_rewrite.proofs.Accepted.{front_stops, inside_stops}
+use Rattle.spa_rewrite.proofs.Faulted.{leaf_differs, leaf_there, no_leaf_body, short_there}
 use Rattle.spa_rewrite.proofs.Levels.{too_deep}
-use Rattle.spa_rewrite.proofs.LeafBodies.{never}
-use Rattle.spa_rewrite.proofs.Looks.{inside_own, own_opened, own_shorter}
+use Rattle.spa_rewrite.proofs.Looks.{inside_own, own_opened}
 use Rattle.spa_rewrite.proofs.ShorterLemmas.{shorter_inside, shorter_opened}
 use Rattle.spa_rewrite.proofs.look.look_at_front.Goals as goal
-use Rattle.spa_rewrite.proofs.look.look_at_front.Goals.{then-canonical+in-Differs, else-canonical}
 
-pub returns-in_default-clause-rejected : goal.returns-in_default-clause-rejected
-returns-in_default-clause-rejected c = front_stops _ _ c.in_default.ensures.short
+pub returns-in_default : goal.returns-in_default
+returns-in_default c =
+    let f = short_there _ c.in_default.ensures.short in (
+      λ _ rest k. c.in_default.ensures.short k.begins.begins.there,
+      λ _. record { refused = f.refused; alone = f.alone; named = λ why s. front_stops _ why s },
+    )
 
-pub fault-requires-clause-refused : goal.fault-requires-clause-refused
-fault-requires-clause-refused c =
-    let other = c.in_default-inside_of.ensures in
-    (leaf_there _ _ _ _ c.in-Some.ensures.there other.other other.short c.in_default-leaf_surplus.ensures.missed).refused
-
-pub returns-in_default-leaf_surplus-clause-rejected :
-    goal.returns-in_default-leaf_surplus-clause-rejected
-returns-in_default-leaf_surplus-clause-rejected c = front_stops _ _ c.fault.ensures
-
-pub returns-in_default-inside_of-clause-accepted :
-    goal.returns-in_default-inside_of-clause-accepted
-returns-in_default-inside_of-clause-accepted c =
+pub returns-in-None : goal.returns-in-None
+returns-in-None c =
     let o = c.in-Some.ensures.there in
     let other = c.in_default-inside_of.ensures in
-    let leaf = c.is_asked_leaf.ensures in
-    record {
-      shorter = shorter_opened _ _ _ _ _ o c.in-Some-leaf_surplus.ensures.there;
-      exactly = leaf_exactly _ _ _ _ o.its_rest leaf.own leaf.differs (leaf_differs _ _ _ _ o other.other other.short);
-      unasked = leaf_unasked _ _ leaf.asked;
-    }
+    let n = c.in-None.ensures.none in (
+      λ t rest. leaf_differs _ _ _ _ o other.other other.short (n.differs t) rest,
+      λ e.
+          let f = leaf_there _ _ _ _ o other.other other.short (no_leaf_body _ _ _ _ o (n.refused e)) in
+          record { refused = f.refused; alone = f.alone; named = λ why s. front_stops _ why s },
+    )
 
-pub returns-in-Same-clause-accepted : goal.returns-in-Same-clause-accepted
-returns-in-Same-clause-accepted c =
-    let bytes : IsBytes c.args.input.now = λ i. omega (arith, c.type_inv.input i) in
-    let own = own_opened _ _ _ _ _ _ bytes c.in-Some.ensures.there c.in-Some-inside_of.ensures.there c.in-Same.ensures in
-    record { shorter = own_shorter _ _ own; exactly = λ _. (λ _. own, λ _. refl); unasked = λ e. absurd (never _ c.if-canonical.true e) }
-
-pub returns-in-Fits-clause-accepted : goal.returns-in-Fits-clause-accepted
-returns-in-Fits-clause-accepted c =
+pub returns-in-Fits : goal.returns-in-Fits
+returns-in-Fits c =
     let bytes : IsBytes c.args.input.now = λ i. omega (arith, c.type_inv.input i) in
     let o = c.in-Some.ensures.there in
     let i = c.in-Some-inside_of.ensures.there in
     record {
-      shorter = shorter_opened _ _ _ _ _ o (shorter_inside _ _ _ _ _ i c.in-Fits.ensures);
-      exactly = λ a.
-          elim c.if-canonical.branch [
-            | then-canonical+in-Differs w ↦ (λ e. absurd (never false e refl), λ k. absurd (w.in-Differs.ensures (inside_own _ _ _ _ _ _ _ bytes o i k)))
-            | else-canonical w ↦ absurd (never _ a w.if-canonical.false)
-          ];
-      unasked = λ _. refl;
+      shorter = shorter_opened _ _ _ _ _ o (shorter_inside _ _ _ _ _ i c.in-Fits.ensures.shorter);
+      own = λ t. own_opened _ _ _ _ _ _ bytes o i (c.in-Fits.ensures.own t);
     }
 
-pub returns-in-Stops-clause-rejected : goal.returns-in-Stops-clause-rejected
-returns-in-Stops-clause-rejected c =
-    inside_stops _ _ _ _ _ _ _ _ _ _ c.in-Some.ensures.there c.in-Some-inside_of.ensures.there c.in-Stops.ensures refl c.fault-in-Stops.ensures
+pub returns-in-Stops : goal.returns-in-Stops
+returns-in-Stops c =
+    let bytes : IsBytes c.args.input.now = λ i. omega (arith, c.type_inv.input i) in
+    let o = c.in-Some.ensures.there in
+    let i = c.in-Some-inside_of.ensures.there in (
+      λ t rest k. c.in-Stops.ensures.differs t (inside_own _ _ _ _ _ _ _ bytes o i k),
+      λ e.
+          let s = c.in-Stops.ensures.fault e in
+          record { refused = s.refused; alone = s.alone; named = λ why w. inside_stops _ _ _ _ _ _ _ _ _ why o i s refl w },
+    )
 
-pub returns-in-TooDeep-clause-rejected : goal.returns-in-TooDeep-clause-rejected
-returns-in-TooDeep-clause-rejected c = too_deep _ _ _ _ _ _ c.in-Some.ensures.there c.in-Some-inside_of.ensures.there c.in-TooDeep.ensures
-
-pub returns-in-TooDeep-look_into-clause-rejected :
-    goal.returns-in-TooDeep-look_into-clause-rejected
-returns-in-TooDeep-look_into-clause-rejected c = too_deep _ _ _ _ _ _ c.in-Some.ensures.there c.in-Some-inside_of.ensures.there c.in-TooDeep-look_into.ensures
+pub returns-in-TooDeep : goal.returns-in-TooDeep
+returns-in-TooDeep c = too_deep _ _ _ _ _ _ c.in-Some.ensures.there c.in-Some-inside_of.ensures.there c.in-TooDeep.ensures

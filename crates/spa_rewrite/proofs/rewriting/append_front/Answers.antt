@@ -1,15 +1,30 @@
-use Rattle.std.proofs.Common.{subst, sym, ◌∙◌}
-use Rattle.std.specs.Prelude.{true}
-use Rattle.spa_scan.specs.Canonical.{AreCanonical}
-use Rattle.spa_rewrite.proofs.Appending.{accepted_canonical, before_rest, front_canonical, front_written}
+use Rattle.std.proofs.Common.{inl}
+use Rattle.spa_rewrite.proofs.Appending.{front_copied, front_written, none_canonical, one_changed}
+use Rattle.spa_rewrite.proofs.Lacking.{lacks}
 use Rattle.spa_rewrite.proofs.rewriting.append_front.Goals as goal
 
-pub append_pod-requires : goal.append_pod-requires
-append_pod-requires c = λ e.
-    let a = c.in-Ok.ensures.accepted in
-    subst AreCanonical (sym (c.split_at.ensures.front ∙ before_rest _ _ _ a.shorter.begins))
-    (front_canonical _ _ (accepted_canonical true _ c.in-Ok.pod a e))
+pub returns-in-Ok-clause-appended : goal.returns-in-Ok-clause-appended
+returns-in-Ok-clause-appended c = front_copied _ _ _ _ _ c.in-Some.ensures.taken c.split_at.ensures.front c.in-Ok.ensures.items
 
-pub returns-in-Some-clause-appended : goal.returns-in-Some-clause-appended
-returns-in-Some-clause-appended c =
-    front_written _ _ _ _ _ _ c.in-Ok.ensures.accepted.shorter.begins c.split_at.ensures.front c.in-Some.ensures.appended
+pub returns-in-Err-clause-refused : goal.returns-in-Err-clause-refused
+returns-in-Err-clause-refused c =
+    let t = c.in-Some.ensures.taken in
+    lacks _ _ _ c.lacking_memory.ensures t.begins.begins.there (inl (t.value, t.begins.begins))
+
+pub append_pods-requires-clause-first : goal.append_pods-requires-clause-first
+append_pods-requires-clause-first c = none_canonical
+
+pub append_pods-requires-clause-others : goal.append_pods-requires-clause-others
+append_pods-requires-clause-others c =
+    let a = c.in-Ok-accept_any.ensures.accepted in
+    one_changed _ _ _ a.0 a.1 c.split_at-in-Ok-accept_any.ensures.front
+
+pub returns-in-Some-append_pods-clause-appended : goal.returns-in-Some-append_pods-clause-appended
+returns-in-Some-append_pods-clause-appended c =
+    let a = c.in-Ok-accept_any.ensures.accepted in
+    front_written _ _ _ _ _ a.0 a.1 c.split_at-in-Ok-accept_any.ensures.front c.in-Some-append_pods.ensures.appended
+
+pub returns-in-None-clause-refused : goal.returns-in-None-clause-refused
+returns-in-None-clause-refused c =
+    let a = c.in-Ok-accept_any.ensures.accepted in
+    lacks _ _ _ c.lacking_memory-in-None.ensures a.1.begins.there (inl (a.0, a.1.begins))

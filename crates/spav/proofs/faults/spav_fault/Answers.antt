@@ -1,6 +1,7 @@
 use Rattle.std.proofs.Common.{length, refl, subst, arith, length-append, ap}
 use Rattle.spa_rewrite.specs.Look.{IsRejected}
 use Rattle.spav.proofs.FirstFaults.{fault_stands}
+use Rattle.spa_rewrite.proofs.Changed.{accepted_changed, changed_members}
 use Rattle.spav.proofs.faults.spav_fault.Goals as goal
 
 pub overflow_add-at : goal.overflow_add-at
@@ -22,3 +23,6 @@ pub returns-in-Err-default-Fault-clause-fault : goal.returns-in-Err-default-Faul
 returns-in-Err-default-Fault-clause-fault c = λ _ _.
     let x = c.in-Err-default-Fault in
     fault_stands _ x.left.now _ _ x.behind _ x.why x.ensures.left refl (subst (IsRejected x.left.now) x.field-0-1-is x.ensures.rejected) c.number_of.ensures.said
+
+pub returns-in-Ok-clause-none : goal.returns-in-Ok-clause-none
+returns-in-Ok-clause-none c = λ _ _. changed_members _ _ (accepted_changed _ _ c.in-Ok.ensures.accepted)

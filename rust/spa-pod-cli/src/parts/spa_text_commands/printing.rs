@@ -64,7 +64,7 @@ pub(crate) fn add_text(
     lines.try_extend_from_slice(mark.as_bytes())?;
     print_in(printer, layout, value, lines)?;
     lines.make_room(1)?;
-    lines.push(b'\n');
+    lines.push_reserved(b'\n');
     Ok(())
 }
 

@@ -36,9 +36,7 @@ pub mod pod {
         rewrite_leniently,
     };
     pub use crate::parts::spa_print::Printed;
-    pub use crate::parts::spa_rewrite::{
-        Rejected, accept_all, find_fault, is_canonical, rewrite, rewrite_all, rewrite_in_parts,
-    };
+    pub use crate::parts::spa_rewrite::{Rejected, accept_all, find_fault, is_canonical, rewrite, rewrite_all};
     pub use crate::parts::spa_scan::{all_nest_within, nests_within};
     pub use crate::parts::spa_utils::Frame;
     pub use crate::parts::spa_value::{Bitmap, ChoiceValue, Held, Object, Property, PropertyFlags, Value, ValueArray, discard, same};

@@ -45,6 +45,6 @@ pub fn push(met: &mut Met, property: Property) -> Result<(), AllocError> {
         discard(property.value);
         return Err(error);
     }
-    met.properties.push(property);
+    met.properties.push_reserved(property);
     Ok(())
 }

@@ -62,7 +62,7 @@ impl Takes for OpenObject {
             flags: self.flags,
             value,
         };
-        self.properties.push(property);
+        self.properties.push_reserved(property);
     }
 }
 

@@ -12,10 +12,10 @@ use crate::parts::spa_value::{Takes, Value};
 /// Reads the text of a string's body. Refused as `Text` where the fault stands, and as `OutOfMemory`.
 #[cfg_attr(not(debug_assertions), inline(always))]
 fn read_string(body: &[u8]) -> Result<String, Refusal> {
-    let Some(text) = text_of(body) else {
+    let Some(text) = crate::shims::memory::try_text_of(body)? else {
         return Err(Refusal::Text);
     };
-    Ok(String::try_from_str(text)?)
+    Ok(text)
 }
 
 /// Reads the value of a body of this type number, which is not that of structs or objects, into `to`, which has room for it. The refusals are
@@ -54,7 +54,7 @@ pub(crate) fn read_leaf_into<T: Takes>(
 // The values read by these aren't small: they are functions of their own, so that reading a number needs no stack for them.
 
 /// Reads the text of a body into `to`.
-#[inline(never)]
+#[cfg_attr(not(debug_assertions), inline(always))]
 fn put_string<T: Takes>(body: &[u8], to: &mut T) -> Result<(), Refusal> {
     to.put(Value::String(read_string(body)?));
     Ok(())

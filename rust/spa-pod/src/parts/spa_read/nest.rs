@@ -104,7 +104,7 @@ impl<'de> Nest<'de> {
         }
         self.between.make_room(1)?;
         let last = mem::replace(&mut self.inner, begun);
-        self.between.push(last);
+        self.between.push_reserved(last);
         Ok(())
     }
 

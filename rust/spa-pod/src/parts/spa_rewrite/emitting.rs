@@ -40,9 +40,18 @@ struct Run {
     after: After,
 }
 
+/// Replaces pods one after another by their encodings, which are put at the front, and returns how many bytes these take: so many first bytes of the pods,
+/// and canonical pods behind them, which are moved at once.
+pub(crate) fn encode_pods(changed: usize, pods: &mut [u8]) -> usize {
+    let others = pods.len() - changed;
+    let len = emit(&mut pods[..changed]);
+    move_down(changed, others, len, pods);
+    len + others
+}
+
 /// Replaces pods one after another by their encodings, which are put at the front, and returns how many bytes these take. Of bytes that aren't such pods it
 /// promises nothing.
-pub(crate) fn emit(bytes: &mut [u8]) -> usize {
+fn emit(bytes: &mut [u8]) -> usize {
     let mut list = OpenList {
         keyed: false,
         end: bytes.len(),
@@ -127,7 +136,7 @@ fn encode_leaves(keyed: bool, pods: &mut [u8]) -> Run {
 
 /// Copies so many bytes down to a place before them, where they aren't there already.
 #[cfg_attr(not(debug_assertions), inline(always))]
-pub(crate) fn move_down(from: usize, len: usize, to: usize, bytes: &mut [u8]) {
+fn move_down(from: usize, len: usize, to: usize, bytes: &mut [u8]) {
     if from > to {
         bytes.copy_within(from..from + len, to);
     }

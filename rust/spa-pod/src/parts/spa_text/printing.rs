@@ -103,7 +103,7 @@ fn print_value(out: &mut Out, value: &Value) -> Result<(), AllocError> {
             }
             Next::Begun(rest, begun) => {
                 outer.make_room(1)?;
-                outer.push(rest);
+                outer.push_reserved(rest);
                 inner = begun;
             }
         }

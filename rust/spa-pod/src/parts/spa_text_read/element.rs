@@ -88,6 +88,6 @@ fn push<T: Copy>(values: &mut Vec<T>, value: T) -> Result<(), Cause> {
     let Ok(()) = values.make_room(room) else {
         return Err(Cause::OutOfMemory);
     };
-    values.push(value);
+    values.push_reserved(value);
     Ok(())
 }

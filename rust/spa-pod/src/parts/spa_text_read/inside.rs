@@ -229,7 +229,7 @@ impl OpenObject {
             discard(value);
             return Err(Cause::OutOfMemory);
         };
-        self.properties.push(Property {
+        self.properties.push_reserved(Property {
             key: self.key,
             flags: self.flags,
             value,
@@ -279,7 +279,7 @@ fn put_member(members: &mut Vec<Value>, value: Value) -> Result<(), Cause> {
         discard(value);
         return Err(Cause::OutOfMemory);
     };
-    members.push(value);
+    members.push_reserved(value);
     Ok(())
 }
 

@@ -63,7 +63,7 @@ impl Nest {
             return Err(Cause::OutOfMemory);
         };
         let last = mem::replace(&mut self.inner, begun);
-        self.outer.push(last);
+        self.outer.push_reserved(last);
         Ok(())
     }
 

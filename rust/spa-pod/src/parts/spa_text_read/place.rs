@@ -60,7 +60,7 @@ fn take<'a>(trail: &mut Vec<Open<'a>>, token: Token<'a>) -> Result<(), AllocErro
 /// Opens one more.
 fn push<'a>(trail: &mut Vec<Open<'a>>, opened: Open<'a>) -> Result<(), AllocError> {
     trail.make_room(1)?;
-    trail.push(opened);
+    trail.push_reserved(opened);
     Ok(())
 }
 

@@ -72,8 +72,8 @@ impl Children {
     /// Appends a value, in room that is there.
     pub(crate) fn put(&mut self, value: Value) {
         match self {
-            Children::Members(members) => members.push(value),
-            Children::Properties(properties) => properties.push(Property::new(0, value)),
+            Children::Members(members) => members.push_reserved(value),
+            Children::Properties(properties) => properties.push_reserved(Property::new(0, value)),
         }
     }
 
@@ -82,12 +82,12 @@ impl Children {
         match self {
             Children::Members(members) => {
                 let last = members.len();
-                members.push(value);
+                members.push_reserved(value);
                 members.swap(0, last);
             }
             Children::Properties(properties) => {
                 let last = properties.len();
-                properties.push(Property::new(0, value));
+                properties.push_reserved(Property::new(0, value));
                 properties.swap(0, last);
             }
         }

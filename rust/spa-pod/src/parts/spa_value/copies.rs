@@ -131,6 +131,6 @@ fn copy_properties(properties: &[Property]) -> Result<Vec<Property>, AllocError>
 fn copy_next(property: &Property, copies: &mut Vec<Property>) -> Result<(), AllocError> {
     copies.make_room(1)?;
     let copy = copy_property(property)?;
-    copies.push(copy);
+    copies.push_reserved(copy);
     Ok(())
 }

@@ -30,7 +30,7 @@ impl HeldProperties {
             discard(property.value);
             return Err(Errno::NOMEM);
         }
-        self.properties.push(property);
+        self.properties.push_reserved(property);
         Ok(())
     }
 

@@ -45,14 +45,14 @@ pub(crate) enum Nested<'a> {
 impl Takes for Vec<Value> {
     #[cfg_attr(not(debug_assertions), inline(always))]
     fn put(&mut self, value: Value) {
-        self.push(value);
+        self.push_reserved(value);
     }
 }
 
 impl<'a> Takes for CopiedObject<'a> {
     #[cfg_attr(not(debug_assertions), inline(always))]
     fn put(&mut self, value: Value) {
-        self.copies.push(Property {
+        self.copies.push_reserved(Property {
             key: self.key,
             flags: self.flags,
             value,
@@ -157,8 +157,8 @@ impl<'a> Copying<'a> {
     #[cfg_attr(not(debug_assertions), inline(always))]
     fn put(&mut self, value: Value) {
         match self {
-            Copying::Struct(it) => it.copies.push(value),
-            Copying::Object(it) => it.copies.push(Property {
+            Copying::Struct(it) => it.copies.push_reserved(value),
+            Copying::Object(it) => it.copies.push_reserved(Property {
                 key: it.key,
                 flags: it.flags,
                 value,
@@ -201,7 +201,7 @@ impl<'a> Copies<'a> {
             return Err(error);
         }
         let outer = mem::replace(&mut self.inner, begun);
-        self.around.push(outer);
+        self.around.push_reserved(outer);
         Ok(true)
     }
 
@@ -320,7 +320,7 @@ fn copy_within<'a>(outermost: Copying<'a>, nested: Nested<'a>) -> Result<Value, 
             return Err(error);
         }
     };
-    around.push(outermost);
+    around.push_reserved(outermost);
     let mut copies = Copies { inner, around };
     loop {
         match copies.step() {

@@ -68,7 +68,7 @@ fn read_members<'de>(
                     discard(Value::Struct(members));
                     return Err(DeserializeError::OutOfMemory);
                 }
-                members.push(member);
+                members.push_reserved(member);
             }
             Ok(None) => return Ok(members),
             Err(why) => {
@@ -92,7 +92,7 @@ fn read_properties<'de>(
                     discard(object_of(reader, properties));
                     return Err(DeserializeError::OutOfMemory);
                 }
-                properties.push(Property { key, flags, value });
+                properties.push_reserved(Property { key, flags, value });
             }
             Ok(None) => return Ok(properties),
             Err(why) => {

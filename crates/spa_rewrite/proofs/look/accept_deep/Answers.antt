@@ -1,0 +1,40 @@
+use Rattle.std.proofs.Common.{◌≡◌, ap, arith, length, refl, rules}
+use Rattle.std.specs.Prelude.{vec_len}
+use Rattle.spa_scan.specs.Depth.{levels_looked_into}
+use Rattle.spa_scan.proofs.Deeper.{holds_none, input_deep, its_front}
+use Rattle.spa_rewrite.proofs.Accepted.{inside_stops}
+use Rattle.spa_rewrite.proofs.Levels.{nested_long}
+use Rattle.spa_rewrite.proofs.ShorterLemmas.{shorter_inside, shorter_opened}
+use Rattle.spa_rewrite.proofs.look.accept_deep.Goals as goal
+
+pub unreachable-requires : goal.unreachable-requires
+unreachable-requires c = c.in_default.ensures.short (its_front levels_looked_into _ c.requires)
+
+pub unreachable-requires-in_default-inside_of : goal.unreachable-requires-in_default-inside_of
+unreachable-requires-in_default-inside_of c =
+    let other = c.in_default-inside_of.ensures in
+    holds_none levels_looked_into _ _ (omega arith) other.other other.short (input_deep levels_looked_into _ _ _ _ c.in-Some.ensures.there c.requires)
+
+pub returns-in-Fits-clause-accepted : goal.returns-in-Fits-clause-accepted
+returns-in-Fits-clause-accepted c =
+    shorter_opened _ _ _ _ _ c.in-Some.ensures.there (shorter_inside _ _ _ _ _ c.in-Some-inside_of.ensures.there c.in-Fits.ensures.shorter)
+
+pub fault-requires-clause-refused : goal.fault-requires-clause-refused
+fault-requires-clause-refused c = (c.in-Stops.ensures.fault refl).refused
+
+pub fault-requires-clause-alone : goal.fault-requires-clause-alone
+fault-requires-clause-alone c = (c.in-Stops.ensures.fault refl).alone
+
+pub returns-in-Stops-clause-rejected : goal.returns-in-Stops-clause-rejected
+returns-in-Stops-clause-rejected c =
+    inside_stops _ _ _ _ _ _ _ _ _ _ c.in-Some.ensures.there c.in-Some-inside_of.ensures.there (c.in-Stops.ensures.fault refl) refl c.fault.ensures
+
+pub loop-frames-smaller : goal.loop-frames-smaller
+loop-frames-smaller c =
+    let frames = c.resize.new.self in
+    let same : vec_len frames ≡ length frames.items = search rules in
+    let room = c.in-Ok.ensures.len in
+    let long = ap length c.as_mut_slice.ensures.value in
+    let more = nested_long _ _ _ c.in-TooDeep.ensures in
+    let some = c.loop-frames.invariant in
+    omega arith

@@ -1,5 +1,5 @@
 -- The objects at the fronts of two inputs, and that in which they meet.
-use Rattle.std.proofs.Common.{◌≡◌, ◌≢◌, ◌∙◌, ℕ, zero, suc, List, [], ◌∷◌, take, inl, inr, arith, refl, sym, Ok, Err, Vec, Global}
+use Rattle.std.proofs.Common.{◌≡◌, ◌≢◌, ◌∙◌, ℕ, zero, suc, List, [], ◌∷◌, take, inr, arith, refl, sym, Ok, Err, Vec, Global}
 use Rattle.std.specs.Prelude.{IfErr, IfOk, IsErrAnd, Result}
 use Rattle.std.proofs.lemmas.Result.{err_from_is_err_and}
 use Rattle.libspa.specs.Encoding.{encoding_of}
@@ -15,13 +15,12 @@ use Rattle.libspa.specs.ValueArray.{ValueArray}
 use Rattle.libspa.specs.Values as V
 use Rattle.libspa.specs.View.{array_view, choice_view, view}
 use Rattle.libspa.specs.Writable.{IsWritable}
-use Rattle.spa_negotiate.specs.Sides.{First, Second}
 use Rattle.spa_negotiate.specs.declared.error.NegotiateError.{NegotiateError}
 use Rattle.spa_negotiate.specs.declared.error.NegotiateError.TheVariants.{TypeMismatch, Unsupported, Disjoint, Unread, NotObject, TooLarge, OutOfMemory}
 use Rattle.spa_negotiate.specs.Meeting.{Meet}
 use Rattle.spa_negotiate.specs.Refusals.{AreRefused}
-use Rattle.spa_negotiate.specs.Fronts.{BeginBoth, BeginsObject, IsObject, IsFrontRefused, AreFrontsRefused, MeetIn}
-use Rattle.example_calls.specs.Meeting.{IsWriteRefused, ReadsBack}
+use Rattle.spa_negotiate.specs.Fronts.{BeginBoth, IsObject, AreFrontsRefused, MeetIn}
+use Rattle.example_calls.specs.Meeting.{ReadsBack}
 
 -- a tree of another type than an object's is none,
 no_object-type_of : (t : Tree) → type_of t ≢ object_type → ¬ (IsObject t)
@@ -38,25 +37,6 @@ not_object arrays choices (V.ValueArray a) n =
 not_object arrays choices (V.Choice c) n =
     no_object-type_of (view (V.Choice c)) (λ e. omega (arith, sym (choices c) ∙ e))
 not_object arrays choices _ n = λ h. h
-
--- the first side's refusal,
-pub first_refused : (a b : List ℕ) (e : NegotiateError) → IsFrontRefused First a e → AreFrontsRefused a b e
-first_refused a b (Unread First) h = h.1
-first_refused a b (Unread Second) h = let no : Second ≡ First = h.0 in cc
-first_refused a b (NotObject First) h = h.1
-first_refused a b (NotObject Second) h = let no : Second ≡ First = h.0 in cc
-first_refused a b OutOfMemory h = inl h
-first_refused a b _ h = absurd h
-
--- and the second's, behind a first side that is an object
-pub second_refused : (a b : List ℕ) → BeginsObject a → (e : NegotiateError) →
-    IsFrontRefused Second b e → AreFrontsRefused a b e
-second_refused a b first (Unread First) h = let no : First ≡ Second = h.0 in cc
-second_refused a b first (Unread Second) h = (first, h.1)
-second_refused a b first (NotObject First) h = let no : First ≡ Second = h.0 in cc
-second_refused a b first (NotObject Second) h = (first, h.1)
-second_refused a b first OutOfMemory h = inr (inl (first, h))
-second_refused a b first _ h = absurd h
 
 IsBytes-take : (n : ℕ) (b : List ℕ) → IsBytes b → IsBytes (take n b)
 IsBytes-take zero b h i = omega arith
@@ -92,28 +72,6 @@ objects_refused a b v w first second OutOfMemory h =
     inr (inr (record { ours = v; theirs = w; first = first; second = second; holds = h }))
 objects_refused a b (object t i ps) w first second e h = absurd h
 objects_refused a b v w first second e h = absurd h
-
--- memory may run out for two that meet
-lacks_memory : (v w x : Tree) → Meet v w x → AreRefused v w OutOfMemory
-lacks_memory (object t i ps) (object u j qs) (object c d rs) m = (m.0, tt)
-lacks_memory (object t i ps) (object u j qs) x m = absurd m
-lacks_memory (object t i ps) w x m = absurd m
-lacks_memory v w x m = absurd m
-
--- why that in which they meet isn't written
-pub unwritten : (a b : List ℕ) (v w x : Tree) → Begins a v → Begins b w → Meet v w x →
-    (e : NegotiateError) → IsWriteRefused x e → AreFrontsRefused a b e
-unwritten a b v w x first second met TooLarge h =
-    record {
-      ours = v;
-      theirs = w;
-      first = first;
-      second = second;
-      holds = record { met = x; meet = met; large = h };
-    }
-unwritten a b v w x first second met OutOfMemory h =
-    objects_refused a b v w first second OutOfMemory (lacks_memory v w x met)
-unwritten a b v w x first second met _ h = absurd h
 
 -- and how it is written
 pub written : (a b : List ℕ) (v w x : Tree) → Begins a v → Begins b w → Meet v w x →

@@ -1,6 +1,5 @@
 -- What no control is read from.
-use Rattle.std.proofs.Common.{◌≡◌, ◌≢◌, ◌++◌, ◌∷◌, ℕ, List, refl, sym, ◌∙◌, subst}
-use Rattle.std.specs.Borrow.{Bor}
+use Rattle.std.proofs.Common.{◌≡◌, ◌≢◌, ◌++◌, ◌∷◌, ℕ, List, sym, ◌∙◌, subst}
 use Rattle.std.specs.List.{All}
 use Rattle.libspa.specs.DeserializeError.{DeserializeError}
 use Rattle.libspa.specs.DeserializeErrors as error
@@ -9,7 +8,6 @@ use Rattle.libspa.specs.GenErrors as gen_error
 use Rattle.libspa.specs.Writing.{RefusedFor}
 use Rattle.libspa.specs.Front.{Begins}
 use Rattle.libspa.specs.Kind.{float}
-use Rattle.libspa.specs.Reading.{OnFault}
 use Rattle.libspa.specs.Tree.{Tree, fixed, object}
 use Rattle.libspa.specs.View.{view}
 use Rattle.libspa.specs.Writable.{HasNul, IsTooLarge, IsWritable}
@@ -41,21 +39,6 @@ of_other_volume v t i ps qs p e none k other c r =
 -- the one value of a front is read as no control
 pub front_refused : (b : List ℕ) (v : Tree) → ((w : Tree) → Begins b w → w ≡ v) → IsNoControl v → BeginsNoControl b
 front_refused b v one n w g c r = n c (subst (IsControl c) (one w g) r)
-
--- a refusal that isn't for memory
-pub not_for_memory : (A : Type 0) (e : DeserializeError (Bor (List ℕ))) → OnFault A e → e ≢ error.OutOfMemory → A
-not_for_memory A (error.Nom f) a n = a
-not_for_memory A error.UnsupportedType a n = a
-not_for_memory A error.InvalidType a n = a
-not_for_memory A error.PropertyMissing a n = a
-not_for_memory A (error.PropertyWrongKey k) a n = a
-not_for_memory A error.InvalidChoiceType a n = a
-not_for_memory A error.MissingChoiceValues a n = a
-not_for_memory A error.WrongSize a n = a
-not_for_memory A error.UnreadMembers a n = a
-not_for_memory A error.NoElementLeft a n = a
-not_for_memory A error.FailedReader a n = a
-not_for_memory A error.OutOfMemory a n = absurd (n refl)
 
 -- a write that isn't refused for memory is of what can't be written
 pub not_writable : (v : Tree) (e : GenError) → RefusedFor (HasNul v) (IsTooLarge v) (λ f. f ≡ gen_error.OutOfMemory) e →

@@ -1,5 +1,5 @@
 -- What is read of a stream's format.
-use Rattle.std.proofs.Common.{◌≡◌, List, ℕ, Some, None, Option, sym, ap, ◌∙◌, subst}
+use Rattle.std.proofs.Common.{◌≡◌, List, ℕ, Some, None, Option, sym, ap, ◌∙◌}
 use Rattle.std.specs.Borrow.{Bor}
 use Rattle.libspa.specs.DeserializeError.{DeserializeError}
 use Rattle.libspa.specs.Exactly.{IsUnread, RefusesExactly}

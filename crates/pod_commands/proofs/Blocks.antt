@@ -3,8 +3,6 @@ use Rattle.std.proofs.Common.{◌≡◌, ◌≢◌, [], append-nil, arith, refl,
 use Rattle.std.specs.Io.KnownBytes.{Appends}
 use Rattle.std.specs.Prelude.{IfErr, IfOk, Result}
 use Rattle.spa_recordings.specs.Streaming.{BeginsBlock, IsNotMade, WritesMade}
-use Rattle.spa_format.specs.Pod.{AreMembers}
-use Rattle.spa_format.specs.Tree.{Trees}
 use Rattle.spa_recordings.specs.declared.streaming.NotMade.{NotMade}
 use Rattle.spa_recordings.specs.declared.streaming.NotMade.TheVariants as not_made
 use Rattle.spa_text_commands.specs.Answers.{ShowsAll}
@@ -15,8 +13,7 @@ use Rattle.pod_commands.specs.Streaming.{MayRefuse, WritesOf}
 use Rattle.pod_commands.specs.declared.request.Printing.{Printing}
 use Rattle.pod_commands.specs.declared.request.Style.{Style}
 use Rattle.pod_commands.specs.declared.request.Streaming.{Streaming}
-use Rattle.pod_commands.specs.declared.request.Streaming.TheVariants.{Json, Print, Check}
-use Rattle.pod_commands.proofs.Running.{keeps_itself}
+use Rattle.pod_commands.specs.declared.request.Streaming.TheVariants.{Json, Print}
 
 pub appends_nothing : (a : Option (List ℕ)) → Appends a a []
 appends_nothing None = tt
@@ -58,15 +55,3 @@ pub unmade_by : (s t : Streaming) (count place : ℕ) (block after : List ℕ) (
     IfErr r (IsNotMade (MayRefuse s) (WritesOf s count place) block after old new)
 unmade_by s t count place block after old new r e h =
     subst (λ z. IfErr r (IsNotMade (MayRefuse z) (WritesOf z count place) block after old new)) (sym e) h
-
--- nothing is written of a block of pods
-pub checked : (s : Streaming) (count place : ℕ) (block : List ℕ) (known : Option (List ℕ)) → s ≡ Check → ((vs : Trees) × AreMembers vs block) →
-    WritesMade (WritesOf s count place) block known known 0
-checked s count place block known e pods =
-    subst (λ z. WritesMade (WritesOf z count place) block known known 0) (sym e)
-    record { out = []; made = (refl, pods, refl); written = appends_nothing known; few = omega arith }
-
-pub unchecked : (s : Streaming) (count place : ℕ) (block : List ℕ) (known : Option (List ℕ)) → s ≡ Check →
-    IsNotMade (MayRefuse s) (WritesOf s count place) block block known known not_made.Refused
-unchecked s count place block known e =
-    subst (λ z. IsNotMade (MayRefuse z) (WritesOf z count place) block block known known not_made.Refused) (sym e) (tt, refl, keeps_itself known)

@@ -1,5 +1,5 @@
 -- The lines of refused pods, written one after another.
-use Rattle.std.proofs.Common.{◌≡◌, ◌∙◌, ◌∷◌, ◌++◌, [], append_assoc, append-nil, ap, refl, subst, sym, List, ℕ, Option}
+use Rattle.std.proofs.Common.{◌≡◌, ◌∙◌, ◌∷◌, ◌++◌, [], append_assoc, ap, refl, sym, List, ℕ, Option}
 use Rattle.std.specs.Io.KnownBytes.{Appends}
 use Rattle.spa_refusals.specs.declared.several.NamedRefusal.{NamedRefusal}
 use Rattle.pod_commands.specs.Answers.{line_of_pod, lines_of_pods}
@@ -22,9 +22,3 @@ further old mid new pods left behind pod e w so = record {
   written = appends_more old mid new so.lines (line_of_pod pod) so.written w;
   all = append_assoc so.lines (line_of_pod pod) (lines_of_pods behind) ∙ ap (λ z. so.lines ++ lines_of_pods z) (sym e) ∙ so.all;
 }
-
-pub ends : (old mid new : Option (List ℕ)) (pods left : List NamedRefusal) (more : List ℕ) → left ≡ [] → Appends mid new more →
-    ListedSoFar old mid pods left → Appends old new (lines_of_pods pods ++ more)
-ends old mid new pods left more e w so =
-    subst (λ z. Appends old new (z ++ more)) (sym (append-nil so.lines) ∙ ap (λ z. so.lines ++ lines_of_pods z) (sym e) ∙ so.all)
-    (appends_more old mid new so.lines more so.written w)

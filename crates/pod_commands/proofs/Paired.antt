@@ -1,22 +1,11 @@
 -- What is made of two inputs.
 use Rattle.std.proofs.Common.{◌≡◌, [], inl, inr, sym, subst, List, ℕ, Option}
-use Rattle.spa_device.specs.Whole.{IsAllOf}
 use Rattle.spa_text_commands.specs.Differences.{Differ, SayTheSame}
 use Rattle.pod_commands.specs.Answers.{AreNotCompared, Compare, Gets, Gives, OnAnswer, Outlet, Refuses}
-use Rattle.pod_commands.specs.Inputs.{AreBoth, OfOne, OfTwo, content_of}
+use Rattle.pod_commands.specs.Inputs.{OfTwo}
 use Rattle.pod_commands.specs.Sending.{IsSent}
 use Rattle.pod_commands.specs.declared.answer.Answer.{Answer}
-use Rattle.pod_commands.specs.declared.answer.Answer.TheVariants.{Done, Differs}
-
--- what holds of both inputs
-pub of_both : (remaining : Option (List ℕ)) (holds : List ℕ → Option (List ℕ)) (n m first second : List ℕ) (Holds : List ℕ → List ℕ → Type 0) →
-    AreBoth remaining holds n m first second → Holds first second → OfTwo remaining holds n m Holds
-of_both remaining holds n m first second Holds both h =
-    record { first = first; second = second; first_read = both.0; second_read = both.1; fact = h }
-
-pub of_input : (remaining : Option (List ℕ)) (holds : List ℕ → Option (List ℕ)) (n input : List ℕ) (Holds : List ℕ → Type 0) →
-    IsAllOf (content_of remaining holds n) input → Holds input → OfOne remaining holds n Holds
-of_input remaining holds n input Holds read h = record { input = input; read = read; fact = h }
+use Rattle.pod_commands.specs.declared.answer.Answer.TheVariants.{Done}
 
 -- two inputs that are compared say the same values, or others
 pub same_sent : (remaining : Option (List ℕ)) (n m lines : List ℕ) (o : Outlet) (answer : Answer) → lines ≡ [] →
@@ -38,29 +27,6 @@ same_sent remaining n m lines o answer none h (inr k) =
       (
         lines,
         record { first = h.first; second = h.second; first_read = h.first_read; second_read = h.second_read; fact = inl (none, h.fact) },
-        k.3,
-      ),
-    ))
-
-pub other_sent : (remaining : Option (List ℕ)) (n m lines : List ℕ) (o : Outlet) (answer : Answer) →
-    OfTwo remaining o.before n m (Differ lines) → IsSent lines Differs answer o →
-    OnAnswer answer (OfTwo remaining o.before n m SayTheSame × Gets o.target o []) (Gives (λ out. OfTwo remaining o.before n m (Differ out)) o)
-    (Refuses (λ out. OfTwo remaining o.before n m (Compare out)) (AreNotCompared remaining o.before n m) o)
-other_sent remaining n m lines o answer h (inl k) =
-    subst
-    (λ a. OnAnswer a (OfTwo remaining o.before n m SayTheSame × Gets o.target o []) (Gives (λ out. OfTwo remaining o.before n m (Differ out)) o)
-    (Refuses (λ out. OfTwo remaining o.before n m (Compare out)) (AreNotCompared remaining o.before n m) o))
-    (sym k.0) (lines, h, k.1)
-other_sent remaining n m lines o answer h (inr k) =
-    subst
-    (λ a. OnAnswer a (OfTwo remaining o.before n m SayTheSame × Gets o.target o []) (Gives (λ out. OfTwo remaining o.before n m (Differ out)) o)
-    (Refuses (λ out. OfTwo remaining o.before n m (Compare out)) (AreNotCompared remaining o.before n m) o))
-    (sym k.1)
-    (inr (
-      k.2,
-      (
-        lines,
-        record { first = h.first; second = h.second; first_read = h.first_read; second_read = h.second_read; fact = inr h.fact },
         k.3,
       ),
     ))

@@ -35,10 +35,6 @@ module _ {Z : Type 0} where
   sub_some None name rows n r = absurd (some_none name n)
   sub_some (Some b) name rows n r = ap₂ (λ s t. Some (s, t)) (sym (ap (value_or name) n)) (sym (ap (value_or rows) r))
 
-  sub_none : (x : Option (Box SubCommand Z)) → None ≡ option_map (λ b. (out-SubCommand (box_value b)).name.now) x → subcommand_rows x ≡ None
-  sub_none None n = refl
-  sub_none (Some b) n = absurd (some_none _ (sym n))
-
 -- the program's command is one of which clap says all
 program_is_simple : is_simple program ≡ true
 program_is_simple = refl
@@ -52,12 +48,6 @@ pub found_is : (app : App) (words : List Text) (m : ArgMatches) (name : Text) (r
 found_is app words m name rows e h n r =
     let its = subst (λ a. HasMatchesOf a words m) e h program_is_simple in
     sym its.1 ∙ sub_some (out-ArgMatches m).subcommand name rows n r
-
-pub none_is : (app : App) (words : List Text) (m : ArgMatches) → app ≡ program → HasMatchesOf app words m → None ≡ subcommand_name_of m →
-    subcommand_of program words ≡ None
-none_is app words m e h n =
-    let its = subst (λ a. HasMatchesOf a words m) e h program_is_simple in
-    sym its.1 ∙ sub_none (out-ArgMatches m).subcommand n
 
 pub no_fault : (app : App) (words : List Text) → app ≡ program → (is_simple_and_free app ≡ true → fault_of app words ≡ []) → fault_of program words ≡ []
 no_fault app words e h = subst (λ a. is_simple_and_free a ≡ true → fault_of a words ≡ []) e h program_is_free
@@ -74,9 +64,6 @@ name_in (Some p) = p.0
 pub one_name : (x : Option (Text × List Row)) (n m : Text) (rs ss : List Row) → x ≡ Some (n, rs) → x ≡ Some (m, ss) → n ≡ m
 unfolding name_in
 one_name x n m rs ss e f = sym (ap name_in e) ∙ ap name_in f
-
-pub no_name : (x : Option (Text × List Row)) (n : Text) (rs : List Row) → x ≡ None → x ≡ Some (n, rs) → ⊥
-no_name x n rs e f = some_none (n, rs) (sym f ∙ e)
 
 -- names that are given, or the standard input's
 pub all_names : (r : Option (Bor (List (Bor Text)))) (empty : Bor (List (Bor Text))) → empty.now ≡ [] →

@@ -1,20 +1,13 @@
 -- What was made is sent, and answered.
-use Rattle.std.proofs.Common.{◌≡◌, ◌≢◌, ◌⊎◌, ◌∙◌, [], inl, inr, refl, sym, subst, List, ℕ, Option, Some, None}
+use Rattle.std.proofs.Common.{◌≡◌, inl, inr, refl, sym, subst, List, ℕ, Option, Some, None}
 use Rattle.std.specs.Io.KnownBytes.{Keeps}
 use Rattle.std.specs.Borrow.{Bor}
 use Rattle.std.specs.Prelude.{Result, Ok, Err, IfOk, IfErr}
-use Rattle.std.specs.declared.vec.Vec.{Vec}
-use Rattle.std.specs.Global.{Global}
-use Rattle.spa_recordings.specs.declared.going_on.Refused.{Refused as OfRefused}
-use Rattle.spa_refusals.specs.declared.several.NamedRefusal.{NamedRefusal}
-use Rattle.spa_recordings.specs.declared.reading.Reading.{Reading}
-use Rattle.pod_commands.specs.Answers.{Gives, IsMadeInPart, IsUntouched, OnAnswer, Outlet, Refuses, outlet}
+use Rattle.pod_commands.specs.Answers.{Gives, IsUntouched, OnAnswer, Outlet, Refuses, outlet}
 use Rattle.pod_commands.specs.Sending.{IsSent}
 use Rattle.pod_commands.specs.declared.answer.Answer.{Answer}
-use Rattle.pod_commands.specs.Working.{AreWorked}
-use Rattle.pod_commands.specs.declared.answer.Answer.TheVariants.{Done, Passed, Refused}
+use Rattle.pod_commands.specs.declared.answer.Answer.TheVariants.{Done, Refused}
 use Rattle.pod_commands.specs.declared.answer.Failure.{Failure}
-use Rattle.pod_commands.specs.declared.request.Making.{Making}
 
 pub keeps_itself : (a : Option (List ℕ)) → Keeps a a
 keeps_itself None = tt
@@ -39,16 +32,3 @@ pub answers : {V : Type 0} (r : Result V Failure) (items : V → List ℕ) (IsSo
 answers (Ok v) items IsSo IsRefused o answer so refused sent_ok kept = sent IsSo IsRefused o (items v) answer so sent_ok
 answers (Err why) items IsSo IsRefused o answer so refused sent_ok kept =
     subst (λ a. OnAnswer a (Gives IsSo o) ⊥ (Refuses IsSo IsRefused o)) (sym kept.0) (inl (refused, kept.1))
-
--- what was made of the pods that are read was sent: of all, or of those that aren't refused
-pub sent_in_part : (reading : Reading) (refused : OfRefused) (making : Making) (remaining : Option (List ℕ)) (names : List (Bor (List ℕ))) (o : Outlet)
-    (out : List ℕ) (pods : Vec NamedRefusal Global) (done answer : Answer) → AreWorked reading refused making remaining o.before names out pods.items →
-    (((pods.items ≡ []) × (done ≡ Done)) ⊎ ((pods.items ≢ []) × (done ≡ Passed pods))) → IsSent out done answer o →
-    IsMadeInPart reading refused making answer remaining names o
-sent_in_part reading refused making remaining names o out pods done answer worked (inl e) (inl k) =
-    subst (λ a. IsMadeInPart reading refused making a remaining names o) (sym (k.0 ∙ e.1))
-    (out, subst (AreWorked reading refused making remaining o.before names out) e.0 worked, k.1)
-sent_in_part reading refused making remaining names o out pods done answer worked (inr e) (inl k) =
-    subst (λ a. IsMadeInPart reading refused making a remaining names o) (sym (k.0 ∙ e.1)) (e.0, (out, worked, k.1))
-sent_in_part reading refused making remaining names o out pods done answer worked e (inr k) =
-    subst (λ a. IsMadeInPart reading refused making a remaining names o) (sym k.1) (inr (k.2, (out, (pods.items, worked), k.3)))

@@ -1,5 +1,5 @@
 -- Inputs that are written of as they come, name by name.
-use Rattle.std.proofs.Common.{◌≡◌, ◌≢◌, ◌⊎◌, ◌∙◌, ◌+◌, ◌∷◌, ◌++◌, [], ap, append_assoc, append-nil, arith, inl, inr, length, refl, subst, suc, sym, take, List, ℕ, Option, Some, None}
+use Rattle.std.proofs.Common.{◌≡◌, ◌≢◌, ◌∙◌, ◌+◌, ◌∷◌, ◌++◌, [], ap, append_assoc, append-nil, arith, inl, inr, length, refl, subst, suc, sym, take, List, ℕ, Option, Some, None}
 use Rattle.std.specs.Borrow.{Bor}
 use Rattle.std.specs.Io.KnownBytes.{Appends}
 use Rattle.spa_device.specs.Whole.{IsAllOf}
@@ -17,7 +17,7 @@ use Rattle.pod_commands.specs.declared.request.Printing.{Printing}
 use Rattle.pod_commands.specs.declared.answer.Failure.{Failure}
 use Rattle.pod_commands.specs.declared.answer.Failure.TheVariants.{Pods, Texts, Pair, Lists, OutOfMemory, Unread, Unwritten}
 use Rattle.pod_commands.specs.declared.answer.Answer.{Answer}
-use Rattle.pod_commands.specs.declared.answer.Answer.TheVariants.{Done, Shown, Missing, Misused, Refused}
+use Rattle.pod_commands.specs.declared.answer.Answer.TheVariants.{Shown, Misused, Refused}
 use Rattle.pod_commands.specs.declared.misuse.Excluded.{Excluded}
 use Rattle.pod_commands.specs.declared.misuse.Misuse.TheVariants.{WithStream, WithPart}
 use Rattle.pod_commands.specs.declared.request.Fate.{Fate}

@@ -1,5 +1,5 @@
 -- What is said of a wrong command line.
-use Rattle.std.specs.Prelude.{ℕ, List, ◌++◌, [], ◌∷◌, Option, None, Some, codes}
+use Rattle.std.specs.Prelude.{ℕ, List, ◌++◌, [], Option, None, Some, codes}
 use Rattle.std.specs.Borrow.{Bor}
 use Rattle.pod_commands.specs.declared.misuse.Excluded.{Excluded}
 use Rattle.pod_commands.specs.declared.misuse.Excluded.TheVariants.{Lenient, KeepGoing, KeepRefused, Output}

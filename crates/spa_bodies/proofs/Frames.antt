@@ -7,9 +7,8 @@ use Rattle.spa_sink.specs.declared.gen_error.GenError.TheVariants.{TooLarge}
 use Rattle.spa_sink.specs.Writing.{RefusesWrite}
 use Rattle.spa_format.specs.Words.{header_size, padded_size, padding, size_limit, word_bytes}
 use Rattle.spa_format.specs.Encoding.{encoded_pod}
-use Rattle.spa_bodies.specs.Written.{Appending, ClosesPod, IsClosed, IsExtended, IsPastLimit, IsWholeSize, Refusing, begun_length}
-use Rattle.spa_format.proofs.Encodings.{body_within, length-encoded_pod, length-word_bytes, two_words_length}
-use Rattle.spa_bodies.proofs.SinkRefusals.{IsSink, sink_refused}
+use Rattle.spa_bodies.specs.Written.{ClosesPod, IsClosed, IsExtended, IsPastLimit, IsWholeSize, Refusing, begun_length}
+use Rattle.spa_format.proofs.Encodings.{length-encoded_pod, length-word_bytes, two_words_length}
 
 -- the body of a pod that was begun behind some bytes
 begun_body : (old head body : List ℕ) → length head ≡ header_size →
@@ -92,15 +91,6 @@ pub past_limit : {S : Type 0} (content : S → List ℕ) (refuses : Refusing S) 
 past_limit content refuses b start l a type body p =
     let size = begun_size a b start type body p.place p.inside in
     omega (arith, l, size)
-
--- the refusal of the header
-pub header_refused : {S : Type 0} {appends : Appending S} {refuses : Refusing S} →
-    IsSink appends refuses → (nul large : Type 0) (a c : S) (type : ℕ) (body : List ℕ) (e : GenError) →
-    refuses a header_size c e → RefusesWrite nul large (refuses a (length (encoded_pod type body)) c) e
-header_refused s nul large a c type body e r =
-    let w = body_within type body in
-    sink_refused s nul large a c (length (encoded_pod type body)) e
-    (s.longer a c header_size (length (encoded_pod type body)) e (omega arith) r)
 
 -- the refusal of the size
 pub size_refused : (nul large : Type 0) (other : GenError → Type 0) (big : Type 0) → (big → large) →

@@ -1,10 +1,9 @@
 -- What a refusal of a part says of the whole, and what the public refusal says.
-use Rattle.std.proofs.Common.{◌≡◌, ℕ, ◌<◌, ◌≤◌, List, ◌++◌, length, drop, refl, sym, ap, ◌∙◌, subst, arith, inl, inr}
-use Rattle.std.specs.Prelude.{⊤}
+use Rattle.std.proofs.Common.{◌≡◌, ℕ, ◌<◌, ◌≤◌, List, length, refl, subst, inl, inr}
 use Rattle.std.specs.Borrow.{Bor}
 use Rattle.spa_format.specs.Words.{word_at, body_of, header_size}
 use Rattle.spa_format.specs.Kind.{Kind, body_size}
-use Rattle.spa_format.specs.Tree.{array_type, choice_type, struct_type, object_type}
+use Rattle.spa_format.specs.Tree.{array_type, choice_type, object_type}
 use Rattle.spa_format.specs.Front.{HasFront, IsRefused}
 use Rattle.spa_format.specs.Faults.{Fault, Short, Text, InvalidType, InvalidChoiceType, MissingChoiceValues, WrongSize, of_array, of_choice, choice_header_size, short_object, IsWrongArray, StandsAtFront, Stands, at_front, in_member, in_key, in_property}
 use Rattle.spa_format.proofs.Refused as format
@@ -13,7 +12,7 @@ use Rattle.spa_fixed_sized.specs.declared.fault.Refusal.TheVariants as refusal
 use Rattle.spa_fixed_sized.specs.Reading.{RefusesArray, RefusesChoice}
 use Rattle.spa_bytes.specs.Opening.{Opens}
 use Rattle.spa_bodies.specs.Reading.{TakesMemory, MayLackMemory, OnFault, OnMemory, IsShortAt, Names, RefusesInput}
-use Rattle.spa_bodies.specs.Refusing.{Says, StandsInBody, RefusesBody, StandsInMembers, StandsInProperties, RefusesPod, error_of}
+use Rattle.spa_bodies.specs.Refusing.{Says, StandsInBody, RefusesBody, RefusesPod, error_of}
 
 -- a refusal says of the whole what follows there
 pub says_through : (stands stands' : Fault → Type 0) (memory memory' : Type 0) →
@@ -47,47 +46,12 @@ body_refused input body rest type why o s =
     at_front input refl (at_front_of input k o.there (its_fault k i)) in
     says_through _ _ _ _ stands (λ m. (o.there, subst TakesMemory o.its_type m)) why s
 
--- where a member is refused
-pub members_refused : (input place body rest : List ℕ) (type : ℕ) (why : Refusal) →
-    Opens input type body rest → type ≡ struct_type →
-    Says (StandsInMembers body place) ⊤ why → RefusesPod input place why
-members_refused input place body rest type why o t s =
-    let its_type : word_at input 4 ≡ struct_type = sym o.its_type ∙ t in
-    let stands : (k : Fault) → StandsInMembers body place k → Stands k place input = λ k m.
-    in_member input m.0 m.1 m.2 o.there its_type (sym o.its_body ∙ m.3) m.4 m.5 m.6 in
-    says_through _ _ _ _ stands (λ _. (o.there, inr (inr (inr (inr (inl its_type)))))) why s
-
 -- where an object lacks its type or its id
 pub short_object_refused : (input body rest : List ℕ) (type : ℕ) →
     Opens input type body rest → type ≡ object_type → length body < header_size →
     RefusesPod input input refusal.WrongSize
 short_object_refused input body rest type o t l =
     body_refused input body rest type refusal.WrongSize o (short_object t l)
-
--- where a property is refused
-pub properties_refused : (input place body rest behind : List ℕ) (type : ℕ) (why : Refusal) →
-    Opens input type body rest → type ≡ object_type → header_size ≤ length body → behind ≡ drop header_size body →
-    Says (StandsInProperties behind place) ⊤ why → RefusesPod input place why
-properties_refused input place body rest behind type why o t l d s =
-    let its_type : word_at input 4 ≡ object_type = sym o.its_type ∙ t in
-    let long : header_size ≤ length (body_of input) = omega (arith, ap length o.its_body) in
-    let its_behind : drop header_size (body_of input) ≡ behind = ap (drop header_size) (sym o.its_body) ∙ sym d in
-    let stands : (k : Fault) → StandsInProperties behind place k → Stands k place input =
-    in_object input place behind o.there its_type long its_behind in
-    says_through _ _ _ _ stands (λ _. (o.there, inr (inr (inr (inr (inr (inl its_type))))))) why s
-  where
-    in_object : (input place behind : List ℕ) →
-        HasFront input → word_at input 4 ≡ object_type → header_size ≤ length (body_of input) →
-        drop header_size (body_of input) ≡ behind →
-        (k : Fault) → StandsInProperties behind place k → Stands k place input
-    in_object input place behind h t l d k m =
-        elim m.5 [
-          | inl x ↦
-              let here : drop header_size (body_of input) ≡ m.1 ++ place = d ∙ m.3 ∙ ap (λ y. m.1 ++ y) (sym x.1) in
-              let short : length place < header_size = omega (arith, x.3, ap length x.1) in
-              in_key input m.0 m.1 h t l here m.4 (λ n. x.2 (sym x.1 ∙ n)) short x.0
-          | inr x ↦ in_property input m.0 m.1 m.2 h t l (d ∙ m.3) m.4 x.0 x.1
-        ]
 
 -- the refusal of an array of elements of this kind
 pub array_refused : (k : Kind) (b : List ℕ) (why : Refusal) →

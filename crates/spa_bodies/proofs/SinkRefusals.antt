@@ -32,33 +32,11 @@ pub unwritable_through : {nul nul' large large' : Type 0} → (nul → nul') →
 unwritable_through {nul = nul} {nul' = nul'} {large = large} {large' = large'} f g e r =
     record { cause = refused_through nul nul' large large' (λ _. ⊥) (λ _. ⊥) f g (λ d h. h) e r.cause }
 
--- what can be written isn't refused
-pub never_unwritable : {nul large : Type 0} → ¬ nul → ¬ large → (e : GenError) →
-    RefusesWrite nul large (λ _. ⊥) e → ⊥
-never_unwritable f g Full r = r.cause
-never_unwritable f g TooLarge r = g r.cause
-never_unwritable f g NulInText r = f r.cause
-never_unwritable f g WrongCount r = r.cause
-never_unwritable f g Failed r = r.cause
-never_unwritable f g Io r = r.cause
-never_unwritable f g OutOfMemory r = r.cause
-
 -- a sink's refusal is of no text and of no size
 pub sink_refused : {S : Type 0} {appends : Appending S} {refuses : Refusing S} →
     IsSink appends refuses → (nul large : Type 0) (a c : S) (n : ℕ) (e : GenError) → refuses a n c e →
     RefusesWrite nul large (refuses a n c) e
 sink_refused {refuses = refuses} s nul large a c n e r = by_sink refuses s.no_nul s.no_large a c n e r
-
--- the refusal of a part, behind bytes that were written before
-pub part_refused : {S : Type 0} {appends : Appending S} {refuses : Refusing S}
-    {nul nul' large large' : Type 0} → IsSink appends refuses → (nul → nul') → (large → large') →
-    (a b c : S) (before n whole : ℕ) (e : GenError) →
-    ((after : S) (m : ℕ) (d : GenError) → refuses b m after d → refuses a (before + m) after d) →
-    before + n ≤ whole → RefusesWrite nul large (refuses b n c) e →
-    RefusesWrite nul' large' (refuses a whole c) e
-part_refused {refuses = refuses} {nul = nul} {nul' = nul'} {large = large} {large' = large'} s f g a b c before n whole e room le r = record {
-  cause = refused_through nul nul' large large' (refuses b n c) (refuses a whole c) f g (λ d h. s.longer a c (before + n) whole d le (room c n d h)) e r.cause;
-}
 
 -- the refusal of the sink, behind bytes that were appended before
 pub later_refused : {S : Type 0} {appends : Appending S} {refuses : Refusing S} →

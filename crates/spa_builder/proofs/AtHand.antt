@@ -4,7 +4,7 @@ use Rattle.std.specs.Prelude.{Option, Some, None, Result, is_some, nat_lt}
 use Rattle.std.proofs.lemmas.List.{take_all}
 use Rattle.spa_format.specs.Faults.{Fault, Stands}
 use Rattle.spa_format.specs.Faults as fault
-use Rattle.spa_format.specs.Kind.{Fixed, Kind, body_size, kind_of, type_number}
+use Rattle.spa_format.specs.Kind.{Fixed, Kind, kind_of, type_number}
 use Rattle.spa_format.specs.Tree.{Tree, Trees, fixed, type_of}
 use Rattle.spa_format.specs.Words.{extent, size_limit, word_at}
 use Rattle.spa_format.specs.Pod.{IsPod, IsWhole}
@@ -12,7 +12,6 @@ use Rattle.spa_format.specs.Encoding.{encoded_body, encoding_of}
 use Rattle.spa_format.specs.Front.{Begins, front_of, rest_of}
 use Rattle.spa_format.specs.Typed.{IsBytes}
 use Rattle.spa_format.proofs.Back.{body_fits, type_fits, whole_frame}
-use Rattle.spa_format.proofs.FixedKinds.{size_fits}
 use Rattle.spa_format.proofs.Fronts.{length-body_of}
 use Rattle.spa_format.proofs.Origin.{writable}
 use Rattle.spa_format.proofs.Refused.{refused}
@@ -23,24 +22,19 @@ use Rattle.spa_fixed_sized.specs.declared.fault.Refusal.TheVariants as R
 use Rattle.spa_scan.specs.Canonical.{BeginsCanonical}
 use Rattle.spa_scan.specs.Depth.{depth_of, levels_looked_into}
 use Rattle.spa_read.specs.Nesting.{RefusesAt}
-use Rattle.spa_builder.specs.State.{Partial, State, open_array, open_choice, open_object, open_property, open_struct}
-use Rattle.spa_builder.specs.Step.{add, has_nul, state_with_value, outcome_if_fits, step, takes_trees}
+use Rattle.spa_builder.specs.State.{Partial, State}
+use Rattle.spa_builder.specs.Step.{add, has_nul, state_with_value, outcome_if_fits, step}
 use Rattle.spa_builder.specs.Fields.{BuilderFields, all_so_far, what_of}
 use Rattle.spa_builder.specs.Innermost.{has_elements, innermost_of, takes_element, takes_elements}
 use Rattle.spa_builder.specs.Answers.{IsCopied, Makes, MakesPod, MakesValue}
 use Rattle.spa_builder.specs.declared.begun.BegunPod.{BegunPod}
 use Rattle.spa_builder.proofs.Members.{element_not, element_placed}
-use Rattle.spa_builder.proofs.Steps.{no_element, without_nul}
+use Rattle.spa_builder.proofs.Steps.{without_nul}
 use Rattle.spa_builder.proofs.Valued.{clean, made_value, misplaced}
 use Rattle.spa_utils.specs.declared.errno.Errno.{Errno}
 use Rattle.spa_utils.specs.declared.errno.TheConstants.Errno.{INVAL, NOMEM}
 
 -- ---- where it may come next
-
-pub none_begun : (base : ℕ) (closed : Trees) (ps : List Partial) (v : Tree) →
-    None ≡ innermost_of base ps → true ≡ is_some (state_with_value closed ps v)
-none_begun base closed [] v e = refl
-none_begun base closed (p ∷ ps) v e = absurd (cc)
 
 -- the innermost open tree
 pub its_innermost : (base : ℕ) (ps : List Partial) (o : BegunPod) → Some o ≡ innermost_of base ps →
@@ -49,32 +43,6 @@ its_innermost base [] o e = absurd (cc)
 its_innermost base (p ∷ ps) o e =
     let is : o ≡ record { start = base + length (all_so_far ps); what = what_of p } = cc in
     (p, ps, refl, ap (λ (x : BegunPod). x.what) is)
-
-pub without_elements : (closed : Trees) (ps : List Partial) (v : Tree) → takes_elements ps ≡ false →
-    is_some (state_with_value closed ps v) ≡ takes_trees ps
-without_elements closed [] v e = refl
-without_elements closed (open_struct vs ∷ ps) v e = refl
-without_elements closed (open_object t i qs ∷ ps) v e = refl
-without_elements closed (open_property t i qs k f ∷ ps) v e = refl
-without_elements closed (open_array xs ∷ ps) v e = absurd (cc)
-without_elements closed (open_choice h f xs ∷ ps) v e = absurd (cc)
-
-no_trees_among : (ps : List Partial) → takes_elements ps ≡ true → takes_trees ps ≡ false
-no_trees_among [] e = absurd (cc)
-no_trees_among (open_struct vs ∷ ps) e = absurd (cc)
-no_trees_among (open_object t i qs ∷ ps) e = refl
-no_trees_among (open_property t i qs k f ∷ ps) e = absurd (cc)
-no_trees_among (open_array xs ∷ ps) e = refl
-no_trees_among (open_choice h f xs ∷ ps) e = refl
-
--- a type whose bodies are longer than those of any kind of fixed size
-pub no_element_so_long : (closed : Trees) (ps : List Partial) (v : Tree) (t n : ℕ) →
-    takes_elements ps ≡ true → type_of v ≡ t → ((k : Kind) → t ≡ type_number k → n ≡ body_size k) →
-    8 < n → false ≡ is_some (state_with_value closed ps v)
-no_element_so_long closed ps v t n e of found long =
-    sym (ap is_some (no_element closed ps v
-    (λ x is. (let s = found (kind_of x) (sym of ∙ ap type_of is) in let f = size_fits (kind_of x) in omega arith))
-    (no_trees_among ps e)))
 
 element_decides : (closed : Trees) (p : Partial) (rest : List Partial) (x : Fixed) (b : Bool) →
     has_elements p ≡ true → takes_element p x ≡ b → is_some (state_with_value closed (p ∷ rest) (fixed x)) ≡ b

@@ -1,13 +1,12 @@
 -- The frames of open trees, by place.
-use Rattle.std.proofs.Common.{◌≡◌, ℕ, ◌+◌, ◌-◌, ◌<◌, List, [], ◌∷◌, ◌++◌, length, set, get_or, refl, sym, ap, ◌∙◌, arith, length-append}
+use Rattle.std.proofs.Common.{◌≡◌, ℕ, ◌+◌, ◌-◌, ◌<◌, List, [], ◌∷◌, ◌++◌, length, refl, ap, ◌∙◌, arith, length-append}
 use Rattle.std.specs.Prelude.{Some, slice_get, true, false}
-use Rattle.std.proofs.lemmas.List.{set_at, get_or_push}
 use Rattle.spa_builder.specs.State.{Partial, open_struct, open_object, open_property, open_array, open_choice, with_property}
 use Rattle.spa_format.specs.Tree.{Tree}
 use Rattle.spa_builder.specs.declared.begun.Stage.TheVariants.{Object}
 use Rattle.spa_builder.specs.Framed.{at_stage}
 use Rattle.spa_builder.specs.Fields.{all_so_far, frames_of, what_of}
-use Rattle.spa_builder.specs.Innermost.{trees_with_value, innermost_of, waits}
+use Rattle.spa_builder.specs.Innermost.{trees_with_value, waits}
 use Rattle.spa_builder.specs.declared.begun.BegunPod.{BegunPod}
 use Rattle.spa_builder.specs.declared.begun.What.{What}
 
@@ -18,18 +17,6 @@ length-frames_of base (p ∷ ps) =
     ((record { start = base + length (all_so_far ps); what = what_of p }) ∷ []) in
     let f = length-frames_of base ps in
     omega arith
-
-get_last : (xs : List BegunPod) (x : BegunPod) (n : ℕ) → n ≡ length xs → slice_get (xs ++ x ∷ []) n ≡ Some x
-get_last [] x n e = rw e refl
-get_last (y ∷ ys) x n e = rw e (get_last ys x (length ys) refl)
-
-pub last_frame : (base : ℕ) (ps : List Partial) →
-    slice_get (frames_of base ps) (length (frames_of base ps) - 1) ≡ innermost_of base ps
-last_frame base [] = refl
-last_frame base (p ∷ ps) =
-    let x : BegunPod = record { start = base + length (all_so_far ps); what = what_of p } in
-    let e = length-append (frames_of base ps) (x ∷ []) in
-    get_last (frames_of base ps) x (length (frames_of base ps ++ x ∷ []) - 1) (omega arith)
 
 get_first : (xs : List BegunPod) (y x : BegunPod) → slice_get xs 0 ≡ Some x →
     slice_get (xs ++ y ∷ []) 0 ≡ Some x
@@ -51,14 +38,6 @@ first_frame base p (q ∷ qs) =
           (record { start = base; what = h.0 }) h.1,
     )
 
-pub set_last : (base : ℕ) (p q : Partial) (ps : List Partial) (n : ℕ) → n ≡ length ps →
-    set (frames_of base (p ∷ ps)) n
-    (record { start = base + length (all_so_far ps); what = what_of q }) ≡ frames_of base (q ∷ ps)
-set_last base p q ps n e =
-    set_at (frames_of base ps) (record { start = base + length (all_so_far ps); what = what_of p })
-    [] (record { start = base + length (all_so_far ps); what = what_of q }) n
-    (length-frames_of base ps ∙ sym e)
-
 -- the first frame is the outermost tree's
 pub outermost_is : (frames : List BegunPod) (base : ℕ) (ps : List Partial) (o : BegunPod) →
     frames ≡ frames_of base ps → Some o ≡ slice_get frames 0 →
@@ -69,24 +48,6 @@ outermost_is frames base (p ∷ ps) o e f =
     let h = f ∙ ap (λ l. slice_get l 0) e ∙ g.1 in
     let i : o ≡ record { start = base; what = g.0 } = cc in
     (ap (λ (x : BegunPod). x.start) i, ap length e ∙ length-frames_of base (p ∷ ps), omega arith)
-
-pub set_frame : (frames : List BegunPod) (base : ℕ) (p q : Partial) (ps : List Partial) (w : What)
-    (n : ℕ) (o : BegunPod) → frames ≡ frames_of base (p ∷ ps) → n ≡ length frames - 1 →
-    o ≡ get_or frames n o → w ≡ what_of q → set frames n (record { start = o.start; what = w }) ≡
-    frames_of base (q ∷ ps)
-set_frame frames base p q ps w n o e m g f =
-    let old : BegunPod = record { start = base + length (all_so_far ps); what = what_of p } in
-    let k : n ≡ length (frames_of base ps) =
-    (let l = ap length e ∙ length-append (frames_of base ps) (old ∷ []) in omega arith) in
-    let at : o ≡ old = g ∙ ap (λ i. get_or frames i o) k
-    ∙ ap (λ l. get_or l (length (frames_of base ps)) o) e
-    ∙ get_or_push (frames_of base ps) old o (length (frames_of base ps)) refl in
-    ap (λ (x : BegunPod). set frames n (record { start = x.start; what = w })) at
-    ∙ ap (λ (x : What). set frames n (record { start = base + length (all_so_far ps); what = x })) f
-    ∙ ap (λ i. set frames i (record { start = base + length (all_so_far ps); what = what_of q })) k
-    ∙ ap (λ l. set l (length (frames_of base ps))
-    (record { start = base + length (all_so_far ps); what = what_of q })) e
-    ∙ set_last base p q ps (length (frames_of base ps)) (length-frames_of base ps)
 
 -- where a key waits, it gets its value; in a struct the frame stays
 pub filled_frames : (old new : List BegunPod) (base : ℕ) (ps : List Partial) (v : Tree) →

@@ -1,11 +1,11 @@
 -- The frames as they are kept: the innermost one apart.
 use Rattle.std.proofs.Common.{◌≡◌, ◌≢◌, ℕ, ◌+◌, ◌-◌, ◌<◌, ◌^◌, List, [], ◌∷◌, ◌++◌, length, refl, sym, ap, suc, ◌∙◌, arith, length-append, Bool, true, false}
-use Rattle.std.specs.Prelude.{Some, nat_eq, nat_lt, cond}
+use Rattle.std.specs.Prelude.{nat_eq, nat_lt, cond}
 use Rattle.std.proofs.lemmas.Bool.Decides.{nat_tests}
 use Rattle.spa_builder.specs.State.{Partial, open_struct, open_object, open_property, open_array, open_choice}
 use Rattle.spa_builder.specs.Fields.{all_so_far, frames_of, what_of}
 use Rattle.spa_builder.specs.Framed.{IsKept, at_stage, frames_in, is_nothing, most_bytes}
-use Rattle.spa_builder.specs.Innermost.{has_room_for, innermost_of}
+use Rattle.spa_builder.specs.Innermost.{has_room_for}
 use Rattle.spa_builder.specs.declared.begun.BegunPod.{BegunPod}
 use Rattle.spa_builder.specs.declared.begun.Stage.{Stage}
 use Rattle.spa_builder.proofs.FrameLists.{outermost_is}
@@ -53,21 +53,6 @@ begun_something : (outer : List BegunPod) (o : BegunPod) (first most base : ℕ)
     is_nothing o.what ≡ false
 begun_something outer o first most base p ps k e =
     is_either (is_nothing o.what) (λ h. no_last _ _ (sym e ∙ frames_without outer o h ∙ k.none h))
-
-pub innermost_is : (outer : List BegunPod) (o : BegunPod) (first most base : ℕ) (ps : List Partial) →
-    IsKept outer o first most → is_nothing o.what ≡ false → frames_in outer o ≡ frames_of base ps →
-    Some o ≡ innermost_of base ps
-innermost_is outer o first most base [] k h e =
-    absurd (no_last outer o (sym (frames_with outer o h) ∙ e))
-innermost_is outer o first most base (p ∷ ps) k h e =
-    ap (λ x. Some x) ((same_last outer _ o _ (sym (frames_with outer o h) ∙ e)).1)
-
-pub innermost_none : (outer : List BegunPod) (o : BegunPod) (first most base : ℕ) (ps : List Partial) →
-    IsKept outer o first most → is_nothing o.what ≡ true → frames_in outer o ≡ frames_of base ps →
-    ps ≡ []
-innermost_none outer o first most base [] k h e = refl
-innermost_none outer o first most base (p ∷ ps) k h e =
-    absurd (no_last _ _ (sym e ∙ frames_without outer o h ∙ k.none h))
 
 -- where the outermost tree begins, and from which length on its size word can't hold it
 pub record Outermost (first end base : ℕ) (ps : List Partial) : Type 0 where
@@ -189,14 +174,6 @@ popped_some outer rest o next first most base p (q ∷ qs) k e f =
     ∙ what_something q in
     (n, frames_with rest next n ∙ g)
 
-pub popped_none : (outer : List BegunPod) (o : BegunPod) (first most base : ℕ) (p : Partial)
-    (ps : List Partial) → IsKept outer o first most → frames_in outer o ≡ frames_of base (p ∷ ps) →
-    outer ≡ [] → frames_of base ps ≡ []
-popped_none outer o first most base p ps k e f =
-    let h = begun_something outer o first most base p ps k e in
-    let r = same_last outer (frames_of base ps) o _ (sym (frames_with outer o h) ∙ e) in
-    sym r.0 ∙ f
-
 some_rest : (rest : List BegunPod) (next q : BegunPod) (r : List BegunPod) → rest ≡ q ∷ r →
     rest ++ next ∷ [] ≡ q ∷ (r ++ next ∷ [])
 some_rest rest next q r e = ap (λ l. l ++ next ∷ []) e
@@ -211,32 +188,6 @@ still_kept outer rest o next first most most' k f n alone around = record {
   only = λ e. ((k.more next [] (f ∙ ap (λ l. l ++ next ∷ []) e)).0, alone e);
   more = λ q r e. ((k.more q (r ++ next ∷ []) (f ∙ some_rest rest next q r e)).0, around q r e);
   low = k.low;
-}
-
-pub more_kept : (outer : List BegunPod) (o new : BegunPod) (first most : ℕ) → IsKept outer o first most →
-    is_nothing o.what ≡ false → is_nothing new.what ≡ false →
-    IsKept (outer ++ o ∷ []) new first (first + most_bytes false)
-more_kept [] o new first most k h n = record {
-  none = λ x. absurd (cc (n, x));
-  only = λ e. absurd (no_last [] o e);
-  more = λ q r e. let i : o ≡ q = cc in ((k.only refl).0 ∙ ap (λ (x : BegunPod). x.start) i, refl);
-  low = k.low;
-}
-more_kept (z ∷ zs) o new first most k h n = record {
-  none = λ x. absurd (cc (n, x));
-  only = λ e. absurd (no_last (z ∷ zs) o e);
-  more = λ q r e. let i : z ≡ q = cc in ((k.more z zs refl).0 ∙ ap (λ (x : BegunPod). x.start) i, refl);
-  low = k.low;
-}
-
-pub first_kept : (outer : List BegunPod) (o new : BegunPod) (first most : ℕ) → IsKept outer o first most →
-    is_nothing o.what ≡ true → is_nothing new.what ≡ false → new.start < 2 ^ 63 →
-    IsKept outer new new.start (new.start + most_bytes true)
-first_kept outer o new first most k h n l = record {
-  none = λ x. absurd (cc (n, x));
-  only = λ e. (refl, refl);
-  more = λ q r e. absurd (let f : [] ≡ q ∷ r = sym (k.none h) ∙ e in cc);
-  low = l;
 }
 
 not_zero : (n m : ℕ) → n ≡ suc m → nat_eq n 0 ≡ false

@@ -101,19 +101,6 @@ properties_joined (property k f v ps) qs =
     ∙ ap (λ l. word_bytes k ++ l) (sym (append_assoc (word_bytes f) (t ++ a) b))
     ∙ sym (append_assoc (word_bytes k) (word_bytes f ++ (t ++ a)) b)
 
--- a pod from its parts
-pub pod_parts : (old front back a b c d : List ℕ) (type n : ℕ) → n ≡ length front + length back →
-    a ≡ old ++ (word_bytes n ++ word_bytes type) → b ≡ a ++ front → c ≡ b ++ back →
-    d ≡ c ++ padding n → d ≡ old ++ encoded_pod type (front ++ back)
-pod_parts old front back a b c d type n l e1 e2 e3 e4 =
-    e4
-    ∙ ap (λ x. x ++ padding n) (e3 ∙ ap (λ x. x ++ back) (e2 ∙ ap (λ x. x ++ front) e1))
-    ∙ (simp append_assoc)
-    ∙ ap (λ x. old ++ (word_bytes n ++ (word_bytes type ++ x)))
-    (sym (append_assoc front back (padding n)))
-    ∙ ap (λ m. old ++ (word_bytes m ++ (word_bytes type ++ ((front ++ back) ++ padding m))))
-    (l ∙ sym (length-append front back))
-
 pub wide_bytes_is : (n : ℕ) → to_le_bytes w64 n ≡ wide_bytes n
 unfolding wide_bytes
 wide_bytes_is n = refl

@@ -1,5 +1,5 @@
 -- One size word decides: the outermost is the greatest.
-use Rattle.std.proofs.Common.{◌≡◌, ◌≢◌, ℕ, ◌+◌, ◌*◌, ◌/◌, ◌-◌, ◌<◌, ◌≤◌, ◌^◌, List, [], ◌∷◌, ◌++◌, length, refl, ap, ◌∙◌, arith, length-append, true, ◌&&◌}
+use Rattle.std.proofs.Common.{◌≡◌, ℕ, ◌+◌, ◌*◌, ◌/◌, ◌-◌, ◌<◌, ◌≤◌, ◌^◌, List, [], ◌∷◌, ◌++◌, length, refl, ap, ◌∙◌, arith, length-append, true, ◌&&◌}
 use Rattle.std.specs.Prelude.{nat_lt, IsTrue}
 use Rattle.std.proofs.lemmas.Bool.Decides.{nat_tests}
 use borrow.Author.Tests.{ltb-true}
@@ -180,22 +180,6 @@ small_now [] h t = absurd (omega arith)
 small_now (p ∷ []) h t = let m = at_least_8 p [] in let l = ltb-true _ _ t in (m, omega arith)
 small_now (p ∷ q ∷ qs) h t = let m = at_least_8 p (q ∷ qs) in let l = ltb-true _ _ t in
     (m, omega arith)
-
-pub room_one : (ps : List Partial) (more n : ℕ) → length ps ≡ 1 →
-    n ≡ length (all_so_far ps) - 8 + more → nat_lt n (2 ^ 32) ≡ has_room_for more ps
-room_one [] more n l e = absurd (cc)
-room_one (p ∷ []) more n l e = ap (λ m. nat_lt m (2 ^ 32)) e
-room_one (p ∷ q ∷ qs) more n l e = absurd (omega arith)
-
-pub room_more : (ps : List Partial) (more n : ℕ) → 0 < length ps → length ps ≢ 1 →
-    n ≡ length (all_so_far ps) - 8 + more → nat_lt n (2 ^ 32 - 7) ≡ has_room_for more ps
-room_more [] more n z l e = absurd (omega arith)
-room_more (p ∷ []) more n z l e = absurd (l refl)
-room_more (p ∷ q ∷ qs) more n z l e = ap (λ m. nat_lt m (2 ^ 32 - 7)) e
-
-pub at_least : (ps : List Partial) → 0 < length ps → 8 ≤ length (all_so_far ps)
-at_least [] h = absurd (omega arith)
-at_least (p ∷ ps) h = at_least_8 p ps
 
 -- a closed tree takes no more than it took when it was open
 pub inside_fit : (ps : List Partial) (n m : ℕ) → n ≡ 8 * m → takes_trees ps ≡ true → IsNested ps →

@@ -183,10 +183,6 @@ pub begun_is : (s : State) (p : Partial) → takes_trees s.opened ≡ true →
 begun_is s p h = ap (λ b. cond b (Some (record { closed = s.closed; opened = p ∷ s.opened })) None)
     h
 
-pub begun_not : (s : State) (p : Partial) → takes_trees s.opened ≡ false → state_with_tree p s ≡ None
-begun_not s p h = ap (λ b. cond b (Some (record { closed = s.closed; opened = p ∷ s.opened })) None)
-    h
-
 pub begun_fit : (p : Partial) (s : State) (old : BuilderFields) (n m : ℕ) → n ≤ 2 →
     length (so_far p) ≡ 8 + 8 * n → m ≡ length (so_far p) → IsFair p → takes_trees s.opened ≡ true →
     IsAt old s → all_fit 0 (p ∷ s.opened) ≡ has_room_for m s.opened
@@ -378,10 +374,6 @@ closes_other closed [] frame e = refl
 closes_other closed (p ∷ rest) frame e =
     ap (λ b. cond b (elim (closed_value p) as (λ _. Option State)
     [ Some w ↦ state_with_value closed rest w | None ↦ None ]) None) e
-
-pub none_open : (base : ℕ) (ops : List Partial) → None ≡ innermost_of base ops → ops ≡ []
-none_open base [] e = refl
-none_open base (p ∷ ps) e = absurd (cc)
 
 pub is_value : (o : Option Tree) → is_some o ≡ true → (v : Tree) × (o ≡ Some v)
 is_value (Some v) e = (v, refl)

@@ -16,12 +16,6 @@ pub record Continues {D : Type 0} (attempts : Attempting D) (old : D) (bytes : L
   pub then : (last : D) (failed : Bool) (more : ℕ) → Handed attempts last failed more now left → Handed attempts last failed (done + more) old bytes
   pub parts : done + length left ≡ length bytes
 
-pub begins : {D : Type 0} (attempts : Attempting D) (old : D) (bytes : List ℕ) → Continues attempts old bytes old bytes 0
-begins attempts old bytes = record {
-  then = λ last failed more h. subst (λ n. Handed attempts last failed n old bytes) (omega arith) h;
-  parts = omega arith;
-}
-
 pub goes_on : {D : Type 0} (attempts : Attempting D) (old : D) (bytes : List ℕ) (now next : D) (left : List ℕ) (done n : ℕ) →
     Continues attempts old bytes now left done → attempts now left (Some n) next → n ≤ length left →
     Continues attempts old bytes next (drop n left) (done + n)

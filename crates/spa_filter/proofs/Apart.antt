@@ -1,12 +1,11 @@
 -- Two values that admit no value both, by their pods.
-use Rattle.std.proofs.Common.{◌≡◌, ◌≢◌, ◌&&◌, Bool, true, false, ℕ, ◌<◌, ◌≤◌, List, [], ◌∷◌, length, take, drop, refl, sym, ap, ◌∙◌, subst, arith, length-drop}
+use Rattle.std.proofs.Common.{◌≡◌, ◌≢◌, ◌&&◌, Bool, true, false, ℕ, ◌<◌, List, [], ◌∷◌, take, drop, refl, sym, ap, ◌∙◌, subst, arith}
 use Rattle.std.specs.List.{All}
 use Rattle.std.proofs.lemmas.List.Elements.{All-cons, All-nil, All-contains}
-use Rattle.spa_format.specs.Words.{word_at, header_size}
+use Rattle.spa_format.specs.Words.{word_at}
 use Rattle.spa_format.specs.Kind.{Kind, none_kind, bool_kind, id_kind, int_kind, long_kind, float_kind, double_kind, rectangle_kind, fraction_kind, fd_kind, Fixed, body_size, kind_of, type_number}
 use Rattle.spa_format.specs.Tree.{Shape, none_choice, range_choice, step_choice, enum_choice, flags_choice, Tree, fixed, choice, choice_type, type_of}
 use Rattle.spa_format.specs.Pod.{AreElements, IsBody, IsChoice, IsPod, values_taken}
-use Rattle.spa_format.specs.Front.{HasFront}
 use Rattle.spa_format.proofs.FixedKinds.{kind_of_content, number_is}
 use Rattle.spa_format.proofs.Shapes.{choice_only}
 use Rattle.spa_format.proofs.WordLemmas.{word_at-drop}
@@ -18,10 +17,6 @@ use Rattle.spa_filter.specs.CommonPods.{AreApart, HasBody, IsCommonRefused, IsOf
 use Rattle.spa_filter.specs.declared.refused.Refused.{Refused}
 use Rattle.spa_filter.specs.declared.refused.Refused.TheVariants.{Apart, TooLarge, OutOfMemory}
 use Rattle.spa_filter.proofs.CommonPods.{plain_tree, plain_typed}
-
--- a pod is at its own front
-pub pod_there : (b : List ℕ) (v : Tree) → IsPod b v → HasFront b
-pod_there b v p = let w = p.whole in record { header = omega arith; whole = omega arith }
 
 -- each element of a body is of its kind
 all_kinds : (k : Kind) (xs : List Fixed) (b : List ℕ) → AreElements k xs b → All (λ y. kind_of y ≡ k) xs
@@ -75,13 +70,6 @@ choice_body w b h =
       its = c.5;
       content = subst (λ t. IsBody t b) c.5 h.content;
     }
-
-pub choice_long : (w : Tree) (b : List ℕ) → HasBody w choice_type b → 16 ≤ length b
-choice_long w b h =
-    let c = (choice_body w b h).content in
-    let long = c.values.header in
-    let less = length-drop header_size b in
-    omega arith
 
 -- the body of a choice's pod, opened
 pub opened_body : (v : Tree) (pod body rest : List ℕ) (type : ℕ) → IsPod pod v → Opens pod type body rest → type ≡ choice_type → HasBody v choice_type body
@@ -170,13 +158,6 @@ pub refused_choices : (type : ℕ) (b c : List ℕ) (e : Refused) → word_at b 
 refused_choices type b c Apart t o v w h i = λ s k. o w i (sym (choices_common v w b c h i k) ∙ t)
 refused_choices type b c TooLarge t o v w h i = absurd o
 refused_choices type b c OutOfMemory t o v w h i = tt
-
--- the body of a choice that is over the type
-pub refused_same : (type : ℕ) (b : List ℕ) (e : Refused) → word_at b 12 ≡ type → IsOfOtherType type b e →
-    (v w : Tree) → HasBody v choice_type b → IsCommonRefused v w e
-refused_same type b Apart t o v w h = absurd (o v h t)
-refused_same type b TooLarge t o v w h = absurd o
-refused_same type b OutOfMemory t o v w h = tt
 
 -- what a choice doesn't offer isn't in both,
 pub refused_first : (v w : Tree) (e : Refused) → IsOfferRefused v w e → IsCommonRefused v w e

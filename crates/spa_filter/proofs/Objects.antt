@@ -1,30 +1,17 @@
 -- From lists of properties to the two objects that have them.
-use Rattle.std.proofs.Common.{◌≡◌, List, refl, sym, ap, ◌∙◌, subst, Vec, Global}
-use Rattle.std.specs.List.{All}
-use Rattle.spa_format.specs.Tree.{Tree, object, join_properties}
+use Rattle.std.proofs.Common.{◌≡◌, List, sym, ap, ◌∙◌, subst, Vec, Global}
+use Rattle.spa_format.specs.Tree.{Tree, object}
 use Rattle.spa_value.specs.declared.object.Property.{Property}
 use Rattle.spa_value.specs.declared.object.Object.{Object, out-Object, roll-Object}
 use Rattle.spa_value.specs.View.{object_view}
 use Rattle.spa_value.specs.Views.{property_views}
 use Rattle.spa_value.specs.ObjectLaws.{ObjectsHaveTheirFields, ObjectsAreMadeOfFields}
 use Rattle.spa_filter.specs.declared.error.FilterError.{FilterError}
-use Rattle.spa_filter.specs.declared.error.FilterError.TheVariants.{TypeMismatch}
-use Rattle.spa_keyed_objects.specs.Keys.{AtKey, HoldsAtKeys, keys_of}
-use Rattle.spa_filter.specs.Filtering.{Agree, CanFilter, Filters, IsFilter}
 use Rattle.spa_filter.specs.Settling.{settled_properties, settled_of}
 use Rattle.spa_filter.specs.Refusals.{IsRefusal, AreRefused}
 use Rattle.spa_filter.proofs.Agreeing.{AreRefused-properties}
 
 module _ (fields : ObjectsHaveTheirFields) (made : ObjectsAreMadeOfFields) (o p : Object) where
-  -- the objects are of two types
-  pub mismatch : ¬ ((out-Object o).type_ ≡ (out-Object p).type_) →
-      AreRefused (object_view o) (object_view p) TypeMismatch
-  mismatch n =
-      let f = out-Object o in
-      let ours = object f.type_ f.id (property_views f.properties.items) in
-      subst (λ v. AreRefused v (object_view p) TypeMismatch) (sym (fields o))
-      (subst (λ w. AreRefused ours w TypeMismatch) (sym (fields p)) (λ e. n (sym e)))
-
   -- they are of one type, and these are their properties
   module _ (xs ys : List Property) (ours : xs ≡ (out-Object o).properties.items)
       (theirs : ys ≡ (out-Object p).properties.items)
@@ -52,25 +39,6 @@ module _ (fields : ObjectsHaveTheirFields) (made : ObjectsAreMadeOfFields) (o p 
         let g = out-Object p in
         let refused = AreRefused-properties f.type_ f.id g.type_ g.id _ _ e (sym one) h in
         both (λ v w. AreRefused v w e) refused
-
-    pub objects_filter : (rs : Vec Property Global) →
-        HoldsAtKeys Filters (property_views xs) (property_views ys) (join_properties (property_views xs) (property_views ys))
-        (property_views rs.items) →
-        let f = out-Object o in
-        let met = roll-Object (record { type_ = f.type_; id = f.id; properties = rs }) in
-        IsFilter (object_view o) (object_view p) (object_view met)
-    objects_filter rs h =
-        let f = out-Object o in
-        let met = roll-Object (record { type_ = f.type_; id = f.id; properties = rs }) in
-        let same = sym (made f.type_ f.id rs) in
-        let one_type = subst (IsFilter left right) same (sym one, refl, refl, h) in
-        both (λ v w. IsFilter v w (object_view met)) one_type
-
-    pub objects_can :
-        All (AtKey Agree (property_views xs) (property_views ys))
-        (keys_of (join_properties (property_views xs) (property_views ys))) →
-        CanFilter (object_view o) (object_view p)
-    objects_can agree = both CanFilter (sym one, agree)
 
   -- these are the settled properties of an object
   pub objects_settle : (xs : List Property) → xs ≡ (out-Object o).properties.items → (rs : Vec Property Global) →

@@ -6,11 +6,11 @@ use Rattle.spa_format.specs.Writable.{IsTooLarge}
 use Rattle.spa_format.proofs.Unique.{same_body}
 use Rattle.spa_filter_elements.specs.Bounds.{IsJoin, IsMeet}
 use Rattle.spa_filter_elements.specs.Order.{IsAtMost, IsOrderedKind, IsWithin}
-use Rattle.spa_filter_offers.specs.Admits.{AreSupported, HasCommon, IsMeeting, IsSupported}
+use Rattle.spa_filter_offers.specs.Admits.{AreSupported, HasCommon, IsMeeting}
 use Rattle.spa_filter_offers.specs.Offers.{IsDefault, IsOffer}
 use Rattle.spa_filter_offers.proofs.Meetings.{MeetsIn-between, none-between}
 use Rattle.spa_filter_offers.proofs.Offering.{only_by}
-use Rattle.spa_filter.specs.CommonPods.{AreApart, HasBody, IsAppended, IsCommonAppended, IsCommonRefused, IsCommonTooLarge, IsRangeBody, IsUnwritten}
+use Rattle.spa_filter.specs.CommonPods.{HasBody, IsAppended, IsCommonAppended, IsCommonRefused, IsCommonTooLarge, IsRangeBody, IsUnwritten}
 use Rattle.spa_filter.specs.declared.refused.Refused.{Refused}
 use Rattle.spa_filter.specs.declared.refused.Refused.TheVariants.{Apart, TooLarge, OutOfMemory}
 use Rattle.spa_filter.proofs.CommonPods.{appended_over, none_over}
@@ -33,10 +33,6 @@ module _ (k : Kind) (v w : Tree) (d l h e m n : Fixed) (a b : List ℕ) (p : IsR
 
   theirs : range q.flags k e m n ≡ w
   theirs = same_body (range q.flags k e m n) w b (sym j.its_type) q.its_body j.content
-
-  -- of a kind that has no order
-  pub no_order : ¬ (IsOrderedKind k) → AreApart v w
-  no_order none s c = none (subst IsSupported (sym ours) s.0)
 
   -- the elements that both admit are from `low` to `high`
   module _ (low high : Fixed) (join : IsJoin l m low) (meet : IsMeet h n high) where

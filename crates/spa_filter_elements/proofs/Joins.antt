@@ -1,7 +1,7 @@
 -- The greater and the lesser of two contents.
-use Rattle.std.proofs.Common.{◌≡◌, ◌⊎◌, inl, inr, ◌↔◌, sym, ◌∙◌, subst}
+use Rattle.std.proofs.Common.{◌≡◌, ◌⊎◌, inl, inr, sym, ◌∙◌, subst}
 use Rattle.spa_format.specs.Kind.{Kind, Fixed, kind_of}
-use Rattle.spa_filter_elements.specs.Order.{IsAtMost, IsWithin}
+use Rattle.spa_filter_elements.specs.Order.{IsAtMost}
 use Rattle.spa_filter_elements.specs.Bounds.{IsChain, IsJoin, IsMeet}
 use Rattle.spa_filter_elements.proofs.Order.{IsAtMost-trans, IsAtMost-left, IsAtMost-right, IsAtMost-total}
 
@@ -14,11 +14,6 @@ module _ (k : Kind) (chain : IsChain k) (x y : Fixed) (p : kind_of x ≡ k) (q :
   pub IsJoin-in_order : IsAtMost x y → IsJoin x y y
   IsJoin-in_order h =
       record { each = λ u. (λ (a : IsAtMost y u). (IsAtMost-trans x y u h a, a), λ b. b.1) }
-
-  -- the second is in no order
-  pub IsJoin-none : ¬ (IsAtMost y y) → IsJoin x y y
-  IsJoin-none n =
-      record { each = λ u. (λ (a : IsAtMost y u). absurd (n (IsAtMost-left y u a)), λ b. b.1) }
 
   -- the first isn't at most the second, which is in order
   pub IsJoin-greater : ¬ (IsAtMost x y) → IsAtMost y y → IsJoin x y x
@@ -34,10 +29,6 @@ module _ (k : Kind) (chain : IsChain k) (x y : Fixed) (p : kind_of x ≡ k) (q :
   IsMeet-in_order h =
       record { each = λ u. (λ (a : IsAtMost u x). (a, IsAtMost-trans u x y a h), λ b. b.0) }
 
-  pub IsMeet-none : ¬ (IsAtMost x x) → IsMeet x y x
-  IsMeet-none n =
-      record { each = λ u. (λ (a : IsAtMost u x). absurd (n (IsAtMost-right u x a)), λ b. b.0) }
-
   pub IsMeet-lesser : ¬ (IsAtMost x y) → IsAtMost x x → IsMeet x y y
   IsMeet-lesser n h =
       let other : (u : Fixed) → IsAtMost u y → IsAtMost u x =
@@ -46,16 +37,3 @@ module _ (k : Kind) (chain : IsChain k) (x y : Fixed) (p : kind_of x ≡ k) (q :
         | inr b ↦ IsAtMost-trans u y x a b
       ] in
       record { each = λ u. (λ (a : IsAtMost u y). (other u a, a), λ b. b.1) }
-
--- an element of two ranges is one of that from the greater minimum to the lesser maximum
-pub within-both : (l h m g lo hi : Fixed) → IsJoin l m lo → IsMeet h g hi → (c : Fixed) →
-    IsWithin lo hi c ↔ (IsWithin l h c × IsWithin m g c)
-within-both l h m g lo hi j k c =
-    let to : IsWithin lo hi c → IsWithin l h c × IsWithin m g c =
-    λ w.
-    let below = (j.each c).0 w.0 in
-    let above = (k.each c).0 w.1 in
-    ((below.0, above.0), (below.1, above.1)) in
-    let from : IsWithin l h c × IsWithin m g c → IsWithin lo hi c =
-    λ w. ((j.each c).1 (w.0.0, w.1.0), (k.each c).1 (w.0.1, w.1.1)) in
-    (to, from)

@@ -4,7 +4,5 @@ pub mod Signed
 pub mod Narrowing
 pub mod Order
 pub mod Joins
-pub mod Rectangles
 pub mod Masks
-pub mod Stepping
 pub mod StepKinds

@@ -1,8 +1,8 @@
 -- Steps over the kinds that have them.
 use Rattle.std.proofs.Common.{◌≡◌, ◌↔◌, ℕ, ◌≤◌, ℤ, ◌≤ℤ◌, unsigned_abs, pos, negsuc, w32, w64, to_z, of_z, Option, Some, None, refl, ap, ◌∙◌, subst, arith}
 use Rattle.std.proofs.lemmas.Int.{ints, to_z-of_z}
-use Rattle.spa_format.specs.Kind.{Fixed, int, long, rectangle}
-use Rattle.spa_filter_elements.specs.Multiples.{IsFirstMultiple, IsFirstSigned}
+use Rattle.spa_format.specs.Kind.{Fixed, int, long}
+use Rattle.spa_filter_elements.specs.Multiples.{IsFirstSigned}
 use Rattle.spa_filter_elements.specs.NumberSteps as signed
 use Rattle.spa_filter_elements.specs.Order.{IsAtMost}
 use Rattle.spa_filter_elements.specs.Steps.{IsMultipleOf}
@@ -65,57 +65,10 @@ module _ (low high step : ℤ) where
     least-int (int n) k = h.3 n k.0.0 k.1
     least-int _ k = absurd k.0.0
 
-    pub least-long : (x : Fixed) → IsInSteps (long low) (long high) (long step) x → IsAtMost (long y) x
-    least-long (long n) k = h.3 n k.0.0 k.1
-    least-long _ k = absurd k.0.0
-
   module _ (h : IsFirstSigned low high (unsigned_abs step) None) where
     pub none-int : (x : Fixed) → ¬ (IsInSteps (int low) (int high) (int step) x)
     none-int (int n) k = h n k.0.0 k.0.1 k.1
     none-int _ k = absurd k.0.0
-
-    pub none-long : (x : Fixed) → ¬ (IsInSteps (long low) (long high) (long step) x)
-    none-long (long n) k = h n k.0.0 k.0.1 k.1
-    none-long _ k = absurd k.0.0
-
--- of rectangles, by their sides
-module _ (ws hs : Steps ℕ) where
-  abbrev InRectangles : Fixed → Type 0
-  InRectangles x = IsInSteps (rectangle ws.low hs.low) (rectangle ws.high hs.high) (rectangle ws.step hs.step) x
-
-  module _ (w h : ℕ) (vs gs : Steps ℕ) (p : AreSidesNarrowed ws w vs) (q : AreSidesNarrowed hs h gs) where
-    pub narrowed-rectangle : (x : Fixed) →
-        IsInSteps (rectangle vs.low gs.low) (rectangle vs.high gs.high) (rectangle vs.step gs.step) x
-        ↔ (InRectangles x × IsMultipleOf x (rectangle w h))
-    narrowed-rectangle (rectangle i j) =
-        let d = p.each i in
-        let e = q.each j in (
-          λ k.
-              let a = d.0 (k.0.0.0, k.0.1.0, k.1.0) in
-              let b = e.0 (k.0.0.1, k.0.1.1, k.1.1) in
-              ((((a.0.0, b.0.0), (a.0.1, b.0.1)), (a.0.2, b.0.2)), (a.1, b.1)),
-          λ k.
-              let a = d.1 ((k.0.0.0.0, k.0.0.1.0, k.0.1.0), k.1.0) in
-              let b = e.1 ((k.0.0.0.1, k.0.0.1.1, k.0.1.1), k.1.1) in
-              (((a.0, b.0), (a.1, b.1)), (a.2, b.2)),
-        )
-    narrowed-rectangle _ = (λ k. absurd k.0.0, λ k. absurd k.0.0.0)
-
-  module _ (w h : ℕ) (p : IsFirstMultiple ws.low ws.high ws.step (Some w)) (q : IsFirstMultiple hs.low hs.high hs.step (Some h)) where
-    pub first-rectangle : InRectangles (rectangle w h)
-    first-rectangle = (((p.0, q.0), (p.1, q.1)), (p.2, q.2))
-
-    pub least-rectangle : (x : Fixed) → InRectangles x → IsAtMost (rectangle w h) x
-    least-rectangle (rectangle i j) k = (p.3 i k.0.0.0 k.1.0, q.3 j k.0.0.1 k.1.1)
-    least-rectangle _ k = absurd k.0.0
-
-  pub none-width : IsFirstMultiple ws.low ws.high ws.step None → (x : Fixed) → ¬ (InRectangles x)
-  none-width p (rectangle i j) k = p i k.0.0.0 k.0.1.0 k.1.0
-  none-width p _ k = absurd k.0.0
-
-  pub none-height : IsFirstMultiple hs.low hs.high hs.step None → (x : Fixed) → ¬ (InRectangles x)
-  none-height p (rectangle i j) k = p j k.0.0.1 k.0.1.1 k.1.1
-  none-height p _ k = absurd k.0.0
 
 -- of the sides of rectangles, which are never below 0
 down : (a b : ℕ) → pos a ≤ℤ pos b → a ≤ b

@@ -11,14 +11,6 @@ module _ (P : Fixed → Type 0) (x : Fixed) (old : List Fixed) where
   pub IsKept-none : IsKept P [] []
   IsKept-none = record { each = λ y. (λ h. absurd (not_among y h), λ h. h.0) }
 
-  -- one more that isn't admitted
-  pub IsOneMoreKept-refused : ¬ (P x) → IsOneMoreKept P x old old
-  IsOneMoreKept-refused n =
-      record {
-        each = λ y.
-            (λ h. inl h, λ h. elim h [ inl c ↦ c | inr p ↦ absurd (n (subst P p.0 p.1)) ]);
-      }
-
   -- one more that was there
   pub IsOneMoreKept-seen : Contains old x → IsOneMoreKept P x old old
   IsOneMoreKept-seen there =

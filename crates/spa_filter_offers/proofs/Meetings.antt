@@ -2,10 +2,9 @@
 use Rattle.std.proofs.Common.{◌≡◌, inl, inr, ◌↔◌, List, [], ◌∷◌, refl, sym, ap, subst}
 use Rattle.std.specs.List.{Contains}
 use Rattle.spa_format.specs.Kind.{Kind, Fixed}
-use Rattle.spa_format.specs.Tree.{Tree, fixed, choice, enum_choice, range_choice, step_choice}
+use Rattle.spa_format.specs.Tree.{Tree, fixed, choice, enum_choice, range_choice}
 use Rattle.spa_filter_elements.specs.Order.{IsAtMost, IsWithin}
 use Rattle.spa_filter_elements.proofs.Order.{IsAtMost-trans}
-use Rattle.spa_filter_elements.specs.Steps.{IsInSteps}
 use Rattle.spa_filter_offers.specs.Offers.{IsContent, IsDefault, IsOffer, MeetsIn}
 use Rattle.spa_filter_offers.proofs.Contents.{Contains-cons_cases, Contains-behind}
 use Rattle.spa_filter_offers.proofs.Offering.{only_by}
@@ -29,10 +28,6 @@ module _ (P Q : Fixed → Type 0) where
   abbrev Both : Fixed → Type 0
   Both c = P c × Q c
 
-  -- x alone may be admitted by both, and isn't
-  pub none-only : (x : Fixed) → ((c : Fixed) → P c → Q c → c ≡ x) → ¬ (P x × Q x) → (c : Fixed) → ¬ (P c × Q c)
-  none-only x only n c h = n (subst Both (only c h.0 h.1) h)
-
   -- no element is from low to high
   module _ (low high : Fixed) (each : (c : Fixed) → IsWithin low high c ↔ (P c × Q c)) where
     pub none-between : ¬ (IsAtMost low high) → (c : Fixed) → ¬ (P c × Q c)
@@ -41,24 +36,6 @@ module _ (P Q : Fixed → Type 0) where
         n (IsAtMost-trans low c high within.0 within.1)
 
 module _ (P Q : Fixed → Type 0) (d e : Fixed) where
-  -- x alone may be admitted by both, and is
-  pub MeetsIn-only : (x : Fixed) → ((c : Fixed) → P c → Q c → c ≡ x) → P x → Q x → MeetsIn P Q d e (fixed x)
-  MeetsIn-only x only p q =
-      record {
-        default = x;
-        is_default = record {
-          admitted = (p, q);
-          first = λ h. sym (only d h.0 h.1);
-          second = λ n h. sym (only e h.0 h.1);
-        };
-        offers = record {
-          each = λ c. (λ h. subst (Both P Q) (sym (same_fixed c x h)) (p, q), λ h. ap (λ y. fixed y) (only c h.0 h.1));
-          only = λ t h. content_alone x t h;
-          default_is = refl;
-        };
-        no_flags = refl;
-      }
-
   -- an Enum of what both admit
   module _ (k : Kind) (xs : List Fixed) (each : (c : Fixed) → Contains xs c ↔ (P c × Q c)) where
     pub MeetsIn-among : (x : Fixed) → IsDefault P Q d e x → MeetsIn P Q d e (choice enum_choice 0 k x xs)
@@ -94,20 +71,3 @@ module _ (P Q : Fixed → Type 0) (d e : Fixed) where
           };
           no_flags = refl;
         }
-
--- a Step of what both admit
-module _ (P Q : Fixed → Type 0) (d e : Fixed) (k : Kind) (low high s : Fixed)
-    (each : (c : Fixed) → IsInSteps low high s c ↔ (P c × Q c)) where
-  pub MeetsIn-stepped : (x : Fixed) → IsDefault P Q d e x →
-      MeetsIn P Q d e (choice step_choice 0 k x (low ∷ high ∷ s ∷ []))
-  MeetsIn-stepped x default =
-      record {
-        default = x;
-        is_default = default;
-        offers = record {
-          each = each;
-          only = λ t h. only_by step_choice 0 k x (low ∷ high ∷ s ∷ []) t h;
-          default_is = refl;
-        };
-        no_flags = refl;
-      }

@@ -8,10 +8,6 @@ use Rattle.std.specs.Int.{w32, w64, from_le_bytes}
 use Rattle.spa_format.specs.Words.{word_at, word_bytes, wide_at, wide_bytes}
 use Rattle.spa_format.specs.Typed.{IsBytes}
 
--- the word at the front, from its four bytes
-abbrev pub of_bytes : List ℕ → ℕ
-of_bytes b = from_le_bytes w32 b
-
 pub word_is : (b : List ℕ) (i : ℕ) → word_at b i ≡ from_le_bytes w32 (drop i b)
 unfolding word_at
 word_is b i = refl

@@ -1,6 +1,6 @@
 -- Pods that are replaced by their encodings behind canonical ones.
-use Rattle.std.proofs.Common.{◌≡◌, ◌≤◌, ℕ, ◌+◌, ◌-◌, List, [], ◌++◌, length, take, drop, refl, sym, ap, ◌∙◌, subst, arith, length-append, length-drop}
-use Rattle.std.proofs.lemmas.List.{append-nil, drop-append-le, drop_at, length-take-le, nil_from_length, take-append-drop, take-append-le, take_all, take_at}
+use Rattle.std.proofs.Common.{◌≡◌, ◌≤◌, ℕ, ◌+◌, ◌-◌, List, [], ◌++◌, length, take, drop, refl, sym, ap, ◌∙◌, subst, arith, length-append}
+use Rattle.std.proofs.lemmas.List.{drop-append-le, drop_at, length-take-le, take-append-le, take_at}
 use borrow.Rule.Slice.PartMut.{put_mid}
 use Rattle.spa_scan.specs.Canonical.{AreCanonical}
 use Rattle.spa_rewrite.specs.Rewriting.{AreRewritten}

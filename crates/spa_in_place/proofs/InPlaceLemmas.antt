@@ -1,14 +1,14 @@
 -- Why pods aren't rewritten in place; and what was written elsewhere and copied back.
-use Rattle.std.proofs.Common.{◌≡◌, ℕ, ◌+◌, ◌-◌, ◌≤◌, List, [], ◌++◌, length, drop, refl, sym, ap, ◌∙◌, subst, arith, length-append}
+use Rattle.std.proofs.Common.{◌≡◌, ℕ, ◌+◌, ◌-◌, List, [], ◌++◌, length, drop, refl, sym, ap, ◌∙◌, subst, arith, length-append}
 use Rattle.std.specs.Borrow.{Bor}
-use Rattle.std.specs.Prelude.{Option, Some, None}
+use Rattle.std.specs.Prelude.{Option, Some}
 use Rattle.std.proofs.lemmas.List.{drop_at}
 use Rattle.spa_format.specs.Faults.{Short, Text}
 use Rattle.spa_fixed_sized.specs.declared.fault.DeserializeError.{DeserializeError}
 use Rattle.spa_fixed_sized.specs.declared.fault.DeserializeError.TheVariants as error
 use Rattle.spa_fixed_sized.specs.declared.fault.Refusal.{Refusal}
 use Rattle.spa_fixed_sized.specs.declared.fault.Refusal.TheVariants as refusal
-use Rattle.spa_bodies.specs.Reading.{OnFault, OnMemory}
+use Rattle.spa_bodies.specs.Reading.{OnFault}
 use Rattle.spa_bodies.specs.Refusing.{error_of}
 use Rattle.spa_in_place.specs.InPlace.{IsFaultOf, NamesOffset, RefusesListAt, moved}
 use Rattle.spa_rewrite.specs.Memory.{AsksMemory}
@@ -105,23 +105,6 @@ rewritten_long pods out n s w =
 pub into_counted : (input : List ℕ) (n len : ℕ) → AreShorter input n → len ≡ length input - n → AreRewrittenAs input len
 into_counted input n len s e = let l = s.long in record { values = s.values; members = s.members; long = omega arith }
 
-on_memory : {I : Type 0} (P : Type 0) (e : DeserializeError I) → (e ≡ error.OutOfMemory → P) → OnMemory P e
-on_memory P (error.Nom f) h = tt
-on_memory P error.UnsupportedType h = tt
-on_memory P error.InvalidType h = tt
-on_memory P error.PropertyMissing h = tt
-on_memory P (error.PropertyWrongKey k) h = tt
-on_memory P error.InvalidChoiceType h = tt
-on_memory P error.MissingChoiceValues h = tt
-on_memory P error.WrongSize h = tt
-on_memory P error.UnreadMembers h = tt
-on_memory P error.NoElementLeft h = tt
-on_memory P error.FailedReader h = tt
-on_memory P error.OutOfMemory h = h refl
-
 -- what memory is asked for behind the first pods
 pub asks_behind : (input first others : List ℕ) → input ≡ first ++ others → AreCanonical first → AsksMemory others → AsksMemory input
 asks_behind input first others i k d = (d.0, left_behind_pods input first others d.0 k.values i k.members d.1, d.2)
-
-pub deep_memory : {I : Type 0} (P : Type 0) (e : DeserializeError I) → P → OnMemory P e
-deep_memory P e h = on_memory P e (λ z. h)

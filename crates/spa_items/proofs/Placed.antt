@@ -18,19 +18,10 @@ twice : (n m : ℕ) (o : Option ℕ) → behind n (behind m o) ≡ behind (n + m
 twice n m None = refl
 twice n m (Some x) = let e : n + (m + x) ≡ n + m + x = omega arith in ap Some e
 
-pub not_at_all : (o : Option ℕ) → o ≡ behind 0 o
-not_at_all None = refl
-not_at_all (Some x) = let e : x ≡ 0 + x = omega arith in ap Some e
-
 -- the place among all is that among those that are left, behind what was passed
 pub record Passed (all left : List ℕ) (whole rest : Option ℕ) : Type 0 where
   pub shorter : length left ≤ length all
   pub place : whole ≡ behind (length all - length left) rest
-
-pub passed_none : (all : List ℕ) (whole : Option ℕ) → Passed all all whole whole
-passed_none all whole =
-    let e : 0 ≡ length all - length all = omega arith in
-    record { shorter = omega arith; place = not_at_all whole ∙ ap (λ n. behind n whole) e }
 
 passed_more : (keyed : Bool) (all left : List ℕ) (f : First) (whole here there : Option ℕ) → IsFirst keyed left f → Passed all left whole here →
     here ≡ behind (length (first_of keyed left)) there → Passed all f.rest.now whole there

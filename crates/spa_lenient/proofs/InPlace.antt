@@ -1,8 +1,6 @@
 -- Lists that are rewritten leniently into room of their own length.
 use Rattle.std.proofs.Common.{◌≡◌, ℕ, ◌+◌, ◌-◌, ◌≤◌, List, ◌++◌, length, drop, refl, sym, ap, ◌∙◌, subst, arith, length-append}
-use Rattle.std.specs.Prelude.{⊤}
 use Rattle.std.proofs.lemmas.List.{drop_at}
-use Rattle.std.specs.Borrow.{Bor}
 use Rattle.spa_fixed_sized.specs.declared.fault.DeserializeError.{DeserializeError}
 use Rattle.spa_fixed_sized.specs.declared.fault.DeserializeError.TheVariants as error
 use Rattle.spa_format.specs.Tree.{Trees, no_trees, member}
@@ -13,12 +11,11 @@ use Rattle.spa_format.specs.Typed.{IsBytes}
 use Rattle.spa_format.proofs.Exacted.{no_longer_conveyed}
 use Rattle.spa_format.proofs.Origin.{IsBytes-first, IsBytes-others}
 use Rattle.spa_bodies.specs.Reading.{OnMemory}
-use Rattle.spa_in_place.specs.InPlace.{IsFaultOf}
 use Rattle.spa_in_place.specs.InPlace as exact
 use Rattle.spa_rewrite.specs.Rewriting.{AreRewritten}
 use Rattle.spa_rewrite.specs.Shorter.{AreRewrittenAs}
 use Rattle.spa_rewrite.proofs.Written.{further_behind}
-use Rattle.spa_lenient.specs.Rewriting.{AreRewrittenLeniently, AreRewrittenLenientlyAs, IsLeftLeniently, RefusesList, RefusesListAt}
+use Rattle.spa_lenient.specs.Rewriting.{AreRewrittenLeniently, AreRewrittenLenientlyAs, RefusesList, RefusesListAt}
 use Rattle.spa_lenient.proofs.Causes.{named_memory}
 use Rattle.spa_lenient.proofs.Fronts.{lacks_memory}
 use Rattle.spa_lenient.proofs.Lists.{members_convey}
@@ -55,20 +52,6 @@ put_behind bytes old new n e l =
     further_behind new old (length bytes) n l (ap (drop (length bytes)) e ∙ drop_at bytes (drop (length bytes) old) (length bytes) refl)
 
 -- Refusals.
-
-left_there : (input left : List ℕ) → IsLeftLeniently input left → drop (length input - length left) input ≡ left
-left_there input left h =
-    let e = ap length h.2 ∙ length-append h.1 left in
-    let n : length input - length left ≡ length h.1 = omega arith in
-    ap (drop (length input - length left)) h.2 ∙ drop_at h.1 left (length input - length left) (sym n)
-
-pub refused_at : (input left : List ℕ) (placed : DeserializeError (Bor (List ℕ))) (e : DeserializeError ⊤) → RefusesList input left placed →
-    IsFaultOf e placed → RefusesListAt input (length input - length left) e
-refused_at input left placed e r s = record {
-  placed = placed;
-  list = subst (λ l. RefusesList input l placed) (sym (left_there input left r.behind)) r;
-  same = s;
-}
 
 -- where memory ran out already for the exact rewriting
 pub lacks_memory_at : (input : List ℕ) (at : ℕ) → exact.RefusesListAt input at error.OutOfMemory → RefusesListAt input at error.OutOfMemory

@@ -110,9 +110,6 @@ before_left left pod h =
     ap (λ n. take n left) (let z : length left - length pod ≡ length h.1 = omega arith in z)
     ∙ ap (take (length h.1)) h.2 ∙ take_at h.1 pod (length h.1) refl
 
-pub parts_left : (left pod before : List ℕ) (h : IsLeft left pod) → before ≡ take (length left - length pod) left → left ≡ before ++ pod
-parts_left left pod before h e = h.2 ∙ ap (λ l. l ++ pod) (sym (e ∙ before_left left pod h))
-
 pub some_left : (left pod : List ℕ) → IsLeft left pod → left ≢ []
 some_left left pod h n = h.4 (nothing h.1 pod (sym h.2 ∙ n))
   where

@@ -1,16 +1,13 @@
 -- Structs that are rewritten member by member.
-use Rattle.std.proofs.Common.{◌≡◌, ℕ, List, [], ◌++◌, inl, refl, sym, ap, ◌∙◌, subst, append_assoc}
-use Rattle.std.proofs.lemmas.List.{append-nil}
+use Rattle.std.proofs.Common.{◌≡◌, ℕ, List, ◌++◌, inl, refl, sym, ap, ◌∙◌, subst, append_assoc}
 use Rattle.std.specs.Prelude.{⊤}
 use Rattle.spa_bytes.specs.Opening.{Opens}
-use Rattle.spa_format.specs.Encoding.{member_encodings}
 use Rattle.spa_format.specs.Lenient.{ConveyMembers}
 use Rattle.spa_format.specs.Tree.{Trees, struct, struct_type}
 use Rattle.spa_format.specs.Words.{word_at}
 use Rattle.spa_format.proofs.Fronts.{body_of_front, type_of_front, whole_front}
 use Rattle.spa_read.specs.Reading.{ConveysWith}
-use Rattle.spa_lenient.specs.Rewriting.{AppendsFront, AppendsStruct, Grows}
-use Rattle.spa_lenient.proofs.Lists.{IsUpTo}
+use Rattle.spa_lenient.specs.Rewriting.{AppendsFront, AppendsStruct}
 
 -- the front conveys the struct of what its body conveys
 pub struct_conveyed : (input body rest : List ℕ) (type : ℕ) (vs : Trees) → Opens input type body rest → type ≡ struct_type → ConveyMembers vs body →
@@ -37,12 +34,3 @@ pub behind_header : (old head now new xs : List ℕ) → now ≡ old ++ head →
 behind_header old head now new xs h e = e ∙ ap (λ l. l ++ xs) h ∙ append_assoc old head xs
 
 -- What grows.
-
-pub same_grows : (old : List ℕ) → Grows old old
-same_grows old = ([], sym (append-nil old))
-
-pub grows_on : (old now new added : List ℕ) → now ≡ old ++ added → Grows now new → Grows old new
-grows_on old now new added e g = (added ++ g.0, g.1 ∙ ap (λ l. l ++ g.0) e ∙ append_assoc old added g.0)
-
-pub up_to_grows : (input left old now : List ℕ) → IsUpTo input left old now → Grows old now
-up_to_grows input left old now h = (member_encodings h.values, h.written)

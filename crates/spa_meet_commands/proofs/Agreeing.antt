@@ -3,18 +3,16 @@ use Rattle.std.proofs.Common.{◌≡◌, ℕ, List, [], append-nil, refl, subst,
 use Rattle.std.proofs.lemmas.Bool.{cases_lt}
 use Rattle.std.proofs.lemmas.List.{nil_from_length}
 use Rattle.spa_format.specs.Words.{extent, word_at}
-use Rattle.spa_format.specs.Encoding.{encoding_of}
 use Rattle.spa_format.specs.Front.{Begins, HasFront, rest_of}
 use Rattle.spa_format.specs.Pod.{IsBody, IsPod}
 use Rattle.spa_format.proofs.Fronts.{front_of_whole}
 use Rattle.spa_format.specs.Tree.{Tree, type_of, object, fixed, string, bytes, bitmap, array, choice, pointer, struct}
 use Rattle.spa_filter.specs.Filtering.{CanFilter, IsFilter}
-use Rattle.spa_filter.specs.Settling.{FiltersSettle, settled_of}
 use Rattle.spa_filter.specs.declared.error.FilterError.{FilterError}
 use Rattle.spa_filter.specs.declared.error.FilterError.TheVariants.{TypeMismatch, Missing, Unsupported, Disjoint, Unread, NotObject, TooLarge, OutOfMemory}
 use Rattle.spa_filter_pods.specs.Fronts.{AreFrontsRefused, BeginBoth, FilterIn, OnNoFilter}
 use Rattle.spa_object_view.specs.Fronts.{IsObject}
-use Rattle.spa_meet_commands.specs.Agreeing.{AreFiltered, ArentAgreed, IsUnsettled, SettleIn, SettleTooLarge, no_memory, unfiltered, unsettled}
+use Rattle.spa_meet_commands.specs.Agreeing.{AreFiltered, ArentAgreed, IsUnsettled, SettleTooLarge, no_memory, unfiltered, unsettled}
 use Rattle.spa_meet_commands.specs.declared.pair.Work.{Work}
 use Rattle.spa_meet_commands.specs.declared.pair.Work.TheVariants.{Negotiate}
 
@@ -36,22 +34,6 @@ met_object _ w met h = absurd h
 pub unfiltered_apart : (work : Work) (a b : List ℕ) (e : FilterError) → OnNoFilter (¬ (BeginBoth a b CanFilter)) e → AreFrontsRefused a b e →
     ArentAgreed work a b e
 unfiltered_apart work a b e apart stands = record { stands = unfiltered work stands; apart = apart }
-
--- two that filter to an object meet in that with its choices settled
-pub meet : (a b pod out : List ℕ) → FiltersSettle → BeginBoth a b (FilterIn pod) →
-    ((v : Tree) → IsPod pod v → IsObject v → out ≡ encoding_of (settled_of v)) → BeginBoth a b (SettleIn out)
-meet a b pod out law h e = record {
-  ours = h.ours;
-  theirs = h.theirs;
-  first = h.first;
-  second = h.second;
-  holds = record {
-    met = h.holds.met;
-    filter = h.holds.filter;
-    encoding = e h.holds.met h.holds.pod (met_object h.ours h.theirs h.holds.met h.holds.filter);
-    fixed = law h.ours h.theirs h.holds.met h.holds.filter;
-  };
-}
 
 -- or it can't be written
 pub unsettled_apart : (a b pod : List ℕ) (e : FilterError) → BeginBoth a b (FilterIn pod) → ((v : Tree) → IsPod pod v → IsObject v → IsUnsettled v e) →

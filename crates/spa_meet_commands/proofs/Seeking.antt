@@ -3,24 +3,22 @@ use Rattle.std.proofs.Common.{◌≡◌, ◌<◌, ◌+◌, ◌-◌, ℕ, List, [
 use Rattle.std.specs.Prelude.{Result}
 use Rattle.std.proofs.lemmas.List.{drop-drop, drop_more, length-take-le, take-append-drop}
 use Rattle.spa_format.specs.Words.{extent, word_at}
-use Rattle.spa_format.specs.Front.{HasFront, IsRefused, front_of, rest_of}
+use Rattle.spa_format.specs.Front.{HasFront, front_of, rest_of}
 use Rattle.spa_format.specs.Walk.{walk}
 use Rattle.spa_format.specs.Fixation.{walk_size}
 use Rattle.spa_format.proofs.WalkLemmas.{walk-end, walk-there}
 use Rattle.spa_filter.specs.declared.error.FilterError.{FilterError}
 use Rattle.spa_filter.specs.declared.error.FilterError.TheVariants as cause
-use Rattle.spa_keyed_objects.specs.declared.side.Side.{Side}
-use Rattle.spa_object_view.specs.Fronts.{BeginsObjectOf, BeginsOther}
+use Rattle.spa_object_view.specs.Fronts.{BeginsObjectOf}
 use Rattle.spa_object_view.specs.declared.front.ObjectPod.{ObjectPod}
 use Rattle.spa_object_view.specs.declared.front.ObjectPod.TheVariants.{Borrowed, Rewritten}
 use Rattle.spa_object_view.proofs.ObjectPods.{begins_object}
 use Rattle.spa_filter_pods.specs.Fronts.{OfViewed}
 use Rattle.spa_meet_commands.specs.Agreeing.{Agree, ArentAgreed}
-use Rattle.spa_meet_commands.specs.Lists.{AgreesWithNone, AreApart, AreOfObjects, AreViewed, FirstGives, FirstPairGives, Gives, IsBehindObjects, IsList, IsNoList, IsOfDisagreement, NoneAgree, OfBoth, OfOne, StopsAt}
+use Rattle.spa_meet_commands.specs.Lists.{AgreesWithNone, AreApart, AreOfObjects, AreViewed, FirstGives, FirstPairGives, Gives, IsBehindObjects, IsList, IsOfDisagreement, NoneAgree, OfBoth, OfOne}
 use Rattle.spa_meet_commands.proofs.Agreeing.{pod_begins}
 use Rattle.spa_meet_commands.specs.declared.pair.Work.{Work}
-use Rattle.spa_meet_commands.specs.declared.answer.Failure.{Failure}
-use Rattle.spa_meet_commands.specs.declared.answer.Failure.TheVariants.{Apart, More, NoPair, NoPod, NoObject, OutOfMemory}
+use Rattle.spa_meet_commands.specs.declared.answer.Failure.TheVariants.{Apart, OutOfMemory}
 
 -- the object at the front of an input is that of its front
 front_viewed : (left : List ℕ) (object : ObjectPod) → BeginsObjectOf left object → BeginsObjectOf (front_of left) object
@@ -119,17 +117,6 @@ behind input left viewed place is some so =
       rest,
     )
 
-pub stops : (input left : List ℕ) (viewed : List ObjectPod) (side : Side) (place : ℕ) (why : Failure) → place ≡ length input - length left →
-    0 < length left → Passed input left viewed → StopsAt side place why left → IsNoList side why input
-stops input left viewed side place (NoPod s k) is some so stop =
-    let b = behind input left viewed k (stop.1 ∙ is) some so in (b.0, (stop.0, refl, subst IsRefused b.1 stop.2))
-stops input left viewed side place (NoObject s k) is some so stop =
-    let b = behind input left viewed k (stop.1 ∙ is) some so in (b.0, (stop.0, refl, subst BeginsOther b.1 stop.2))
-stops input left viewed side place OutOfMemory is some so stop = tt
-stops input left viewed side place (Apart type e) is some so stop = absurd stop
-stops input left viewed side place More is some so stop = absurd stop
-stops input left viewed side place NoPair is some so stop = absurd stop
-
 -- the next object is the first of those that are left
 pub next_is : (objects : List ObjectPod) (i : ℕ) (object : ObjectPod) → i < length objects → object ≡ get_or objects i object →
     drop i objects ≡ object ∷ drop (i + 1) objects
@@ -140,9 +127,6 @@ next_is objects i object more is = drop_more objects i object more ∙ ap (λ z.
 pub record Sought (work : Work) (ours : ObjectPod) (all left : List ObjectPod) : Type 0 where
   pub gives : (r : Result (List ℕ) FilterError) → OfOne ours left (λ p qs. FirstGives work p qs r) → OfOne ours all (λ p qs. FirstGives work p qs r)
   pub none : OfOne ours left AgreesWithNone → OfOne ours all AgreesWithNone
-
-pub seeks : (work : Work) (ours : ObjectPod) (all : List ObjectPod) → Sought work ours all all
-seeks work ours all = record { gives = λ r h. h; none = λ h. h }
 
 -- the next one disagrees
 pub seeks_on : (work : Work) (ours : ObjectPod) (all left : List ObjectPod) (next : ObjectPod) (behind : List ObjectPod) →
@@ -186,9 +170,6 @@ pub record Paired (work : Work) (theirs all left : List ObjectPod) : Type 0 wher
   pub gives : (r : Result (List ℕ) FilterError) → OfBoth left theirs (λ ps qs. FirstPairGives work ps qs r) →
       OfBoth all theirs (λ ps qs. FirstPairGives work ps qs r)
   pub none : OfBoth left theirs NoneAgree → OfBoth all theirs NoneAgree
-
-pub pairs : (work : Work) (theirs all : List ObjectPod) → Paired work theirs all all
-pairs work theirs all = record { gives = λ r h. h; none = λ h. h }
 
 pub pairs_on : (work : Work) (theirs all left : List ObjectPod) (next : ObjectPod) (behind : List ObjectPod) → Paired work theirs all left →
     left ≡ next ∷ behind → OfOne next theirs AgreesWithNone → Paired work theirs all behind

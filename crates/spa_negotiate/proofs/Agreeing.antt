@@ -1,7 +1,6 @@
 -- Supported values; and two values by their refusal, their filter, and what is found of them.
-use Rattle.std.proofs.Common.{◌≡◌, ◌≢◌, ℕ, Bool, false, ◌&&◌, refl, sym, subst, Option, Some, None, Result, Ok, Err, IfOk, IfErr, OnOk}
-use Rattle.spa_format.specs.Kind.{Kind, id_kind, int_kind, long_kind}
-use Rattle.spa_format.specs.Tree.{none_choice, range_choice, enum_choice, Tree, choice}
+use Rattle.std.proofs.Common.{◌≡◌, ℕ, refl, sym, subst, Option, Some, None, Result, Ok, Err, IfOk, IfErr, OnOk}
+use Rattle.spa_format.specs.Tree.{Tree, choice}
 use Rattle.spa_value.specs.View.{view}
 use Rattle.spa_value.specs.declared.value.Value.{Value}
 use Rattle.spa_keyed_objects.specs.Keys.{Offered}
@@ -12,7 +11,7 @@ use Rattle.spa_filter.specs.declared.error.FilterError.{FilterError}
 use Rattle.spa_filter.specs.declared.error.FilterError.TheVariants as cause
 use Rattle.spa_negotiate.specs.declared.error.NegotiateError.{NegotiateError}
 use Rattle.spa_negotiate.specs.declared.error.NegotiateError.TheVariants.{Unsupported, Disjoint, OutOfMemory}
-use Rattle.spa_negotiate.specs.Admits.{AreSupported, HasCommon, IsCommon, IsPlain, IsRangeKind, IsSupported, plain_of}
+use Rattle.spa_negotiate.specs.Admits.{AreSupported, IsCommon, IsPlain, IsSupported, plain_of}
 use Rattle.spa_negotiate.specs.Meeting.{IsMetAt}
 use Rattle.spa_negotiate.specs.Refusals.{IsKeyRefusal, IsValueRefusal}
 
@@ -25,41 +24,6 @@ IsSupported-plain _ h = tt
 pub IsPlain-plain_of : (v : Tree) → IsPlain (plain_of v)
 IsPlain-plain_of (choice s f k d vs) = tt
 IsPlain-plain_of _ = tt
-
-ordered : (k : Kind) → IsRangeKind k → order.IsOrderedKind k
-ordered id_kind h = tt
-ordered int_kind h = tt
-ordered long_kind h = tt
-ordered _ h = absurd h
-
--- a supported value is supported to filter, and isn't Flags
-to_filter : (v : Tree) → IsSupported v → filters.IsSupported v × (filters.is_flags v ≡ false)
-to_filter (choice none_choice f k d vs) h = (tt, refl)
-to_filter (choice enum_choice f k d vs) h = (tt, refl)
-to_filter (choice range_choice f k d vs) h = (ordered k h, refl)
-to_filter (choice _ f k d vs) h = absurd h
-to_filter _ h = (tt, refl)
-
-no_first : (p q : Bool) → p ≡ false → (p && q) ≡ false
-no_first p q e = subst (λ b. (b && q) ≡ false) (sym e) refl
-
-no_second : (p q : Bool) → q ≡ false → (p && q) ≡ false
-no_second false q e = refl
-no_second _ q e = e
-
-pair_to_filter : (v w : Tree) → AreSupported v w → filters.AreSupported v w
-pair_to_filter v w h =
-    let first = to_filter v h.0 in
-    let second = to_filter w h.1 in
-    (first.0, second.0, (no_first _ _ first.1, no_second _ _ second.1))
-
--- two supported values that don't filter, but for want of memory, have no value in common
-pub none_in_common : (key : ℕ) (v w : Tree) (e : FilterError) → filters_not.IsValueRefusal key v w e → e ≢ cause.OutOfMemory →
-    AreSupported v w → ¬ (HasCommon v w)
-none_in_common key v w (cause.Unsupported k) h n s = absurd (h.1 (pair_to_filter v w s))
-none_in_common key v w (cause.Disjoint k) h n s = h.2
-none_in_common key v w cause.OutOfMemory h n s = absurd (n refl)
-none_in_common key v w _ h n s = absurd h
 
 -- what two values that stand under a key meet in, and why they don't, where `found` is what the other side offers there
 module _ (a b : Offered) (found : Option Offered) (is : found ≡ Some b) where

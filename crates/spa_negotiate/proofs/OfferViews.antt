@@ -1,5 +1,5 @@
 -- Zero-copy views of offers.
-use Rattle.std.proofs.Common.{◌≡◌, ℕ, ◌<◌, ◌≤◌, List, [], ◌∷◌, length, take, drop, refl, sym, ap, ◌∙◌, subst, arith}
+use Rattle.std.proofs.Common.{◌≡◌, ℕ, ◌<◌, ◌≤◌, List, [], ◌∷◌, length, take, drop, sym, ap, ◌∙◌, subst, arith}
 use Rattle.std.specs.Prelude.{◌≤ℤ◌, Contains}
 use Rattle.std.specs.Int.{w32, w64, cast_signed}
 use Rattle.std.proofs.lemmas.List.Elements.{Contains-append_right}
@@ -92,9 +92,6 @@ found_among size values left value p l t s k ys e m = let i = s k ys e m in of_l
 
 -- what the offer of a value admits, the value does
 module _ (v : Tree) (offer : OfferView) (value : List ℕ) (o : IsOffer v offer) where
-  its_default : o.default ≡ value_of o.kind offer.values.now
-  its_default = o.values.1.says
-
   -- where the offer is of this shape
   offers_by : (s : Shape) → offer.shape ≡ shape_number s → IsSupported (choice s 0 o.kind o.default o.further) →
       AdmitsContent s o.default o.further (value_of o.kind value) → Offers v (value_of o.kind value)
@@ -103,11 +100,6 @@ module _ (v : Tree) (offer : OfferView) (value : List ℕ) (o : IsOffer v offer)
         o.supported (subst (λ t. IsSupported (choice t 0 o.kind o.default o.further)) same h),
         o.admits (value_of o.kind value) (subst (λ t. AdmitsContent t o.default o.further (value_of o.kind value)) same a),
       )
-
-  pub admit_only : offer.shape ≡ 0 → take offer.size offer.values.now ≡ take offer.size value → Offers v (value_of o.kind value)
-  admit_only e t =
-      let here : take (body_size o.kind) offer.values.now ≡ take (body_size o.kind) value = subst (λ m. take m offer.values.now ≡ take m value) o.its_size t in
-      offers_by none_choice e tt (sym (its_default ∙ ap (content o.kind) here))
 
   pub admit_among : offer.shape ≡ 3 → ((k : Kind) (ys : List Fixed) → offer.size ≡ body_size k → AreElements k ys offer.values.now → Contains ys (value_of k value)) →
       Offers v (value_of o.kind value)

@@ -1,16 +1,15 @@
 -- The pods of objects at the fronts of inputs.
-use Rattle.std.proofs.Common.{inl, inr, ◌≡◌, ◌≢◌, ℕ, ◌-◌, ◌≤◌, List, length, take, drop, refl, sym, ap, ◌∙◌, subst, arith, length-drop}
-use Rattle.std.proofs.lemmas.List.{take_all, take-take}
-use Rattle.spa_format.specs.Words.{word_at, extent, body_of}
-use Rattle.spa_format.specs.Tree.{Tree, struct, object, object_type, type_of}
+use Rattle.std.proofs.Common.{inl, inr, ◌≡◌, ◌≢◌, ℕ, List, take, refl, sym, ap, ◌∙◌, subst, arith}
+use Rattle.std.proofs.lemmas.List.{take_all}
+use Rattle.spa_format.specs.Words.{word_at, extent}
+use Rattle.spa_format.specs.Tree.{Tree, object, object_type, type_of}
 use Rattle.spa_format.specs.Pod.{IsPod}
 use Rattle.spa_format.specs.Encoding.{encoding_of}
 use Rattle.spa_format.specs.Front.{Begins, HasFront, IsRefused, front_of, rest_of}
 use Rattle.spa_format.specs.Typed.{IsBytes}
-use Rattle.spa_format.proofs.Fronts.{size_of_front, type_of_front}
+use Rattle.spa_format.proofs.Fronts.{type_of_front}
 use Rattle.spa_format.proofs.Shapes.{object_only}
 use Rattle.spa_format.proofs.Unique.{one_value}
-use Rattle.spa_format.specs.Faults.{Stands}
 use Rattle.spa_bytes.specs.Opening.{Opens}
 use Rattle.spa_fixed_sized.specs.declared.fault.Refusal.{Refusal}
 use Rattle.spa_fixed_sized.specs.declared.fault.Refusal.TheVariants as refusal
@@ -20,11 +19,10 @@ use Rattle.spa_scan.specs.Depth.{NestsDeeper, levels_looked_into}
 use Rattle.spa_scan.proofs.Deeper.{its_container}
 use Rattle.spa_rewrite.specs.Look.{IsRejected}
 use Rattle.spa_rewrite.specs.Rewriting.{IsRewriting}
-use Rattle.spa_events.specs.Inside.{IsInside}
 use Rattle.spa_rewrite.specs.declared.look.Rejected.{Rejected}
 use Rattle.spa_rewrite.specs.declared.look.Rejected.TheVariants as rejected
 use Rattle.std.specs.Borrow.{Bor}
-use Rattle.std.specs.Prelude.{Bool, true, false, IfOk, Result, Ok, Err}
+use Rattle.std.specs.Prelude.{IfOk, Result, Ok, Err}
 use Rattle.spa_object_view.specs.Fronts.{BeginsObject, BeginsObjectIn, BeginsObjectOf, BeginsOther, BeginsView, IsNoObject, IsObject, IsObjectBody, IsUnread}
 use Rattle.spa_object_view.specs.declared.front.ObjectPod.{ObjectPod}
 use Rattle.spa_object_view.specs.declared.front.ObjectPod.TheVariants.{Borrowed, Rewritten}

@@ -1,8 +1,8 @@
 -- When the calls of a parser succeed, and why they are refused: docs/FORMAT.md, "Taking pods one by one".
-use Rattle.std.specs.Prelude.{◌≡◌, ◌≢◌, ◌⊎◌, ℕ, List, ◌∷◌, drop, Option, Some, None, if◌then◌else◌, nat_eq, IsSomeAnd, IsUtf8, MatchOption, false}
+use Rattle.std.specs.Prelude.{◌≡◌, ◌≢◌, ◌⊎◌, ℕ, List, ◌∷◌, drop, Option, Some, IsSomeAnd, IsUtf8, MatchOption, false}
 use Rattle.spa_format.specs.Words.{header_size, word_at, body_of}
 use Rattle.spa_format.specs.Kind.{Fixed, kind_of, content}
-use Rattle.spa_format.specs.Tree.{Tree, Trees, Properties, no_properties, property}
+use Rattle.spa_format.specs.Tree.{Tree, Trees, property}
 use Rattle.spa_format.specs.Pod.{IsPod, AreMembers}
 use Rattle.spa_utils.specs.declared.errno.Errno.{Errno}
 use Rattle.spa_utils.specs.declared.errno.TheConstants.Errno.{NOMEM, INVAL, PIPE, PROTO}

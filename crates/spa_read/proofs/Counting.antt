@@ -38,17 +38,6 @@ count_with (inside.Struct vs) v = let e = members_count (views vs.items) v in om
 count_with (inside.Object o) v =
     let e = properties_count (property_views o.properties.items) o.key o.flags.0 v in omega arith
 
-pub is_some : (v : Tree) → 0 < node_count v
-is_some (fixed x) = omega arith
-is_some (string s) = omega arith
-is_some (bytes s) = omega arith
-is_some (bitmap s) = omega arith
-is_some (array k xs) = omega arith
-is_some (choice s f k x xs) = omega arith
-is_some (pointer t a) = omega arith
-is_some (struct vs) = omega arith
-is_some (object t i ps) = omega arith
-
 pub is_one : (v : Tree) → type_of v ≢ struct_type → type_of v ≢ object_type → node_count v ≡ 1
 is_one (fixed x) n m = refl
 is_one (string s) n m = refl

@@ -1,5 +1,5 @@
 -- Steps that are the same in both readings.
-use Rattle.std.proofs.Common.{◌≡◌, ◌≢◌, ℕ, ◌+◌, ◌≤◌, List, [], ◌++◌, length, refl, sym, ap, ◌∙◌, subst, arith, eqb, not, length-drop, Bool, true, false}
+use Rattle.std.proofs.Common.{◌≡◌, ◌≢◌, ℕ, ◌+◌, ◌≤◌, List, ◌++◌, length, refl, sym, ap, ◌∙◌, subst, arith, eqb, not, length-drop, Bool, true, false}
 use Rattle.spa_format.specs.Words.{word_at, header_size, extent, body_of}
 use Rattle.spa_format.specs.Tree.{Tree, fixed, string, bytes, bitmap, array, choice, pointer, struct, object, Trees, no_trees, member, Properties, join_members, join_properties, type_of, struct_type, object_type}
 use Rattle.spa_format.specs.Pod.{IsBody}
@@ -77,11 +77,6 @@ pub properties_joined : (m : Bool) (ps qs : Properties) (b c : List ℕ) → Pro
     PropertiesIn m (join_properties ps qs) (b ++ c)
 properties_joined false ps qs b c h k = exact.props_joined ps qs b c h k
 properties_joined true ps qs b c h k = lenient.properties_joined ps qs b c h k
-
--- before any of them is read
-pub no_members : (m : Bool) → MembersIn m no_trees []
-no_members false = refl
-no_members true = refl
 
 -- what is read of a front, and what follows it, are shorter than the input
 pub opened_shorter : (m : Bool) (input body rest : List ℕ) (type : ℕ) → OpensIn m input type body rest →

@@ -1,8 +1,7 @@
 -- How far the work on an input is.
-use Rattle.std.proofs.Common.{◌≡◌, ◌≢◌, ◌∙◌, ◌+◌, ◌-◌, ◌<◌, ◌≤◌, ℕ, List, [], ◌∷◌, ◌++◌, append_assoc, append-nil, ap, arith, inl, inr, length, length-append, length-drop, refl, subst, sym, take}
-use Rattle.std.proofs.lemmas.Bool.{cases_lt}
-use Rattle.std.proofs.lemmas.List.{drop_all, take_at}
-use Rattle.spa_format.specs.Front.{HasFront, front_of, rest_of}
+use Rattle.std.proofs.Common.{◌≡◌, ◌≢◌, ◌∙◌, ◌+◌, ◌-◌, ◌<◌, ◌≤◌, ℕ, List, [], ◌∷◌, ◌++◌, append_assoc, append-nil, ap, arith, length, length-append, length-drop, refl, subst, sym, take}
+use Rattle.std.proofs.lemmas.List.{take_at}
+use Rattle.spa_format.specs.Front.{front_of, rest_of}
 use Rattle.spa_format.specs.Words.{extent, word_at}
 use Rattle.spa_format.proofs.Fronts.{front_and_rest}
 use Rattle.spa_recordings.specs.Reading.{IsNoPod, IsUnreadAt}
@@ -12,21 +11,11 @@ use Rattle.spa_recordings.specs.declared.going_on.RefusedPod.{RefusedPod}
 use Rattle.spa_recordings.specs.declared.reading.Reading.{Reading}
 use Rattle.spa_recordings.specs.declared.reading.Reading.TheVariants.{Exact, Lenient}
 
--- nothing follows a front that isn't there
-pub none_behind : (left : List ℕ) → ¬ (HasFront left) → [] ≡ rest_of left
-none_behind left n = elim (cases_lt (length left) (extent (word_at left 0))) [
-  | inl l ↦ sym (drop_all (extent (word_at left 0)) left (omega (arith, l)))
-  | inr l ↦ absurd (n (record { header = omega (arith, l); whole = l }))
-]
-
 -- what is left from a pod on that isn't read isn't empty, and some bytes stand before it
 pub before_unread : (reading : Reading) (input left kind : List ℕ) → IsUnreadAt reading input left kind →
     (first : List ℕ) × (input ≡ first ++ left) × (left ≢ [])
 before_unread Exact input left kind h = (h.0.1, h.0.2, h.0.4)
 before_unread Lenient input left kind h = (h.0.1, h.0.2, h.0.4)
-
-pub no_pod : (reading : Reading) (input left kind : List ℕ) → IsUnreadAt reading input left kind → IsNoPod reading left kind
-no_pod reading input left kind h = h.1
 
 -- what follows a front is shorter
 pub rest_shorter : (left : List ℕ) → left ≢ [] → length (rest_of left) < length left
@@ -86,20 +75,6 @@ module _ (name : List ℕ) (reading : Reading) (refused : Refused) (Makes : List
     fits = omega arith;
     goes_on = λ place others more h g.
         subst (λ z. GoesOn name reading refused Makes z input others more) (let z : place ≡ 0 = omega (arith, h) in z) g;
-  }
-
-  pub further : (place : ℕ) (left rest mid new : List ℕ) (mids news : List RefusedPod) → place + length left ≡ length input → MadeSoFar left mid mids →
-      MakesNext name reading refused Makes place left rest mid new mids news → MadeSoFar rest new news
-  further place left rest mid new mids news h so s = record {
-    made = so.made ++ s.made;
-    pods = so.pods ++ (s.pod ∷ []);
-    written = s.written ∙ ap (λ z. z ++ s.made) so.written ∙ append_assoc old so.made s.made;
-    listed = s.listed ∙ ap (λ z. z ++ (s.pod ∷ [])) so.listed ∙ append_assoc olds so.pods (s.pod ∷ []);
-    fits = let f = so.fits in let sh = s.shorter in omega (arith, f, sh);
-    goes_on = λ next others more e g.
-        subst (λ z. GoesOn name reading refused Makes 0 input z ((so.pods ++ (s.pod ∷ [])) ++ more)) (sym (append_assoc so.made s.made others))
-        (subst (λ z. GoesOn name reading refused Makes 0 input (so.made ++ (s.made ++ others)) z) (sym (append_assoc so.pods (s.pod ∷ []) more))
-        (so.goes_on place (s.made ++ others) (s.pod ∷ more) h (s.goes_on next others more (e ∙ sym h) g)));
   }
 
   pub finished : (place : ℕ) (left mid new : List ℕ) (mids news : List RefusedPod) → place + length left ≡ length input → MadeSoFar left mid mids →

@@ -1,9 +1,9 @@
 -- Bytes that are read, held and passed.
-use Rattle.std.proofs.Common.{◌≡◌, ◌≢◌, ◌∙◌, ◌+◌, ◌-◌, ◌<◌, ◌≤◌, ◌*◌, ℕ, List, [], ◌∷◌, ◌++◌, Option, Some, None, append_assoc, append-nil, ap, arith, drop, length, length-append, length-drop, length-take, refl, subst, sym, take, take-add}
-use Rattle.std.proofs.lemmas.List.{drop-append-le, drop-take, nil_from_length, take-append-le, take_all, take_at}
+use Rattle.std.proofs.Common.{◌≡◌, ◌≢◌, ◌∙◌, ◌+◌, ◌-◌, ◌<◌, ◌≤◌, ◌*◌, ℕ, List, [], ◌∷◌, ◌++◌, Option, Some, None, append_assoc, ap, arith, drop, length, length-append, length-drop, length-take, refl, subst, sym, take, take-add}
+use Rattle.std.proofs.lemmas.List.{drop-append-le, drop-take, nil_from_length, take-append-le, take_all}
 use Rattle.std.proofs.lemmas.List.Edits.{take-paste}
 use Rattle.std.proofs.Math.Seq.{paste}
-use Rattle.std.specs.Io.KnownBytes.{Consumes, IsAtEnd, Keeps}
+use Rattle.std.specs.Io.KnownBytes.{Consumes, IsAtEnd}
 use Rattle.spa_device.specs.Whole.{IsAllOf}
 use Rattle.spa_format.specs.Front.{HasFront, front_of, rest_of}
 use Rattle.spa_format.specs.Pod.{AreMembers, IsPod}
@@ -14,7 +14,7 @@ use Rattle.spa_format.specs.Words.{extent, word_at}
 use Rattle.spa_format.proofs.Fronts.{front_and_rest, front_of_whole, size_of_front}
 use Rattle.spa_format.proofs.WalkLemmas.{length-walk_behind, walk-end, walk-there}
 use Rattle.spa_format.proofs.WordLemmas.{word_at-append}
-use Rattle.spa_recordings.specs.Blocks.{AreWhole, ReadsOn, no_pods, one_more}
+use Rattle.spa_recordings.specs.Blocks.{AreWhole, no_pods, one_more}
 
 -- ---- What a reader gives
 
@@ -22,23 +22,11 @@ pub consumes_nothing : (a : Option (List ℕ)) → Consumes a a []
 consumes_nothing None = tt
 consumes_nothing (Some xs) = refl
 
-pub consumes_kept : (a b : Option (List ℕ)) → Keeps a b → Consumes a b []
-consumes_kept None b k = tt
-consumes_kept (Some xs) None k = absurd k
-consumes_kept (Some xs) (Some ys) k = sym k
-
 pub consumes_more : (a b c : Option (List ℕ)) (xs ys : List ℕ) → Consumes a b xs → Consumes b c ys → Consumes a c (xs ++ ys)
 consumes_more None b c xs ys h k = tt
 consumes_more (Some a) None c xs ys h k = absurd h
 consumes_more (Some a) (Some b) None xs ys h k = absurd k
 consumes_more (Some a) (Some b) (Some c) xs ys h k = h ∙ ap (λ l. xs ++ l) k ∙ sym (append_assoc xs ys c)
-
-pub reads_nothing : (a b : Option (List ℕ)) (held : List ℕ) → Keeps a b → ReadsOn a b held held
-reads_nothing a b held k = ([], consumes_kept a b k, sym (append-nil held))
-
-pub reads_more : (a b c : Option (List ℕ)) (first second third : List ℕ) → ReadsOn a b first second → ReadsOn b c second third → ReadsOn a c first third
-reads_more a b c first second third h k =
-    (h.0 ++ k.0, consumes_more a b c h.0 k.0 h.1 k.1, k.2 ∙ ap (λ l. l ++ k.0) h.2 ∙ append_assoc first h.0 k.0)
 
 -- what a reader has left, where that is known, and nothing else
 pub unread_of : Option (List ℕ) → List ℕ
@@ -198,18 +186,6 @@ rest_is_shorter left rest f r =
     let h = f.header in
     omega (arith, l, d, h)
 
-walked : (bytes left : List ℕ) (count : ℕ) (so : WholeSoFar bytes left count) → so.before ≡ take (length bytes - length left) bytes
-walked bytes left count so =
-    let e = ap length so.parts in
-    let l = length-append so.before left in
-    sym (ap (take (length bytes - length left)) so.parts ∙ take_at so.before left (length bytes - length left) (omega (arith, e, l)))
-
-pub walk_ends : (bytes left : List ℕ) (count : ℕ) → WholeSoFar bytes left count → AreWhole (take (length bytes - length left) bytes)
-walk_ends bytes left count so = subst AreWhole (walked bytes left count so) so.whole
-
-pub walk_counts : (bytes left : List ℕ) (count : ℕ) → WholeSoFar bytes left count → count ≡ length (walk (take (length bytes - length left) bytes))
-walk_counts bytes left count so = so.counted ∙ ap (λ z. length (walk z)) (walked bytes left count so)
-
 pub walk_counts_all : (bytes left : List ℕ) (count : ℕ) → WholeSoFar bytes left count → ¬ (HasFront left) → count ≡ length (walk bytes)
 walk_counts_all bytes left count so none =
     let c = so.counted in
@@ -217,16 +193,6 @@ walk_counts_all bytes left count so none =
     let j = count_joined so.before left so.whole in
     let n = ap length (walk-end left none) in
     omega (arith, c, e, j, n)
-
-pub none_whole : (bytes left : List ℕ) (count : ℕ) → WholeSoFar bytes left count → ¬ (HasFront left) → length bytes - length left ≡ 0 → ¬ (HasFront bytes)
-none_whole bytes left count so n z f =
-    let e = ap length so.parts in
-    let l = length-append so.before left in
-    n (subst HasFront (same so.before so.parts (omega (arith, e, l, z))) f)
-  where
-    same : (before : List ℕ) → bytes ≡ before ++ left → length before ≡ 0 → bytes ≡ left
-    same [] e z = e
-    same (x ∷ xs) e z = absurd (omega (arith, z))
 
 -- whole pods behind some that are accepted
 pub whole_behind : (vs : Trees) (b first left : List ℕ) → AreWhole b → b ≡ first ++ left → AreMembers vs first → AreWhole left

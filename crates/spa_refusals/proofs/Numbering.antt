@@ -8,7 +8,6 @@ use Rattle.spa_format.proofs.WalkLemmas.{length-walk_behind, walk-end, walk-ther
 use Rattle.spa_format.proofs.WordLemmas.{word_at-drop, word_at-take}
 use Rattle.spa_recordings.specs.declared.going_on.RefusedPod.{RefusedPod}
 use Rattle.spa_recordings.specs.declared.reading.Reading.{Reading}
-use Rattle.spa_refusals.specs.Refusals.{IsNothing}
 use Rattle.spa_refusals.specs.Several.{AreRefused, AreSaid, Counts, IsSaidOf}
 use Rattle.spa_refusals.specs.declared.several.NamedRefusal.{NamedRefusal}
 
@@ -106,15 +105,6 @@ pub record SaidSoFar (reading : Reading) (input : List ℕ) (pods left : List Re
   pub written : new ≡ old ++ more
   pub said : (rest : List NamedRefusal) → AreSaid reading input left rest → AreSaid reading input pods (more ++ rest)
   pub left_refused : AreRefused reading input left
-
-pub none_said : (reading : Reading) (input : List ℕ) (pods : List RefusedPod) (old : List NamedRefusal) → AreRefused reading input pods →
-    SaidSoFar reading input pods pods old old
-none_said reading input pods old r = record { more = []; written = sym (append-nil old); said = λ rest h. h; left_refused = r }
-
-pub next_refused : (reading : Reading) (input : List ℕ) (pods left behind : List RefusedPod) (pod : RefusedPod) (old new : List NamedRefusal) →
-    left ≡ pod ∷ behind → SaidSoFar reading input pods left old new → (pod.place ≤ length input) × IsNothing reading (drop pod.place input)
-next_refused reading input pods left behind pod old new e so =
-    let r = subst (AreRefused reading input) e so.left_refused in (r.0, r.1)
 
 pub one_said : (reading : Reading) (input : List ℕ) (pods left behind : List RefusedPod) (pod : RefusedPod) (old mid new : List NamedRefusal)
     (its : NamedRefusal) → left ≡ pod ∷ behind → SaidSoFar reading input pods left old mid → IsSaidOf reading input pod its → new ≡ mid ++ (its ∷ []) →

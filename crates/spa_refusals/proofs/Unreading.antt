@@ -6,9 +6,8 @@ use Rattle.std.specs.Prelude.{Option, Some, None, Result, Ok, Err, IfNone, IfOk,
 use Rattle.spa_fixed_sized.specs.Faults.{fault_kind_text, kind_text}
 use Rattle.spa_fixed_sized.specs.declared.fault.DeserializeError.{DeserializeError}
 use Rattle.spa_fixed_sized.specs.declared.fault.DeserializeError.TheVariants as error
-use Rattle.spa_format.specs.Faults.{Stands}
 use Rattle.spa_format.specs.Front.{HasFront, IsRefused}
-use Rattle.spa_bodies.specs.Reading.{IsShortAt, Names, OnFault, OnMemory}
+use Rattle.spa_bodies.specs.Reading.{IsShortAt, OnFault}
 use Rattle.spa_read.specs.Reading.{ConveysNothing}
 use Rattle.spa_recordings.specs.Reading.{IsAccepted, IsLeftOf, RefusesList}
 use Rattle.spa_recordings.specs.declared.reading.Reading.{Reading}
@@ -19,10 +18,6 @@ use Rattle.spa_refusals.specs.Paths.{LeadsTo, itself, further, member, property}
 use Rattle.spa_format.specs.Walk.{walk}
 use Rattle.spa_refusals.specs.Refusals.{IsFirstRefusal, IsNothing, IsRefusalAt, IsRefusalOf, IsUnreadFor, LeadsBy}
 use Rattle.spa_refusals.specs.declared.refusal.Refusal.{Refusal}
-
-not_memory : {I : Type 0} (e : DeserializeError I) → e ≢ error.OutOfMemory → OnMemory ⊥ e
-not_memory error.OutOfMemory n = absurd (n refl)
-not_memory _ n = tt
 
 fault_of : {I : Type 0} (Fact : Type 0) (e : DeserializeError I) → e ≢ error.OutOfMemory → OnFault Fact e → Fact
 fault_of Fact error.OutOfMemory n h = absurd (n refl)
@@ -37,27 +32,6 @@ fault_of Fact error.WrongSize n h = h
 fault_of Fact error.UnreadMembers n h = h
 fault_of Fact error.NoElementLeft n h = h
 fault_of Fact error.FailedReader n h = h
-
--- as a read of one pod says
-pub unread : (pod : List ℕ) (e : DeserializeError (Bor (List ℕ))) → e ≢ error.OutOfMemory → OnFault (IsRefused pod) e →
-    Names (λ fault place. Stands fault place pod) e → (¬ (HasFront pod) → IsShortAt pod e) → IsUnreadFor Exact pod e
-unread pod e n refused named short =
-    record { nothing = fault_of (IsRefused pod) e n refused; fault = not_memory e n; named = named; short_first = short }
-
--- as one of the front of a list does
-pub unread_first : (input left : List ℕ) (e : DeserializeError (Bor (List ℕ))) → exact.RefusesList input left e → e ≢ error.OutOfMemory →
-    IsUnreadFor Exact left e
-unread_first input left e r n = unread left e n r.front.refused r.front.named r.front.short_first
-
--- as a lenient one of a pod does
-pub unread_leniently : (pod : List ℕ) (e : DeserializeError (Bor (List ℕ))) → e ≢ error.OutOfMemory → lenient.RefusesFront pod e →
-    IsUnreadFor Lenient pod e
-unread_leniently pod e n r = record {
-  nothing = fault_of (ConveysNothing pod) e n r.refused;
-  fault = not_memory e n;
-  named = r.named;
-  short_first = r.short_first;
-}
 
 -- no pod is read at the front of what is left
 pub nothing_left : (reading : Reading) (input left : List ℕ) (e : DeserializeError (Bor (List ℕ))) → RefusesList reading input left e →

@@ -1,16 +1,12 @@
 -- Pods that a look accepts or refuses.
-use Rattle.std.proofs.Common.{◌≡◌, ◌≢◌, ℕ, ◌+◌, ◌-◌, ◌<◌, ◌≤◌, inl, inr, List, ◌++◌, length, take, drop, refl, sym, ap, ◌∙◌, subst, arith, append_assoc, length-append}
+use Rattle.std.proofs.Common.{◌≡◌, ℕ, ◌+◌, ◌-◌, ◌<◌, ◌≤◌, List, ◌++◌, length, take, refl, sym, ap, ◌∙◌, subst, arith, append_assoc, length-append}
 use Rattle.std.specs.Borrow.{Bor}
-use Rattle.std.specs.Prelude.{◌⊎◌, Bool, true, false, Decides}
-use Rattle.std.proofs.lemmas.Bool.{true_from_ne_false}
-use Rattle.std.proofs.lemmas.List.{drop_all, drop_at, length-take-le}
+use Rattle.std.specs.Prelude.{Bool, false}
+use Rattle.std.proofs.lemmas.List.{length-take-le}
 use Rattle.spa_format.specs.Words.{extent, header_size, word_at}
-use Rattle.spa_format.specs.Tree.{Tree, Trees, no_trees, member, join_members, object_type, struct_type, type_of}
-use Rattle.spa_format.specs.Pod.{AreMembers, IsBody}
-use Rattle.spa_format.specs.Encoding.{member_encodings}
-use Rattle.spa_format.specs.Front.{Begins, HasFront, IsRefused, front_of, rest_of}
+use Rattle.spa_format.specs.Tree.{Tree, no_trees, member, join_members}
+use Rattle.spa_format.specs.Front.{Begins, HasFront, IsRefused, front_of}
 use Rattle.spa_format.specs.Faults.{Short, Text, InvalidType, InvalidChoiceType, MissingChoiceValues, WrongSize, Stands, StandsAtFront, at_front}
-use Rattle.spa_format.specs.Typed.{IsBytes}
 use Rattle.spa_format.proofs.Refused.{begun}
 use Rattle.spa_format.proofs.Refused as format
 use Rattle.spa_format.proofs.Sequences.{members_push}
@@ -20,27 +16,22 @@ use Rattle.spa_fixed_sized.specs.declared.fault.Refusal.TheVariants as refusal
 use Rattle.spa_bodies.specs.Reading.{BeginsWith}
 use Rattle.spa_bodies.specs.Refusing.{Says, error_of}
 use Rattle.spa_bodies.proofs.Refusals.{says_through}
-use Rattle.spa_scan.specs.Canonical.{AreCanonical, BeginsCanonical, IsStretch}
 use Rattle.spa_scan.specs.Depth.{depth_of, levels_looked_into}
-use Rattle.spa_scan.proofs.Frames.{no_stretch, stretch_parts}
 use Rattle.spa_rewrite.specs.Look.{IsRejected, StopsAt}
 use Rattle.spa_rewrite.specs.Rewriting.{IsLeft, RefusesFront}
-use Rattle.spa_rewrite.specs.Shorter.{ArePodsWithin, IsShorterBody}
-use Rattle.spa_events.specs.Inside.{IsBehindKey, IsInside, key_size}
+use Rattle.spa_rewrite.specs.Shorter.{ArePodsWithin}
+use Rattle.spa_events.specs.Inside.{IsInside, key_size}
 use Rattle.spa_rewrite.specs.Offsets.{IsFaultAt, StandsAt, at_pod, from_pod}
-use Rattle.spa_rewrite.specs.declared.look.AcceptedPod.{AcceptedPod}
 use Rattle.spa_rewrite.specs.declared.look.Rejected.{Rejected}
 use Rattle.spa_rewrite.specs.declared.look.Rejected.TheVariants as rejected
-use Rattle.spa_rewrite.proofs.FirstPods.{accepted_behind, left_behind_pods}
+use Rattle.spa_rewrite.proofs.FirstPods.{left_behind_pods}
 use Rattle.spa_scan.proofs.Depths.{deep_begun}
-use Rattle.spa_rewrite.proofs.Looks.{passes_pod, some_left, stands_opened}
+use Rattle.spa_rewrite.proofs.Looks.{stands_opened}
 use Rattle.spa_rewrite.proofs.Offsets.{body_long, offset_opened}
 use Rattle.spa_rewrite.proofs.Refusals.{front_refused}
-use Rattle.spa_rewrite.proofs.Rewritten.{member_encodings-push, parted}
-use Rattle.spa_rewrite.proofs.ShorterLemmas.{CountsOn, counts_all, counts_more, counts_none, first_within, shorter_opened, within_behind}
-use Rattle.spa_rewrite.proofs.Stretches.{FirstMembers, no_first_member}
-use Rattle.spa_rewrite.proofs.LeafBodies.{leaf_depth, never}
-use Rattle.spa_rewrite.proofs.SameLength.{left_shorter}
+use Rattle.spa_rewrite.proofs.Rewritten.{parted}
+use Rattle.spa_rewrite.proofs.ShorterLemmas.{first_within, within_behind}
+use Rattle.spa_rewrite.proofs.Stretches.{FirstMembers}
 
 -- what stands at a place is no pod of the grammar
 fault_refuses : (input place : List ℕ) (why : Refusal) → Says (λ k. Stands k place input) ⊥ why → IsRefused input

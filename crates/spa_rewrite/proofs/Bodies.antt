@@ -1,12 +1,11 @@
 -- The bodies of arrays and choices, part by part.
-use Rattle.std.proofs.Common.{◌≡◌, ◌≢◌, ℕ, suc, zero, ◌+◌, ◌*◌, ◌/◌, ◌%◌, ◌<◌, ◌≤◌, List, [], ◌∷◌, ◌++◌, length, drop, take, refl, sym, ap, ◌∙◌, subst, arith, append_assoc, length-drop, Option, Some, None}
+use Rattle.std.proofs.Common.{◌≡◌, ℕ, suc, zero, ◌+◌, ◌*◌, ◌/◌, ◌%◌, ◌<◌, ◌≤◌, List, [], ◌∷◌, ◌++◌, length, drop, take, refl, sym, ap, ◌∙◌, subst, arith, append_assoc, length-drop, Option, Some, None}
 use Rattle.std.specs.Prelude.{IfNone, IfSome}
 use Rattle.std.specs.Borrow.{Bor}
 use Rattle.std.proofs.lemmas.List.{drop-take, length-take-le, nil_from_length, take-take, take_all}
 use Rattle.spa_format.specs.Words.{header_size, word_at}
 use Rattle.spa_format.specs.Kind.{Kind, Fixed, IsFixedBody, body_size, content}
 use Rattle.spa_format.specs.Tree.{Shape, none_choice, range_choice, step_choice, enum_choice, flags_choice, shape_number}
-use Rattle.spa_format.specs.Normal.{kept_flags}
 use Rattle.spa_format.specs.Pod.{AreElements, IsArray, IsChoice, least_count, values_taken}
 use Rattle.spa_format.specs.Faults.{choice_header_size}
 use Rattle.spa_format.proofs.Choices.{same_shape}
@@ -275,21 +274,6 @@ all_missed r body inner elements size number t i e z w m c d =
     let room = l.1 in
     let one : least_count t * size ≡ size = ap (λ a. a * size) c ∙ omega arith in
     omega arith) d
-
--- the flags that are written
-pub no_flags : (s : Shape) (f n : ℕ) → n ≡ 0 → n ≡ shape_number s → 0 ≡ kept_flags s f
-no_flags none_choice f n z e = refl
-no_flags range_choice f n z e = absurd (omega arith)
-no_flags step_choice f n z e = absurd (omega arith)
-no_flags enum_choice f n z e = absurd (omega arith)
-no_flags flags_choice f n z e = absurd (omega arith)
-
-pub same_flags : (s : Shape) (f n : ℕ) → n ≢ 0 → n ≡ shape_number s → f ≡ kept_flags s f
-same_flags none_choice f n z e = absurd (z e)
-same_flags range_choice f n z e = refl
-same_flags step_choice f n z e = refl
-same_flags enum_choice f n z e = refl
-same_flags flags_choice f n z e = refl
 
 pub choice_parts : (a b c d e f g p : List ℕ) →
     ((a ++ b) ++ (c ++ d)) ++ ((e ++ f) ++ (g ++ p)) ≡ a ++ (b ++ ((c ++ (d ++ (e ++ (f ++ g)))) ++ p))

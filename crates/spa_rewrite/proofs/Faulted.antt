@@ -23,14 +23,13 @@ use Rattle.spa_bodies.specs.Refusing.{Says, StandsInBody}
 use Rattle.spa_bodies.proofs.Refusals.{at_front_of, says_through}
 use Rattle.spa_bodies.proofs.Steps.{pod_read}
 use Rattle.spa_scan.specs.Depth.{depth_of}
-use Rattle.spa_scan.specs.Canonical.{BeginsCanonical, IsSized, MissesOnly}
-use Rattle.spa_scan.proofs.Missed.{sized_front}
+use Rattle.spa_scan.specs.Canonical.{BeginsCanonical}
 use Rattle.spa_format.proofs.Shapes.{object_only, struct_only}
 use Rattle.spa_rewrite.specs.Look.{AreCanonicalInside, IsNoLeaf, Stops, StopsAt}
 use Rattle.spa_events.specs.Inside.{IsBehindKey, IsContainer, key_size}
 use Rattle.spa_rewrite.specs.Offsets.{StandsAt, at_key, at_pod, from_properties, scope_of}
 use Rattle.spa_rewrite.proofs.Bodies.{fewer, listed}
-use Rattle.spa_rewrite.proofs.Looks.{Awaits, behind_bytes, first_own, stands_first}
+use Rattle.spa_rewrite.proofs.Looks.{Awaits, first_own, stands_first}
 use Rattle.spa_rewrite.proofs.Offsets.{key_long, offset_first}
 use Rattle.spa_rewrite.proofs.LeafBodies.{leaf_depth, never, some_key}
 use Rattle.spa_rewrite.proofs.SameLength.{array_same_length}
@@ -92,15 +91,6 @@ container_stops canonical here c = record { differs = λ _ rest k. deep k.value 
 pub first_type : (keyed : Bool) (left here : List ℕ) → IsBehindKey keyed left here → word_at left (key_size keyed + 4) ≡ word_at here 4
 first_type true left here k = sym (ap (λ b. word_at b 4) k.1 ∙ word_at-drop 8 4 left)
 first_type false left here k = sym (ap (λ b. word_at b 4) k)
-
--- a pod of fixed size has 16 bytes
-pub none_sized : (keyed : Bool) (left here : List ℕ) → IsBytes left → keyed ≡ true → length left < 24 → IsBehindKey keyed left here →
-    MissesOnly here (λ v. ¬ (IsSized v))
-none_sized true left here h e l k rest c z =
-    let d = ap length k.1 ∙ length-drop 8 left in
-    let s = (sized_front here rest (behind_bytes true left here h k) c z).long in
-    omega arith
-none_sized false left here h e l k rest c z = absurd (never false e refl)
 
 -- no struct or object begins there
 pub leaf_shallow : (here body rest : List ℕ) (type : ℕ) → Opens here type body rest → type ≢ struct_type → (type ≡ object_type → length body < header_size) →

@@ -1,5 +1,5 @@
 -- First pods of an input, and what is true of all if it is of the others.
-use Rattle.std.proofs.Common.{◌≡◌, ℕ, List, ◌++◌, sym, ap, ◌∙◌, subst, append_assoc}
+use Rattle.std.proofs.Common.{◌≡◌, ℕ, List, ◌++◌, sym, ap, ◌∙◌, append_assoc}
 use Rattle.spa_format.specs.Tree.{Trees, join_members}
 use Rattle.spa_format.specs.Pod.{AreMembers}
 use Rattle.spa_format.proofs.Sequences.{members_joined}
@@ -14,10 +14,3 @@ left_behind_pods input first rest left vs e m l = (
   members_joined vs l.0 first l.1 m l.3,
   l.4,
 )
-
--- first pods stand before others that are accepted or refused
-pub accepted_behind : (input first rest : List ℕ) (vs : Trees) → input ≡ first ++ rest → AreMembers vs first → (ws : Trees) × AreMembers ws rest →
-    (ws : Trees) × AreMembers ws input
-accepted_behind input first rest vs i m r =
-    let all = join_members vs r.0 in
-    (all, subst (AreMembers all) (sym i) (members_joined vs r.0 first rest m r.1))

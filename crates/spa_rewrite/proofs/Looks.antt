@@ -20,9 +20,9 @@ use Rattle.spa_scan.proofs.Frames.{body_bytes, canonical_front, none_left, none_
 use Rattle.spa_scan.proofs.Made.{made_body, made_members, made_properties}
 use Rattle.spa_scan.proofs.Opened.{object_inside, struct_inside}
 use Rattle.spa_scan.specs.Depth.{NestsDeeperInside}
-use Rattle.spa_rewrite.specs.Look.{BeginsAsked, Fits, OpensInside, Passes, StandsInside, Stops, StopsAt, Surround}
+use Rattle.spa_rewrite.specs.Look.{BeginsAsked, Fits, OpensInside, Passes, StandsInside, Stops, Surround}
 use Rattle.spa_rewrite.specs.Look.{AreCanonicalInside}
-use Rattle.spa_rewrite.specs.Shorter.{AreShorterInside, BeginsShorter}
+use Rattle.spa_rewrite.specs.Shorter.{BeginsShorter}
 use Rattle.spa_events.specs.Inside.{IsBehindKey, IsInside, key_size}
 use Rattle.spa_rewrite.specs.Offsets.{StandsAt, scope_of}
 use Rattle.spa_rewrite.specs.declared.inside.Waiting.{Waiting}

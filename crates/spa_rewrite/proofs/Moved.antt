@@ -1,5 +1,5 @@
 -- Pods that are replaced by their encodings, and canonical ones behind them, which are moved.
-use Rattle.std.proofs.Common.{◌≡◌, ◌≤◌, ℕ, ◌+◌, ◌-◌, List, [], ◌++◌, length, take, drop, refl, sym, ap, ◌∙◌, subst, arith, length-append, length-drop}
+use Rattle.std.proofs.Common.{◌≡◌, ◌≤◌, ℕ, ◌+◌, ◌-◌, List, [], ◌++◌, length, take, drop, sym, ap, ◌∙◌, subst, arith, length-drop}
 use Rattle.std.proofs.lemmas.List.{drop_at, length-take-le, take-append-drop, take-append-le, take_all, take_at}
 use Rattle.spa_rewrite.specs.Emit.{EncodesAll}
 use Rattle.spa_rewrite.specs.Look.{AreChanged}

@@ -391,9 +391,6 @@ no_short_choice pod size p n v pd =
     let l = b.long in
     absurd (omega arith)
 
-pub short_choice : (pod : List ℕ) (size : ℕ) → IsPodOf pod choice_type size → size < 16 → IsPatched pod pod
-short_choice pod size p n = λ v pd long. absurd (no_short_choice pod size p n v pd)
-
 pub no_few_values : (pod : List ℕ) (size n shape child : ℕ) → IsPodOf pod choice_type size → 16 ≤ size → shape ≡ word_at pod 8 →
     child ≡ word_at pod 16 → ((s : Shape) → shape ≡ shape_number s → n ≡ bytes_taken s child (size - 16)) → size - 16 < n → (v : Tree) → ¬ (IsPod pod v)
 no_few_values pod size n shape child p big w8 w16 taken less v pd =
@@ -421,10 +418,6 @@ no_few_values pod size n shape child p big w8 w16 taken less v pd =
     enough_room step_choice n all child c many t e f r less = let m = mul-le-mul_right c f in omega arith
     enough_room enum_choice n all child c many t e f r less = omega arith
     enough_room flags_choice n all child c many t e f r less = omega arith
-
-pub few_values : (pod : List ℕ) (size n shape child : ℕ) → IsPodOf pod choice_type size → 16 ≤ size → shape ≡ word_at pod 8 →
-    child ≡ word_at pod 16 → ((s : Shape) → shape ≡ shape_number s → n ≡ bytes_taken s child (size - 16)) → size - 16 < n → IsPatched pod pod
-few_values pod size n shape child p big w8 w16 taken less = λ v pd long. absurd (no_few_values pod size n shape child p big w8 w16 taken less v pd)
 
 -- what a pod says of an address
 pub short_address : (pod : List ℕ) (a size : ℕ) → IsPodOf pod pointer_type size → size ≡ 12 → a ≡ word_at pod 16 →

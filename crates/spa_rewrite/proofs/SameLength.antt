@@ -1,9 +1,9 @@
 -- Bodies without members whose rewritings are as long as they are.
-use Rattle.std.proofs.Common.{◌≡◌, ℕ, ◌+◌, ◌≤◌, inl, inr, List, [], ◌++◌, length, refl, sym, ap, ◌∙◌, subst, arith, length-append, length-drop}
-use Rattle.std.specs.Prelude.{◌⊎◌, ◌∷◌, Bool, true, false}
+use Rattle.std.proofs.Common.{◌≡◌, ℕ, ◌+◌, inl, inr, List, [], ◌++◌, length, refl, sym, ap, ◌∙◌, subst, arith, length-append}
+use Rattle.std.specs.Prelude.{◌⊎◌, ◌∷◌}
 use Rattle.std.proofs.lemmas.Bool.{cases_lt}
 use Rattle.std.proofs.lemmas.List.{nil_from_length}
-use Rattle.spa_format.specs.Words.{extent, padded_size, word_at, word_bytes, wide_at}
+use Rattle.spa_format.specs.Words.{padded_size, word_at, word_bytes, wide_at}
 use Rattle.spa_format.specs.Kind.{Kind, Fixed, IsFixedBody, body_size, content, type_number}
 use Rattle.spa_format.specs.Tree.{Shape, shape_number, array, array_type, bitmap, bitmap_type, bytes, bytes_type, choice, fixed, pointer, pointer_type, string, string_type}
 use Rattle.spa_format.specs.Normal.{kept_flags}
@@ -13,10 +13,8 @@ use Rattle.spa_format.proofs.Elements.{array_length, elements_length, same_array
 use Rattle.spa_format.proofs.Choices.{pointer_length}
 use Rattle.spa_format.proofs.Encodings.{length-word_bytes}
 use Rattle.spa_format.proofs.FixedKinds.{fixed_length, kind_of_content}
-use Rattle.spa_bytes.specs.Opening.{Opens}
 use Rattle.spa_scan.specs.Canonical.{IsCanonicalText, IsFixedLen}
 use Rattle.spa_rewrite.specs.Elements.{HasElements, HasValues}
-use Rattle.spa_events.specs.Inside.{IsBehindKey}
 use Rattle.spa_rewrite.specs.Shorter.{IsShorterBody}
 use Rattle.spa_rewrite.proofs.Bodies.{listed}
 
@@ -103,17 +101,3 @@ pointer_same_length body l =
         long = as_long _ _ (ap padded_size (pointer_length (word_at body 0) (word_at body 8)) ∙ sym (ap padded_size e));
       }
     ]
-
--- what follows is shorter
-pub left_shorter : (keyed : Bool) (left here body rest : List ℕ) (type : ℕ) → IsBehindKey keyed left here →
-    Opens here type body rest → length rest + 8 ≤ length left
-left_shorter true left here body rest type k o =
-    let e = ap length o.its_rest ∙ length-drop (extent (word_at here 0)) here in
-    let w = o.there.whole in
-    let d = ap length k.1 ∙ length-drop 8 left in
-    omega arith
-left_shorter false left here body rest type k o =
-    let e = ap length o.its_rest ∙ length-drop (extent (word_at here 0)) here in
-    let w = o.there.whole in
-    let d = ap length k in
-    omega arith

@@ -1,7 +1,7 @@
 -- Pods whose rewritings may be shorter than they are.
 use Rattle.std.proofs.Common.{◌≡◌, ◌≢◌, ℕ, ◌+◌, ◌*◌, ◌/◌, ◌-◌, ◌<◌, ◌≤◌, inl, inr, List, ◌++◌, length, drop, take, refl, sym, ap, ◌∙◌, subst, arith, append_assoc, length-append, length-drop, ◌%◌}
 use Rattle.std.specs.Prelude.{Bool, true, false, max}
-use Rattle.std.proofs.lemmas.List.{length-take-le, nil_from_length, take-append-drop}
+use Rattle.std.proofs.lemmas.List.{length-take-le, nil_from_length}
 use Rattle.spa_format.specs.Words.{body_of, extent, header_size, padded_size, word_at, word_bytes}
 use Rattle.spa_format.specs.Kind.{kind_of}
 use Rattle.spa_format.specs.Tree.{Tree, fixed, string, bytes, bitmap, array, choice, pointer, struct, object, Trees, no_trees, member, Properties, no_properties, property, join_members, choice_type, type_of}
@@ -14,16 +14,15 @@ use Rattle.spa_format.proofs.Elements.{same_array_length}
 use Rattle.spa_format.proofs.Encodings.{length-property_encoding, length-word_bytes, whole_members, whole_properties}
 use Rattle.spa_format.proofs.FixedKinds.{fixed_length}
 use Rattle.spa_format.proofs.Fronts.{front_of_whole, length-body_of}
-use Rattle.spa_format.proofs.Shapes.{object_only, struct_only}
 use Rattle.spa_format.proofs.Short.{length-encoded_pod}
 use Rattle.spa_bytes.specs.Opening.{Opens}
 use Rattle.spa_bodies.proofs.Steps.{pod_read}
 use Rattle.spa_scan.specs.Canonical.{AreCanonical, IsFixedLen}
 use Rattle.spa_scan.specs.Depth.{depth_of, member_depth, property_depth}
 use Rattle.spa_rewrite.specs.Elements.{HasValues}
-use Rattle.spa_rewrite.specs.Shorter.{AreInsideWithin, ArePodsWithin, ArePropertiesWithin, AreShorter, AreShorterInside, BeginsShorter, IsBodyWithin, IsShorterBody}
+use Rattle.spa_rewrite.specs.Shorter.{AreInsideWithin, ArePodsWithin, ArePropertiesWithin, AreShorter, AreShorterInside, BeginsShorter, IsShorterBody}
 use Rattle.spa_events.specs.Inside.{IsBehindKey, IsInside}
-use Rattle.spa_format.proofs.Sequences.{members_joined, members_left}
+use Rattle.spa_format.proofs.Sequences.{members_joined}
 use Rattle.spa_rewrite.proofs.Stretches.{member_encodings-join}
 use Rattle.spa_rewrite.proofs.SameLength.{as_long, kept_length, fixed_same_length}
 use Rattle.spa_rewrite.proofs.Rewritten.{parted}
@@ -166,9 +165,6 @@ first_within levels true left here k l s = subst (FirstWithin levels true) (sym 
         let others : ArePropertiesWithin levels (rest_of behind) = record { values = ps; properties = subst (AreProperties ps) f.2 m.7; shallow = omega arith } in
         record { there = f.0; value = v; pod = subst (λ b. IsPod b v) f.1 m.6; shallow = omega arith; others = others }
 
-never : (b : Bool) → b ≡ true → b ≡ false → ⊥
-never b t f = let e : true ≡ false = sym t ∙ f in cc
-
 pub counts_more : (keyed : Bool) (levels : ℕ) (pods left here rest : List ℕ) (surplus n : ℕ) → CountsOn keyed levels pods left surplus →
     0 < length left → IsBehindKey keyed left here → rest ≡ rest_of here → BeginsShorter here rest n → CountsOn keyed levels pods rest (surplus + n)
 counts_more keyed levels pods left here rest surplus n w l k e c =
@@ -186,12 +182,6 @@ counts_more keyed levels pods left here rest surplus n w l k e c =
     behind_shorter false left here k = let z = ap length k in omega arith
     behind_shorter true left here k = let z = ap length k.1 ∙ length-drop 8 left in omega arith
 
--- none is left
-pub counts_all : (keyed : Bool) (levels : ℕ) (pods left : List ℕ) (surplus : ℕ) → CountsOn keyed levels pods left surplus → length left ≡ 0 →
-    AreShorterInside keyed pods surplus
-counts_all keyed levels pods left surplus w z =
-    subst (AreShorterInside keyed pods) (let e : surplus + 0 ≡ surplus = omega arith in e) (w.ends 0 (shorter_none keyed left z))
-
 -- what is behind other pods
 pub within_behind : (vs : Trees) (first rest : List ℕ) (levels : ℕ) → AreMembers vs first → ArePodsWithin levels (first ++ rest) → ArePodsWithin levels rest
 within_behind no_trees first rest levels m s = subst (ArePodsWithin levels) (ap (λ x. x ++ rest) m) s
@@ -202,10 +192,6 @@ within_behind (member v vs) first rest levels m s =
     let h = f.0.header in
     let behind = (first_within levels false all all refl (omega arith) s).others in
     within_behind vs m.1 rest levels m.4 (subst (ArePodsWithin levels) (sym f.2) behind)
-
-member_depth-join : (vs ws : Trees) → member_depth vs ≤ member_depth (join_members vs ws)
-member_depth-join no_trees ws = omega arith
-member_depth-join (member v vs) ws = let others = member_depth-join vs ws in omega arith
 
 pub shorter_behind : (input first rest : List ℕ) (n : ℕ) → input ≡ first ++ rest → AreCanonical first → AreShorter rest n → AreShorter input n
 shorter_behind input first rest n e c s =
@@ -244,22 +230,6 @@ shorter_inside type body inside true n i s =
     let g = length-drop 8 body in
     let h = i.1 in
     record { value = object t k s.values; its_type = sym i.0; its_body = (i.1, refl, refl, p); long = omega arith }
-
-pub inside_fits : (levels type : ℕ) (body inside : List ℕ) (keyed : Bool) → IsInside type body keyed inside → IsBodyWithin levels type body →
-    (0 < levels) × AreInsideWithin (levels - 1) keyed inside
-inside_fits levels type body inside false i s =
-    let o = struct_only s.value (s.its_type ∙ i.0) in
-    let b : AreMembers o.0 body = subst (λ x. IsBody x body) o.1 s.its_body in
-    let v = ap depth_of o.1 in
-    let d = s.shallow in
-    (omega arith, record { values = o.0; members = subst (AreMembers o.0) (sym i.1) b; shallow = omega arith })
-inside_fits levels type body inside true i s =
-    let o = object_only s.value (s.its_type ∙ i.0) in
-    let b = subst (λ x. IsBody x body) o.3 s.its_body in
-    let p : AreProperties o.2 (drop 8 body) = b.3 in
-    let v = ap depth_of o.3 in
-    let d = s.shallow in
-    (omega arith, record { values = o.2; properties = subst (AreProperties o.2) (sym i.2) p; shallow = omega arith })
 
 -- no other encoding of a value without members is shorter than a body of it, choices aside
 pub same_padded : (v : Tree) (b : List ℕ) → IsBody v b → depth_of v ≡ 0 → type_of v ≢ choice_type → padded_size (length (encoded_body v)) ≡ padded_size (length b)

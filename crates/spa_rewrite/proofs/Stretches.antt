@@ -1,12 +1,10 @@
 -- Pods that are rewritten one after another: canonical ones, accepted ones, and what follows them.
-use Rattle.std.proofs.Common.{◌≡◌, ◌≢◌, ℕ, List, [], ◌++◌, length, refl, sym, ap, ◌∙◌, subst, append_assoc}
+use Rattle.std.proofs.Common.{◌≡◌, ℕ, List, [], ◌++◌, length, refl, sym, ap, ◌∙◌, subst, append_assoc}
 use Rattle.std.proofs.lemmas.List.{append-nil, nil_from_length}
 use Rattle.std.specs.Borrow.{Bor}
-use Rattle.spa_format.specs.Words.{word_bytes}
-use Rattle.spa_format.specs.Tree.{Trees, no_trees, member, Properties, no_properties, property, join_members, join_properties}
+use Rattle.spa_format.specs.Tree.{Trees, no_trees, member, join_members}
 use Rattle.spa_format.specs.Pod.{AreMembers}
-use Rattle.spa_format.specs.Encoding.{encoding_of, member_encodings, property_encodings}
-use Rattle.spa_format.specs.Front.{front_of}
+use Rattle.spa_format.specs.Encoding.{encoding_of, member_encodings}
 use Rattle.spa_format.proofs.Sequences.{members_joined}
 use Rattle.spa_fixed_sized.specs.declared.fault.DeserializeError.{DeserializeError}
 use Rattle.spa_scan.specs.Canonical.{AreCanonical}
@@ -19,20 +17,6 @@ member_encodings-join no_trees ws = refl
 member_encodings-join (member v vs) ws =
     ap (λ l. encoding_of v ++ l) (member_encodings-join vs ws)
     ∙ sym (append_assoc (encoding_of v) (member_encodings vs) (member_encodings ws))
-
-pub property_encodings-join : (ps qs : Properties) →
-    property_encodings (join_properties ps qs) ≡ property_encodings ps ++ property_encodings qs
-property_encodings-join no_properties qs = refl
-property_encodings-join (property k f v ps) qs =
-    let key = word_bytes k in
-    let flags = word_bytes f in
-    let pod = encoding_of v in
-    let first = property_encodings ps in
-    let others = property_encodings qs in
-    ap (λ l. key ++ (flags ++ (pod ++ l))) (property_encodings-join ps qs)
-    ∙ ap (λ l. key ++ (flags ++ l)) (sym (append_assoc pod first others))
-    ∙ ap (λ l. key ++ l) (sym (append_assoc flags (pod ++ first) others))
-    ∙ sym (append_assoc key (flags ++ (pod ++ first)) others)
 
 pub canonical_rewritten : (pods : List ℕ) → AreCanonical pods → AreRewritten pods [] pods
 canonical_rewritten pods k = (k.values, k.members, k.same)

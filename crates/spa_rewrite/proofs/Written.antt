@@ -1,17 +1,15 @@
 -- The first pod of some, and what is behind so many bytes.
-use Rattle.std.proofs.Common.{◌≡◌, ℕ, ◌+◌, ◌-◌, ◌<◌, ◌≤◌, List, [], ◌++◌, length, drop, take, sym, ap, ◌∙◌, subst, arith, length-drop}
+use Rattle.std.proofs.Common.{◌≡◌, ℕ, ◌+◌, ◌-◌, ◌≤◌, List, ◌++◌, length, drop, take, sym, ap, ◌∙◌, arith, length-drop}
 use Rattle.std.specs.Prelude.{Bool, true, false}
 use Rattle.std.proofs.Math.Seq.{take-add}
 use Rattle.std.proofs.lemmas.List.{drop-drop, drop_at, length-take-le, take_at}
-use Rattle.spa_format.specs.Words.{extent, header_size, word_at}
-use Rattle.spa_format.specs.Front.{HasFront, front_of}
+use Rattle.spa_format.specs.Words.{extent, word_at}
+use Rattle.spa_format.specs.Front.{front_of}
 use Rattle.spa_format.proofs.Fronts.{length-body_of}
 use Rattle.spa_format.proofs.WordLemmas.{word_at-take}
 use Rattle.spa_bytes.specs.Opening.{Opens}
-use Rattle.spa_rewrite.specs.Placed.{ArePlaced}
 use Rattle.spa_events.specs.Inside.{IsBehindKey, key_size}
 use Rattle.spa_rewrite.specs.Patched.{IsPodOf}
-use Rattle.spa_rewrite.proofs.Places.{few_placed, none_placed}
 
 -- what is behind the key
 pub here_is : (keyed : Bool) (left here : List ℕ) → IsBehindKey keyed left here → (key_size keyed ≤ length left) × (here ≡ drop (key_size keyed) left)
@@ -58,9 +56,3 @@ pub further_behind : (a b : List ℕ) (n m : ℕ) → n ≤ m → drop n a ≡ d
 further_behind a b n m l e =
     let k : m ≡ n + (m - n) = omega arith in
     ap (λ i. drop i a) k ∙ sym (drop-drop (m - n) n a) ∙ ap (drop (m - n)) e ∙ drop-drop (m - n) n b ∙ ap (λ i. drop i b) (sym k)
-
-pub no_key : (keyed : Bool) (left : List ℕ) → (keyed ≡ true) × (length left < header_size) → ArePlaced keyed left []
-no_key keyed left s = let k = ap key_size s.0 in let l = s.1 in few_placed keyed left (omega arith)
-
-pub no_front : (keyed : Bool) (left here : List ℕ) → IsBehindKey keyed left here → ¬ (HasFront here) → ArePlaced keyed left []
-no_front keyed left here k n = none_placed keyed left (subst (λ x. ¬ (HasFront x)) (here_is keyed left here k).1 n)

@@ -1,7 +1,7 @@
 -- Pieces of lists of bytes.
 use Rattle.spa_format.specs.Words.{word_bytes}
-use Rattle.std.proofs.Common.{◌≡◌, ℕ, ◌+◌, ◌≤◌, List, [], ◌∷◌, ◌++◌, length, replicate, take, drop, refl, sym, ap, suc, ◌∙◌, arith, append_assoc, length-append, length-take, length-drop}
-use Rattle.std.proofs.lemmas.List.{append-nil, drop-append-le, length-take-le, take_at, take-append-drop, take-append-le, take-replicate, take-take}
+use Rattle.std.proofs.Common.{◌≡◌, ℕ, ◌+◌, ◌≤◌, List, [], ◌∷◌, ◌++◌, length, take, drop, refl, sym, ap, suc, ◌∙◌, arith, append_assoc, length-append, length-take, length-drop}
+use Rattle.std.proofs.lemmas.List.{drop-append-le, length-take-le, take_at, take-append-drop, take-append-le}
 
 -- all of the first list, and a beginning of the second
 pub take_into : (xs ys zs : List ℕ) (n k : ℕ) → length xs ≡ n → k ≤ length ys →
@@ -45,17 +45,6 @@ length-over xs ys zs at k z e h =
     let l2 = length-append ys zs in
     let l3 = ap length z ∙ length-drop k xs in
     omega arith
-
--- all of the first list, and a beginning of eight zeros behind it
-pub zeros_over : (xs ys : List ℕ) (n k : ℕ) → n ≤ length xs → k ≤ 8 →
-    take (n + 8) ys ≡ take n xs ++ replicate 8 0 →
-    take (n + k) ys ≡ take n xs ++ replicate k 0
-zeros_over xs ys n k l h e =
-    let m = length-take-le n xs l in
-    sym (take-take (n + k) (n + 8) ys (omega arith))
-    ∙ ap (take (n + k)) (e ∙ ap (λ r. take n xs ++ r) (sym (append-nil (replicate 8 0))))
-    ∙ take_into (take n xs) (replicate 8 0) [] n k m h
-    ∙ ap (λ r. take n xs ++ r) (take-replicate k 8 0 h)
 
 -- two words
 pub length-two : (a b : ℕ) → length (word_bytes a ++ word_bytes b) ≡ 8

@@ -1,7 +1,6 @@
 -- How many pods a value is.
-use Rattle.std.proofs.Common.{◌≡◌, Vec, Global, ℕ, ◌+◌, ◌*◌, ◌<◌, ◌≤◌, List, [], ◌∷◌, ◌++◌, length, arith, ap, ◌∙◌, length-append}
+use Rattle.std.proofs.Common.{◌≡◌, Vec, Global, ℕ, ◌+◌, ◌*◌, ◌≤◌, List, length, arith, ap}
 use Rattle.std.specs.List.{sum_by}
-use Rattle.std.proofs.lemmas.List.Sums.{sum_by-append}
 use Rattle.spa_format.specs.Tree.{Tree, node_count, member_node_count, property_node_count, fixed, bytes, bitmap, array, choice, pointer, struct, object}
 use Rattle.spa_value.specs.declared.object.Object.{Object, out-Object}
 use Rattle.spa_value.specs.declared.value.Value.{Value}
@@ -39,24 +38,3 @@ begun_count b = left_count b.left
 -- for each value that is left two, and one for each that is begun around the innermost
 abbrev pub steps_left : Begun → List Begun → ℕ
 steps_left b outer = length outer + 2 * (left_count b.left + sum_by begun_count outer)
-
-one_more : (outer more : List Begun) (b : Begun) → more ≡ outer ++ b ∷ [] → sum_by begun_count more ≡ sum_by begun_count outer + left_count b.left
-one_more outer more b e =
-    let s : sum_by begun_count (outer ++ b ∷ []) ≡ sum_by begun_count outer + (0 + left_count b.left) = sum_by-append begun_count outer (b ∷ []) in
-    omega (arith, ap (sum_by begun_count) e, s)
-
-pub ended_less : (b around : Begun) (outer rest : List Begun) → outer ≡ rest ++ around ∷ [] → steps_left around rest < steps_left b outer
-ended_less b around outer rest e =
-    let n = one_more rest outer around e in
-    let l = ap length e ∙ length-append rest (around ∷ []) in
-    omega (arith, n, l)
-
-pub printed_less : (b rest : Begun) (outer : List Begun) → left_count rest.left + 1 ≤ left_count b.left → steps_left rest outer < steps_left b outer
-printed_less b rest outer h = omega (arith, h)
-
-pub begun_less : (b rest i : Begun) (outer more : List Begun) → more ≡ outer ++ rest ∷ [] →
-    left_count i.left + left_count rest.left + 1 ≤ left_count b.left → steps_left i more < steps_left b outer
-begun_less b rest i outer more e h =
-    let n = one_more outer more rest e in
-    let l = ap length e ∙ length-append outer (rest ∷ []) in
-    omega (arith, n, l, h)

@@ -86,10 +86,6 @@ properties_done t m o p q e d f h = (
       ∙ ap (λ l. o ++ property_tokens t (property_views l)) (sym (empty m e)),
 )
 
--- a key and flags
-front : Table → ℕ → ℕ → List Token
-front t k f = Token.key (key_text t k) ∷ flags_front f
-
 begun_so : (b : Bool) (t : Table) (k f : ℕ) (o q : List Token) → BeginsProperty b t k f o q → q ≡ o ++ (Token.key (key_text t k) ∷ flags_front f)
 begun_so b t k f o q a =
     a.appended ∙ ap (λ x. o ++ (Token.key x ∷ a.ts)) a.named ∙ ap (λ l. o ++ (Token.key (key_text t k) ∷ l)) a.exact

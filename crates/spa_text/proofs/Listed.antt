@@ -83,9 +83,6 @@ one_listed c k x o n e w = record {
   exact = λ h. w.exact h.0 ∙ sym (append-nil (fixed_tokens c x));
 }
 
-pub none_listed : (c : Expected) (k : Kind) (o : List Token) → Lists c k [] o o
-none_listed c k o = record { ts = []; appended = sym (append-nil o); listed = λ ys us rest more. more; exact = λ h. refl }
-
 -- of two lists one behind the other
 no_floats : (xs ys : List Fixed) → AreNoFloats (xs ++ ys) → AreNoFloats xs × AreNoFloats ys
 no_floats [] ys h = (tt, h)

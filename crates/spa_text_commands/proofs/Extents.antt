@@ -221,17 +221,3 @@ line_fits bytes left first line column so = so.line_room
 
 pub column_fits : (bytes left : List ℕ) (first line column : ℕ) → Placed bytes left first line column → column + length left ≤ 1 + length bytes
 column_fits bytes left first line column so = so.column_room
-
-pub lines_append : (n : ℕ) (xs ys : List ℕ) → line_behind n (xs ++ ys) ≡ line_behind (line_behind n xs) ys
-lines_append n [] ys = refl
-lines_append n (x ∷ xs) ys = lines_append (if x == 10 then n + 1 else n) xs ys
-
-more_or_not : (b : Bool) (n : ℕ) → (if b then n + 1 else n) ≤ n + 1
-more_or_not true n = omega arith
-more_or_not false n = omega arith
-
-pub line_bound : (n : ℕ) (xs : List ℕ) → line_behind n xs ≤ n + length xs
-line_bound n [] = omega arith
-line_bound n (x ∷ xs) =
-    let h = line_bound (if x == 10 then n + 1 else n) xs in
-    let k = more_or_not (x == 10) n in omega (arith, h, k)

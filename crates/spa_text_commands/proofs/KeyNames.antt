@@ -82,22 +82,12 @@ one_more P start at before is n low high = elim (cases_eq n at) [
   | inr other ↦ before n low (omega (arith, high, other))
 ]
 
-or_right : (a b : Bool) → b ≡ true → (a || b) ≡ true
-or_right true b is = refl
-or_right false b is = is
-
 either : (a b : Bool) → (a || b) ≡ true → (a ≡ true) ⊎ (b ≡ true)
 either true b is = inl refl
 either false b is = inr is
 
 within : (low high n : ℕ) → (nat_le low n && nat_lt n high) ≡ true → (low ≤ n) × (n < high)
 within low high n is = let parts = both (nat_le low n) (nat_lt n high) is in (leb-true low n parts.0, leb-true (suc n) high parts.1)
-
--- a name is a key's number
-pub by_number : (name : List ℕ) → ((key : ℕ) × (key < 2 ^ 32) × (decimal key ≡ name)) → HasKeyNamed name
-by_number name is =
-    let digits : bytes_eq (decimal is.0) name ≡ true = (bytes_eq-Decides (decimal is.0) name).1 is.2 in
-    (0, is.0, is.1, or_right (option_map_or (λ path. is_end_of path name) (path_of (keys_of (record { 0 = 0 })) is.0) false) (bytes_eq (decimal is.0) name) digits)
 
 -- or else a key's name
 has_path : (path : Option (List ℕ)) (key : ℕ) (name : List ℕ) → decimal key ≢ name → (option_map_or (λ p. is_end_of p name) path false || bytes_eq (decimal key) name) ≡ true →

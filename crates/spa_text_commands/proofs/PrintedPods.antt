@@ -1,17 +1,16 @@
 -- What is printed, pod by pod.
-use Rattle.std.proofs.Common.{◌≡◌, ◌≢◌, ℕ, List, [], ◌∷◌, ◌++◌, refl, sym, arith, length, ◌∙◌, ap, subst, append_assoc, append-nil}
+use Rattle.std.proofs.Common.{◌≡◌, ℕ, List, [], ◌∷◌, ◌++◌, refl, sym, arith, length, ◌∙◌, ap, subst, append_assoc, append-nil}
 use Rattle.std.specs.Prelude.{Result, Ok, Err, IfErr}
 use Rattle.std.specs.Result.{IsErrAnd}
 use Rattle.std.proofs.lemmas.List.{take-append-drop}
 use Rattle.spa_format.specs.Words.{extent, word_at}
-use Rattle.spa_format.specs.Front.{Begins, IsRefused, front_of, rest_of}
+use Rattle.spa_format.specs.Front.{Begins, front_of, rest_of}
 use Rattle.spa_format.specs.Pod.{AreMembers}
 use Rattle.spa_format.specs.Tree.{Tree, Trees, no_trees, member, join_members}
 use Rattle.spa_format.proofs.Refused.{refused_behind_members}
 use Rattle.spa_format.proofs.Sequences.{members_joined, members_push}
 use Rattle.spa_fixed_sized.specs.declared.fault.DeserializeError.{DeserializeError}
 use Rattle.spa_fixed_sized.specs.declared.fault.DeserializeError.TheVariants as error
-use Rattle.spa_bodies.specs.Reading.{OnFault}
 use Rattle.spa_text_commands.specs.Unread.{AddsTexts, IsNoFront, IsStopped}
 use Rattle.spa_text_commands.specs.Texts.{AreTexts, IsTextIn, Prints, RefusesPods}
 use Rattle.spa_text_commands.specs.declared.printing.Layout.{Layout}
@@ -84,14 +83,6 @@ pub ends : (layout : Layout) (mark start left old out : List ℕ) → PrintedSoF
 ends layout mark start left old out so e =
     let all : start ≡ so.first = so.whole ∙ ap (λ l. so.first ++ l) (empty left e) ∙ append-nil so.first in
     (so.values, so.lines, subst (AreMembers so.values) (sym all) so.members, so.texts, so.made)
-
--- a refusal that isn't for lack of memory
-fault_holds : {I : Type 0} (P : Type 0) (e : DeserializeError I) → e ≢ error.OutOfMemory → OnFault P e → P
-fault_holds P error.OutOfMemory h p = absurd (h refl)
-fault_holds P _ h p = p
-
-pub no_front : {I : Type 0} (left : List ℕ) (e : DeserializeError I) → e ≢ error.OutOfMemory → OnFault (IsRefused left) e → IsRefused left
-no_front left e fault refused = fault_holds (IsRefused left) e fault refused
 
 pub stops : (layout : Layout) (mark start left old out : List ℕ) (why : Failure) → PrintedSoFar layout mark start left old out →
     ¬ (length left ≡ 0) → IsNoFront left why → IsStopped start why

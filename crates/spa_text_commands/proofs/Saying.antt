@@ -8,7 +8,7 @@ use Rattle.spa_format.specs.Front.{HasFront, front_of, rest_of}
 use Rattle.spa_format.specs.Walk.{walk}
 use Rattle.spa_format.specs.Fixation.{walk_size}
 use Rattle.spa_format.proofs.WalkLemmas.{walk-end, walk-there}
-use Rattle.spa_text_commands.specs.Lines.{Adds, AddsParts, AddsPodLines, AreLines, IsCounted, Lists, MayAdd, PrintsPart, PrintsParts, head_line}
+use Rattle.spa_text_commands.specs.Lines.{Adds, AddsParts, AreLines, IsCounted, Lists, MayAdd, PrintsPart, PrintsParts}
 use Rattle.spa_text_commands.specs.Parts.{parts_joined}
 use Rattle.spa_text_commands.specs.Selection.{Part, selected, selected_of}
 use Rattle.spa_text_commands.specs.declared.selection.Form.{Form}
@@ -56,9 +56,6 @@ behind a b c x y e f = f ∙ ap (λ z. z ++ y) e ∙ append_assoc a x y
 lines_more : (x y : List ℕ) → AreLines y → AreLines (x ++ y)
 lines_more x y h = (x ++ h.0, ap (λ z. x ++ z) h.1 ∙ sym (append_assoc x h.0 (10 ∷ [])))
 
-pub line_added : (a b l m : List ℕ) → m ≡ l ++ (10 ∷ []) → b ≡ a ++ m → Adds a b
-line_added a b l m ended added = record { said = m; added = added; lines = (l, ended) }
-
 pub adds_adds : (a b c : List ℕ) → Adds a b → Adds b c → Adds a c
 adds_adds a b c s t = record {
   said = s.said ++ t.said;
@@ -76,12 +73,6 @@ adds_may a b c s t = record {
   ];
 }
 
-pub may_nothing : (a : List ℕ) → MayAdd a a
-may_nothing a = record { said = []; added = sym (append-nil a); lines = inl refl }
-
-pub may_adds : (a b : List ℕ) → Adds a b → MayAdd a b
-may_adds a b s = record { said = s.said; added = s.added; lines = inr s.lines }
-
 -- what holds whatever the result is
 pub on_any : {T E : Type 0} {P : Type 0} (r : Result T E) → P → OnOk r P
 on_any (Ok x) p = p
@@ -90,14 +81,6 @@ on_any (Err e) p = tt
 pub ok_may : {T E : Type 0} (r : Result T E) (a b c : List ℕ) → Adds a b → OnOk r (MayAdd b c) → OnOk r (Adds a c)
 ok_may (Ok x) a b c s t = adds_may a b c s t
 ok_may (Err e) a b c s t = tt
-
--- a line stands before a pod's lines
-pub pod_lines : (part : Part) (a b c : List ℕ) → b ≡ a ++ head_line part.count part.place → Adds b c → AddsPodLines part a c
-pod_lines part a b c is s = record {
-  out = head_line part.count part.place ++ s.said;
-  lines = (s.said, s.lines, refl);
-  added = behind a b c (head_line part.count part.place) s.said is s.added;
-}
 
 -- ---- Pods
 

@@ -1,13 +1,13 @@
 -- Texts that end with their first line.
-use Rattle.std.proofs.Common.{◌≡◌, ◌≢◌, ◌≤◌, ℕ, suc, subst, ◌+◌, ◌-◌, List, [], ◌∷◌, ◌++◌, refl, sym, inl, inr, arith, length, take, ◌∙◌, ap, length-append, append_assoc}
+use Rattle.std.proofs.Common.{◌≡◌, ◌≢◌, ◌≤◌, ℕ, suc, subst, ◌+◌, ◌-◌, List, [], ◌∷◌, ◌++◌, refl, sym, inl, inr, arith, length, ◌∙◌, ap, length-append, append_assoc}
 use Rattle.std.proofs.lemmas.Bool.Decides.{nat_tests}
 use Rattle.std.specs.Prelude.{◌⊎◌, Bool, cond, drop, true, false, ◌==◌, ◌&&◌, ◌||◌, if◌then◌else◌}
 use Rattle.std.specs.List.{prefix_len}
 use Rattle.json.specs.Ascii.{backslash}
 use Rattle.json.specs.Run.{is_plain}
-use Rattle.spa_text_commands.specs.Extent.{BeginsText, outside, within, escaped, behind_text, first_text, place_behind}
+use Rattle.spa_text_commands.specs.Extent.{outside, within, escaped, behind_text, first_text, place_behind}
 use Rattle.spa_text_commands.specs.Splitting.{ClosesString}
-use Rattle.spa_text_commands.proofs.Extents.{Passed, one_passed, text_passed}
+use Rattle.spa_text_commands.proofs.Extents.{Passed, one_passed}
 
 is_none : (x y : ℕ) → x ≢ y → (x == y) ≡ false
 is_none x y h = grind (arith, nat_tests)
@@ -130,10 +130,3 @@ plain_passed bytes left behind n x so e f q a b c d =
     ∙ ap (λ t. if t then n + 1 else if x == 125 || x == 93 then n - 1 else n) (is_none x 91 b)
     ∙ ap (λ t. if t || x == 93 then n - 1 else n) (is_none x 125 c)
     ∙ ap (λ t. if t then n - 1 else n) (is_none x 93 d)))
-
--- the line ends
-pub line_passed : (bytes left behind text : List ℕ) (n x k : ℕ) → Passed bytes left outside n → left ≡ x ∷ behind → x ≡ 10 → n ≡ 0 → k ≡ length bytes - length left →
-    text ≡ take k bytes → bytes ≢ [] → BeginsText bytes text behind
-line_passed bytes left behind text n x k so e f z at cut some =
-    let end : (x == 10 && n == 0) ≡ true = ap (λ y. y == 10 && n == 0) f ∙ ap (λ m. m == 0) z in
-    text_passed bytes left behind text outside n x k (x == 10 && n == 0) so e refl end at cut some

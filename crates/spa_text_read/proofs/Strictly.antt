@@ -299,11 +299,6 @@ pub whole_admitted : (s : Strictness) (f e : Frame) (k : List Frame) (ts us : Li
 whole_admitted Plain f e k ts us v a q p = tt
 whole_admitted Strict f e k ts us v a q p = subst Onward (q ∙ ap (λ o. give_ended o [] us) p) (onward f k ts a.0 a.1)
 
--- a value without members is admitted
-pub leaf_admitted : (s : Strictness) (l : Leaf) (v : Tree) → tree l ≡ v → Admits s v
-leaf_admitted Plain l v e = tt
-leaf_admitted Strict l v e = subst Fits e (leaf_fits l)
-
 -- where the last property isn't admitted, no value of the whole is
 pub none_admitted : (s : Strictness) (all : List Token) (f g : Frame) (k l : List Frame) (ts us : List Token) → IsReading s all f k ts →
     step f k ts ≡ goes g l us → ¬ (AdmitsLast s g) → AdmitsNone s all

@@ -1,8 +1,8 @@
 -- Structs that are read member by member, and what is refused of them.
-use Rattle.std.proofs.Common.{◌≡◌, ◌≢◌, ℕ, List, [], length, drop, refl, sym, ap, ◌∙◌, subst, arith, inl, inr, length-append}
+use Rattle.std.proofs.Common.{◌≡◌, ◌≢◌, ℕ, List, drop, refl, sym, ap, ◌∙◌, subst, arith, inl, inr}
 use Rattle.std.specs.Borrow.{Bor}
 use Rattle.spa_format.specs.Words.{body_of, header_size, word_at}
-use Rattle.spa_format.specs.Tree.{Tree, Trees, Properties, member, no_trees, object, object_type, struct_type, type_of}
+use Rattle.spa_format.specs.Tree.{Tree, Trees, Properties, member, object, object_type, struct_type, type_of}
 use Rattle.spa_format.specs.Pod.{AreMembers, AreProperties, IsBody, IsPod}
 use Rattle.spa_format.specs.Front.{HasFront, Begins, rest_of}
 use Rattle.spa_format.proofs.Refused as format
@@ -18,22 +18,6 @@ use Rattle.spa_typed_read.specs.Lookup.{HoldsDeep, ReadsObject, TakesIn}
 use Rattle.spa_typed_read.specs.Members.{ObjectReader, OpensObject, OpensStruct, Reader}
 use Rattle.spa_bodies.specs.Reading.{IsShortAt, OnFault, OnMemory}
 use Rattle.spa_typed_read.proofs.Asking.{front_refused}
-
--- where nothing is left, there is no member
-no_member : (b : List ℕ) (v : Tree) (vs : Trees) → b ≡ [] → ¬ (AreMembers (member v vs) b)
-no_member b v vs e m =
-    let parts = ap length m.2 ∙ length-append m.0 m.1 in
-    let none = ap length e in
-    let whole = m.3.whole in
-    absurd (omega (arith, parts, none, whole))
-
-pub none_unread : {A R : Type 0} (reads : Tree → A → Type 0) (others : Trees → R → Type 0) (b : List ℕ) → b ≡ [] →
-    AreUnread (λ vs (x : A × R). ReadsFirst reads others vs x.0 x.1) b
-none_unread reads others b e vs x m r = no_member b r.first r.behind e (subst (λ ws. AreMembers ws b) r.is m)
-
--- where something is left, there is one
-pub some_unread : (b : List ℕ) → b ≢ [] → AreUnread (λ vs (x : Unit {0}). vs ≡ no_trees) b
-some_unread b n vs x m e = n (subst (λ ws. AreMembers ws b) e m)
 
 -- the first one isn't read
 pub first_unread : {A R : Type 0} (reads : Tree → A → Type 0) (others : Trees → R → Type 0) (b : List ℕ) → IsUnread reads b →

@@ -1,7 +1,6 @@
 -- Values that are read through None choices.
 use Rattle.std.proofs.Common.{◌≡◌, List, ℕ, inl, inr, subst, arith}
 use Rattle.std.specs.Borrow.{Bor}
-use Rattle.spa_format.specs.Words.{word_at}
 use Rattle.spa_format.specs.Kind.{Kind}
 use Rattle.spa_format.specs.Faults.{Stands}
 use Rattle.spa_fixed_sized.specs.declared.fault.Refusal.{Refusal}

@@ -1,10 +1,10 @@
 -- How the calls of a reader of members or properties add up: what the author of a visitor cites.
-use Rattle.std.proofs.Common.{◌≡◌, ◌≢◌, ℕ, ◌<◌, ◌≤◌, Bool, true, false, List, [], ◌∷◌, ◌++◌, length, drop, refl, sym, subst, ◌∙◌, ap, arith, append_assoc, length-drop, inl, inr, ⊎_elim}
+use Rattle.std.proofs.Common.{◌≡◌, ◌≢◌, ℕ, ◌<◌, ◌≤◌, Bool, true, false, List, [], ◌∷◌, ◌++◌, length, drop, refl, sym, subst, ◌∙◌, ap, arith, append_assoc, inl, inr, ⊎_elim}
 use Rattle.std.proofs.lemmas.Bool.{cases_lt}
 use Rattle.std.specs.Prelude.{⊤}
 use Rattle.std.specs.Borrow.{Bor}
 use Rattle.std.proofs.lemmas.List.{append-nil}
-use Rattle.spa_format.specs.Words.{word_at, header_size, extent}
+use Rattle.spa_format.specs.Words.{header_size}
 use Rattle.spa_format.specs.Tree.{Tree, Trees, no_trees, member, join_members, Properties, no_properties, property, join_properties}
 use Rattle.spa_format.specs.Pod.{AreMembers, AreProperties, IsPod}
 use Rattle.spa_format.specs.Front.{IsRefused, front_of}
@@ -31,23 +31,12 @@ use Rattle.spa_bodies.proofs.Steps.{parted}
 begun_with : (input rest : List ℕ) (P : Tree → Type 0) → (r : IsRead input rest P) → BeginsWith input r.value rest
 begun_with input rest P r = record { begins = r.begins; follows = r.follows }
 
--- and is shorter
-rest_shorter : (input rest : List ℕ) (P : Tree → Type 0) → IsRead input rest P → length rest < length input
-rest_shorter input rest P r =
-    let size = word_at input 0 in
-    let there = r.begins.there.whole in
-    let behind = ap length r.follows ∙ length-drop (extent size) input in
-    omega arith
-
 -- Members of a struct.
 
 pub further_same : (r : Reader) → Further r r
 further_same r = record {
   ahead = λ good. record { members = no_trees; seen = []; good = good; left = refl; are = refl; after = refl };
 }
-
-pub further_failed : (a b : Reader) → b.failed ≡ true → Further a b
-further_failed a b failed = record { ahead = λ good. absurd (cc (failed, good)) }
 
 pub further_field : (a b : Reader) (P : Tree → Type 0) → TakesField a b P → Further a b
 further_field a b P f =
@@ -79,10 +68,6 @@ further_trans a b c f g = record {
       };
 }
 
--- no member is left
-pub all_none : (r : Reader) → AtEnd r → AllMembers r (λ vs. vs ≡ no_trees)
-all_none r e = record { members = no_trees; are = e.none_left; holds = refl }
-
 -- a member and the members behind it, for which these facts hold
 pub record Behind (P : Tree → Type 0) (Q : Trees → Type 0) (vs : Trees) : Type 0 where
   pub first : Tree
@@ -104,27 +89,12 @@ all_field a b P Q f more =
 pub all_as : (a : Reader) (P Q : Trees → Type 0) → ((vs : Trees) → P vs → Q vs) → AllMembers a P → AllMembers a Q
 all_as a P Q to m = record { members = m.members; are = m.are; holds = to m.members m.holds }
 
--- a member of this value, and these members behind it
-pub all_member : (a b : Reader) (v : Tree) (ws : Trees) → TakesField a b (λ w. w ≡ v) → AllMembers b (λ vs. vs ≡ ws) →
-    AllMembers a (λ vs. vs ≡ member v ws)
-all_member a b v ws f more =
-    let all = all_field a b (λ w. w ≡ v) (λ vs. vs ≡ ws) f more in
-    record {
-      members = all.members;
-      are = all.are;
-      holds = all.holds.is ∙ ap (λ w. member w all.holds.others) all.holds.first_is ∙ ap (member v) all.holds.others_are;
-    }
-
 -- all that was left, where the reader has come to its end
 pub all_left : (a b : Reader) → Further a b → AtEnd b → AllMembers a (λ _. ⊤)
 all_left a b f e =
     let h = f.ahead e.good in
     let whole : a.left ≡ h.seen = h.left ∙ ap (λ l. h.seen ++ l) e.none_left ∙ append-nil h.seen in
     record { members = h.members; are = subst (AreMembers h.members) (sym whole) h.are; holds = tt }
-
--- a member is shorter than what was left
-pub field_shorter : (a b : Reader) (P : Tree → Type 0) → TakesField a b P → length b.left < length a.left
-field_shorter a b P f = rest_shorter a.left b.left P f.field
 
 -- What is refused further on.
 
@@ -207,12 +177,6 @@ took_field a b c vs v t f = record {
       };
 }
 
-pub took_all : (a b : Reader) (vs : Trees) → Took a b vs → AtEnd b → AllMembers a (λ ws. ws ≡ vs)
-took_all a b vs t e =
-    let h = t.ahead e.good in
-    let whole : a.left ≡ h.seen = h.left ∙ ap (λ l. h.seen ++ l) e.none_left ∙ append-nil h.seen in
-    record { members = vs; are = subst (AreMembers vs) (sym whole) h.are; holds = refl }
-
 -- Properties of an object.
 
 pub same_object : (r : ObjectReader) → IsOfObject r r
@@ -226,9 +190,6 @@ further_in_same r = record {
   ahead = λ good. record { properties = no_properties; seen = []; good = good; left = refl; are = refl; after = refl; object = same_object r };
   object = same_object r;
 }
-
-pub further_in_failed : (a b : ObjectReader) → IsOfObject a b → b.reader.failed ≡ true → FurtherIn a b
-further_in_failed a b o failed = record { ahead = λ good. absurd (cc (failed, good)); object = o }
 
 pub further_property : (a b : ObjectReader) (key flags : ℕ) (P : Tree → Type 0) → TakesProperty a b key flags P → FurtherIn a b
 further_property a b key flags P t =
@@ -310,14 +271,6 @@ all_left_in a b f e =
     let whole : a.reader.left ≡ h.seen = h.left ∙ ap (λ l. h.seen ++ l) e.none_left ∙ append-nil h.seen in
     record { properties = h.properties; are = subst (AreProperties h.properties) (sym whole) h.are; holds = tt }
 
--- a property is shorter than what was left
-pub property_shorter : (a b : ObjectReader) (key flags : ℕ) (P : Tree → Type 0) → TakesProperty a b key flags P →
-    length b.reader.left < length a.reader.left
-property_shorter a b key flags P t =
-    let behind = rest_shorter (drop header_size a.reader.left) b.reader.left P t.value in
-    let cut = length-drop 8 a.reader.left in
-    omega arith
-
 -- an object's reader's calls took these properties, and it hasn't failed
 pub record AheadInBy (lent now : ObjectReader) (ps : Properties) : Type 0 where
   pub seen : List ℕ
@@ -363,12 +316,6 @@ took_property a b c ps key flags v t f = record {
       };
   object = object_trans a b c t.object f.object;
 }
-
-pub took_all_in : (a b : ObjectReader) (ps : Properties) → TookIn a b ps → AtEnd b.reader → AllProperties a (λ qs. qs ≡ ps)
-took_all_in a b ps t e =
-    let h = t.ahead e.good in
-    let whole : a.reader.left ≡ h.seen = h.left ∙ ap (λ l. h.seen ++ l) e.none_left ∙ append-nil h.seen in
-    record { properties = ps; are = subst (AreProperties ps) (sym whole) h.are; holds = refl }
 
 -- where what is left of them is refused, what was left before is refused as properties
 pub properties_refused : (a b : ObjectReader) (e : DeserializeError (Bor (List ℕ))) → FurtherIn a b → b.reader.failed ≡ false →

@@ -29,11 +29,6 @@ LacksObject b (error.Nom f) = (f.input.now ≡ b) × LacksBytes object_type b f.
 LacksObject b error.WrongSize = HasFront b × (word_at b 4 ≡ object_type) × (length (body_of b) < header_size)
 LacksObject b _ = ⊥
 
--- the refusal is `Tag` at this input: its type number isn't the one asked for
-abbrev pub IsTagAt : List ℕ → DeserializeError (Bor (List ℕ)) → Type 0
-IsTagAt b (error.Nom f) = (f.kind ≡ fault_kind.Tag) × (f.input.now ≡ b)
-IsTagAt b _ = ⊥
-
 -- what a typed read asks for: a pod of a type, an array over a kind, or a choice over a kind
 pub data Asked : Type 0 where
   of_type : ℕ → Asked

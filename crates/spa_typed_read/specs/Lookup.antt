@@ -26,11 +26,6 @@ HasFirst key P ps = MatchOption (value_under key ps) ⊥ P
 abbrev pub LacksProperty : ℕ → Properties → Type 0
 LacksProperty key ps = value_under key ps ≡ None
 
--- these properties, with one more at the front that has this key and no flags, where there is a value for it
-abbrev pub optional_property : {X : Type 0} → ℕ → (X → Tree) → Option X → Properties → Properties
-optional_property key says None ps = ps
-optional_property key says (Some x) ps = property key 0 (says x) ps
-
 -- these bytes are no properties one after another
 abbrev pub AreNoProperties : List ℕ → Type 0
 AreNoProperties b = (ps : Properties) → ¬ (AreProperties ps b)

@@ -4,18 +4,17 @@ use Rattle.std.specs.Prelude.{drop, max}
 use Rattle.std.proofs.lemmas.List.{append-nil, take-append-drop}
 use Rattle.spa_sink.specs.declared.gen_error.GenError.{GenError}
 use Rattle.spa_sink.specs.declared.gen_error.GenError.TheVariants.{Full, TooLarge, NulInText, WrongCount, Failed, Io, OutOfMemory}
-use Rattle.spa_sink.specs.Writing.{Begun, MayRefuse, RefusedFor, RefusesPiece, Sent, none_sent, some_sent}
+use Rattle.spa_sink.specs.Writing.{Begun, MayRefuse, RefusedFor, Sent, none_sent, some_sent}
 use Rattle.spa_format.specs.Words.{header_size, size_limit, word_bytes}
 use Rattle.spa_format.specs.Tree.{Tree, Trees, Properties, member, no_trees, no_properties, object, object_type, property, struct, struct_type}
 use Rattle.spa_format.specs.Encoding.{encoded_body, encoding_of, member_encodings, property_encodings}
 use Rattle.spa_format.proofs.Encodings.{key_words, length-encoded_pod, property_encoding, two_words_length, whole_members, whole_properties}
 use Rattle.spa_sink.proofs.Sending.{RefusesAfter, RefusesLonger}
-use Rattle.spa_format.specs.Writable.{HasNul, IsTooLarge}
 use Rattle.spa_scan.specs.Depth.{depth_of, member_depth, property_depth}
 use Rattle.spa_write.specs.DeepValues.{LacksMemory}
 use Rattle.spa_typed_write.specs.Parts.{ArePropertyParts, AreParts, IsPart, beginning, last_key, last_member, last_value, no_member, no_property, open_object, open_struct, whole_member, whole_property}
 use Rattle.spa_typed_write.specs.Complete.{AreWritten, ArePropertiesWritten, IsWritten, KeepsBytes, RefusesBytes, RefusesMembers, RefusesProperties, RefusesValue}
-use Rattle.spa_bodies.specs.Written.{Appending, IsClosed, IsExtended, IsPut, RefusesLeaf, Refusing, begun_length}
+use Rattle.spa_bodies.specs.Written.{Appending, IsClosed, IsExtended, Refusing, begun_length}
 use Rattle.spa_bodies.proofs.Frames.{begun_size, closed_encoding}
 
 -- The law of an output, as its trait has it.
@@ -98,10 +97,6 @@ keeps_as a b f h = record { behind = h.behind; bytes = h.bytes; part = f h.behin
 
 -- What an output may refuse.
 
-pub may_longer : {S : Type 0} {refuses : Refusing S} → RefusesLonger refuses → (a : S) (m n : ℕ) (e : GenError) → m ≤ n →
-    MayRefuse refuses a m e → MayRefuse refuses a n e
-may_longer longer a m n e le r = (r.0, longer a r.0 m n e le r.1)
-
 pub may_behind : {S : Type 0} {content : S → List ℕ} {refuses : Refusing S} → RefusesLonger refuses → (a b : S) (xs : List ℕ) (m n : ℕ)
     (e : GenError) → IsExtended content refuses a xs b → length xs + m ≤ n → MayRefuse refuses b m e → MayRefuse refuses a n e
 may_behind longer a b xs m n e p le r = (r.0, longer a r.0 (length xs + m) n e le (p.room r.0 m e r.1))
@@ -139,49 +134,6 @@ by_output longer a c nul large depth m n e le r = record { cause = inr (c, longe
 
 -- Values that are put at once.
 
-pub value_put : {S : Type 0} {content : S → List ℕ} {appends : Appending S} {refuses : Refusing S} →
-    ContentAppends content appends → RefusesAfter appends refuses → (a b : S) (v : Tree) → IsPut appends a v b →
-    IsWritten content refuses a v b
-value_put law after a b v p = record {
-  extended = extended_by law after a b (encoding_of v) p.encoding;
-  typed = p.typed;
-  writable = p.writable;
-}
-
-pub leaf_refused : {S : Type 0} {refuses : Refusing S} (a b : S) (v : Tree) (e : GenError) → RefusesLeaf refuses a v b e →
-    RefusesValue refuses a v e
-leaf_refused a b v Full r = record { cause = inr (b, r.cause) }
-leaf_refused a b v TooLarge r = record { cause = inl r.cause.0 }
-leaf_refused a b v NulInText r = record { cause = inl r.cause.0 }
-leaf_refused a b v WrongCount r = record { cause = inr (b, r.cause) }
-leaf_refused a b v Failed r = record { cause = inr (b, r.cause) }
-leaf_refused a b v Io r = record { cause = inr (b, r.cause) }
-leaf_refused a b v OutOfMemory r = record { cause = inr (b, r.cause) }
-
--- the refusal of a value of any nesting depth
-pub sized_refused : {S : Type 0} {refuses : Refusing S} (a b : S) (v : Tree) (e : GenError) →
-    RefusesPiece (HasNul v) (IsTooLarge v)
-    (λ d. LacksMemory (depth_of v) d × (b ≡ a) ⊎ refuses a (length (encoding_of v)) b d) a b e → RefusesValue refuses a v e
-sized_refused {refuses = refuses} a b v e r = by e r.cause
-  where
-    n : ℕ
-    n = length (encoding_of v)
-
-    lacks : (d : GenError) → (LacksMemory (depth_of v) d → RefusedFor (HasNul v) (IsTooLarge v) (LacksMemory (depth_of v)) d) →
-        LacksMemory (depth_of v) d × (b ≡ a) ⊎ refuses a n b d → RefusesValue refuses a v d
-    lacks d f x = record { cause = ⊎_elim (λ y. inl (f y.0)) (λ y. inr (b, y)) x }
-
-    by : (d : GenError) →
-        RefusedFor (HasNul v × (b ≡ a)) (IsTooLarge v × (b ≡ a)) (λ d. LacksMemory (depth_of v) d × (b ≡ a) ⊎ refuses a n b d) d →
-        RefusesValue refuses a v d
-    by Full x = lacks Full (λ y. y) x
-    by TooLarge x = record { cause = inl x.0 }
-    by NulInText x = record { cause = inl x.0 }
-    by WrongCount x = lacks WrongCount (λ y. y) x
-    by Failed x = lacks Failed (λ y. y) x
-    by Io x = lacks Io (λ y. y) x
-    by OutOfMemory x = lacks OutOfMemory (λ y. y) x
-
 -- Members.
 
 pub none_written : {S : Type 0} {content : S → List ℕ} {refuses : Refusing S} (a : S) → AreWritten content refuses a no_trees a
@@ -191,30 +143,6 @@ none_written {content = content} a = record {
   no_nul = λ n. n;
   fits = λ n. n;
 }
-
-pub member_written : {S : Type 0} {content : S → List ℕ} {refuses : Refusing S} (a b c : S) (v : Tree) (vs : Trees) →
-    IsWritten content refuses a v b → AreWritten content refuses b vs c → AreWritten content refuses a (member v vs) c
-member_written a b c v vs h k = record {
-  extended = extended_twice a b c (encoding_of v) (member_encodings vs) h.extended k.extended;
-  typed = (h.typed, k.typed);
-  no_nul = ⊎_elim h.writable.no_nul k.no_nul;
-  fits = ⊎_elim h.writable.fits k.fits;
-}
-
-pub first_refused : {S : Type 0} {refuses : Refusing S} → RefusesLonger refuses → (a : S) (v : Tree) (vs : Trees) (e : GenError) →
-    RefusesValue refuses a v e → RefusesMembers refuses a (member v vs) e
-first_refused longer a v vs e r =
-    let le : length (encoding_of v) ≤ length (member_encodings (member v vs)) = omega (arith, length-append (encoding_of v) (member_encodings vs)) in
-    let deep : depth_of v ≤ max (depth_of v) (member_depth vs) = omega arith in
-    bytes_refused a a _ _ _ _ _ _ _ _ e inl inl deep (may_longer longer a _ _ e le) r
-
-pub others_refused : {S : Type 0} {content : S → List ℕ} {refuses : Refusing S} → RefusesLonger refuses → (a b : S) (v : Tree) (vs : Trees)
-    (e : GenError) → IsWritten content refuses a v b → RefusesMembers refuses b vs e → RefusesMembers refuses a (member v vs) e
-others_refused longer a b v vs e h r =
-    let le : length (encoding_of v) + length (member_encodings vs) ≤ length (member_encodings (member v vs)) =
-    omega (arith, length-append (encoding_of v) (member_encodings vs)) in
-    let deep : member_depth vs ≤ max (depth_of v) (member_depth vs) = omega arith in
-    bytes_refused a b _ _ _ _ _ _ _ _ e inr inr deep (may_behind longer a b (encoding_of v) _ _ e h.extended le) r
 
 pub first_keeps : {S : Type 0} {content : S → List ℕ} (a b : S) (v : Tree) (vs : Trees) → KeepsBytes content a (IsPart v) b →
     KeepsBytes content a (AreParts (member v vs)) b
@@ -266,16 +194,6 @@ pub words_refused : {S : Type 0} {refuses : Refusing S} → RefusesLonger refuse
 words_refused longer a c key flags v ps e r =
     let l = property_length key flags v ps in
     by_output longer a c _ _ _ 8 (length (property_encodings (property key flags v ps))) e (omega arith) r
-
-pub value_refused : {S : Type 0} {content : S → List ℕ} {refuses : Refusing S} → RefusesLonger refuses → (a b : S) (key flags : ℕ)
-    (v : Tree) (ps : Properties) (e : GenError) → IsExtended content refuses a (key_words key flags) b → RefusesValue refuses b v e →
-    RefusesProperties refuses a (property key flags v ps) e
-value_refused longer a b key flags v ps e w r =
-    let l = property_length key flags v ps in
-    let two = two_words_length key flags in
-    let deep : depth_of v ≤ max (depth_of v) (property_depth ps) = omega arith in
-    bytes_refused a b _ _ _ _ _ _ _ _ e inl inl deep
-    (may_behind longer a b (key_words key flags) (length (encoding_of v)) (length (property_encodings (property key flags v ps))) e w (omega arith)) r
 
 pub behind_refused : {S : Type 0} {content : S → List ℕ} {refuses : Refusing S} → RefusesLonger refuses → (a b c : S) (key flags : ℕ)
     (v : Tree) (ps : Properties) (e : GenError) → IsExtended content refuses a (key_words key flags) b →

@@ -1,7 +1,5 @@
 -- Steps of a comparison: what is left of structs and objects, one within another.
-use Rattle.std.proofs.Common.{◌≡◌, ◌+◌, ◌*◌, ◌<◌, ◌≤◌, ℕ, Bool, true, false, ◌&&◌, List, [], ◌∷◌, ◌++◌, length, sum_by, refl, sym, ap, ◌∙◌, arith}
-use Rattle.std.proofs.lemmas.List.{length_push}
-use Rattle.std.proofs.lemmas.List.Sums.{sum_by_push}
+use Rattle.std.proofs.Common.{◌≡◌, ◌+◌, ◌*◌, ℕ, Bool, true, false, ◌&&◌, List, [], ◌∷◌, ◌++◌, length, sum_by, refl, sym, ap, ◌∙◌}
 use Rattle.spa_value.specs.declared.comparison.Pair.{Pair}
 use Rattle.spa_value.specs.Comparison.{all_eq, first_count, pair_eq}
 
@@ -34,25 +32,12 @@ pub goes_out : (p outer : Pair) (around rest : List Pair) → around ≡ rest ++
 goes_out p outer around rest parts same =
     sym (all_eq_last rest outer) ∙ ap all_eq (sym parts) ∙ ap (λ b. b && all_eq around) same
 
-pub fewer_out : (p outer : Pair) (around rest : List Pair) → around ≡ rest ++ outer ∷ [] → steps outer rest < steps p around
-fewer_out p outer around rest parts =
-    let sums = ap (sum_by first_count) parts ∙ sum_by_push first_count rest outer in
-    let lengths = ap length parts ∙ length_push rest outer in
-    omega arith
-
 -- two within the innermost are gone into, and something is left behind them
 pub goes_in : (p inner left : Pair) (around final : List Pair) → final ≡ around ++ left ∷ [] →
     (pair_eq inner && pair_eq left) ≡ pair_eq p → left_eq inner final ≡ left_eq p around
 goes_in p inner left around final parts same =
     ap (λ l. pair_eq inner && all_eq l) parts ∙ ap (λ b. pair_eq inner && b) (all_eq_last around left)
     ∙ regroup (pair_eq inner) (pair_eq left) (all_eq around) ∙ ap (λ b. b && all_eq around) same
-
-pub fewer_in : (p inner left : Pair) (around final : List Pair) → final ≡ around ++ left ∷ [] →
-    first_count inner + first_count left + 1 ≤ first_count p → steps inner final < steps p around
-fewer_in p inner left around final parts fewer =
-    let sums = ap (sum_by first_count) parts ∙ sum_by_push first_count around left in
-    let lengths = ap length parts ∙ length_push around left in
-    omega arith
 
 -- nothing is left behind them
 pub goes_to : (p inner left : Pair) → pair_eq left ≡ true →

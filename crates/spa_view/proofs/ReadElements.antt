@@ -2,7 +2,7 @@
 use Rattle.std.proofs.Common.{◌≡◌, ℕ, suc, zero, ◌+◌, ◌*◌, ◌-◌, ◌/◌, ◌<◌, ◌≤◌, List, [], ◌∷◌, length, take, drop, map, sym, ap, ◌∙◌, subst, arith, length-drop, length-take}
 use Rattle.std.specs.Prelude.{if◌then◌else◌, nat_eq}
 use Rattle.std.specs.Simd.{first_chunks}
-use Rattle.std.proofs.Math.Nat.{div-eq-sub-div, div-eq_of_lt, div-zero, zero-div, mul-div_cancel}
+use Rattle.std.proofs.Math.Nat.{div-eq-sub-div, zero-div, mul-div_cancel}
 use Rattle.std.proofs.lemmas.List.{drop-take, take-take}
 use Rattle.spa_format.specs.Words.{word_at}
 use Rattle.spa_format.specs.Kind.{Kind, Fixed, body_size, content, IsFixedBody}
@@ -22,13 +22,6 @@ values_in-next k b p l =
     let d = length-drop s b in
     ap (λ n. map (content k) (first_chunks s n b)) (one_more (length b) s p l)
     ∙ ap (λ n. content k (take s b) ∷ map (content k) (first_chunks s (n / s) (drop s b))) (sym d)
-
-pub values_in-end : (k : Kind) (b : List ℕ) → length b < body_size k → values_in k b ≡ []
-values_in-end k b l = ap (λ n. map (content k) (first_chunks (body_size k) n b)) (div-eq_of_lt l)
-
-pub values_in-none : (k : Kind) (b : List ℕ) → body_size k ≡ 0 → values_in k b ≡ []
-values_in-none k b e =
-    ap (λ n. map (content k) (first_chunks (body_size k) n b)) (ap (λ s. length b / s) e ∙ div-zero (length b))
 
 pub elements_read : (k : Kind) (xs : List Fixed) (b : List ℕ) → AreElements k xs b → values_in k b ≡ xs
 elements_read k [] b h =

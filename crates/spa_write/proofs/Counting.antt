@@ -116,7 +116,3 @@ mutual
       let others = properties_eight_each ps in
       let size = length-property_encoding k f v ps in
       omega (arith, one, others, size)
-
--- fewer in a struct that stands alone
-pub lone_fewer : (ws us : Trees) → ws ≡ member (struct us) no_trees → member_node_count us < member_node_count ws
-lone_fewer ws us is = let e = ap member_node_count is in omega (arith, e)

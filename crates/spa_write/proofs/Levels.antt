@@ -1,7 +1,7 @@
 -- How deep the members of a list and the values of properties nest, and how many bytes the levels have at least.
 use Rattle.std.proofs.Common.{◌≡◌, ℕ, ◌+◌, ◌<◌, ◌≤◌, List, length, take, drop, get_or, ap, arith}
 use Rattle.std.specs.Prelude.{max}
-use Rattle.spa_format.specs.Tree.{struct, Trees, no_trees, member, Properties, no_properties, property, join_members, join_properties}
+use Rattle.spa_format.specs.Tree.{Trees, no_trees, member, Properties, no_properties, property, join_members, join_properties}
 use Rattle.spa_value.specs.declared.value.Value.{Value}
 use Rattle.spa_value.specs.declared.object.Property.{Property}
 use Rattle.spa_value.specs.View.{view}
@@ -41,10 +41,3 @@ property_depth_at ps i p l e =
     let own : depth_of (view p.value) ≤ property_depth rest = omega arith in
     let cut = ap property_depth (property_views-at ps i p l e) in
     omega (arith, all, own, cut)
-
--- a struct that stands alone nests one level deeper than its members
-pub lone_depth : (ws us : Trees) → ws ≡ member (struct us) no_trees → member_depth us ≤ member_depth ws
-lone_depth ws us is =
-    let e = ap member_depth is in
-    let g : member_depth us ≤ max (1 + member_depth us) 0 = omega arith in
-    omega (arith, e, g)

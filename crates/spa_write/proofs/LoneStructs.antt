@@ -1,10 +1,10 @@
 -- Structs of which each is the only member of the one around it.
-use Rattle.std.proofs.Common.{◌≡◌, ℕ, ◌+◌, ◌-◌, ◌<◌, ◌≤◌, ◌⊎◌, inl, inr, ⊎_elim, List, [], ◌++◌, length, refl, sym, ap, ◌∙◌, subst, arith, append_assoc, length-append}
+use Rattle.std.proofs.Common.{◌≡◌, ℕ, ◌+◌, ◌-◌, ◌<◌, ◌≤◌, ◌⊎◌, inl, inr, ⊎_elim, List, ◌++◌, length, sym, ap, ◌∙◌, subst, arith, append_assoc}
 use Rattle.std.proofs.lemmas.List.{append-nil}
 use Rattle.spa_sink.specs.declared.gen_error.GenError.{GenError}
 use Rattle.spa_sink.specs.declared.gen_error.GenError.TheVariants.{TooLarge}
-use Rattle.spa_sink.specs.Writing.{RefusesWrite, Sent, none_sent, some_sent}
-use Rattle.spa_sink.proofs.Sending.{AppendsMore, sent_before, sent_twice}
+use Rattle.spa_sink.specs.Writing.{RefusesWrite, Sent, some_sent}
+use Rattle.spa_sink.proofs.Sending.{AppendsMore, sent_before}
 use Rattle.spa_format.specs.Words.{header_size, size_limit, word_bytes}
 use Rattle.spa_format.specs.Tree.{struct, struct_type, Trees, no_trees, member}
 use Rattle.spa_format.specs.Encoding.{encoding_of, member_encodings}
@@ -14,7 +14,6 @@ use Rattle.spa_format.proofs.Encodings.{length-encoded_pod, whole_members}
 use Rattle.spa_bodies.specs.Written.{Appending, Refusing, Stops}
 use Rattle.spa_bodies.proofs.Frames.{size_refused}
 use Rattle.spa_bodies.proofs.Parts.{TakesParts, stop_as, stop_behind, stop_first}
-use Rattle.spa_write.specs.Measured.{ArePut}
 use Rattle.spa_write.proofs.Stopping.{struct_parts}
 
 -- `outer` bytes of headers are before the second members in the encodings of the first
@@ -72,11 +71,6 @@ pub record AreBegun {S : Type 0} (appends : Appending S) (old : S) (vs : Trees) 
   pub writable : IsWritable (struct ws)
   pub typed : AllTyped ws → AllTyped vs
 
-pub none_begun : {S : Type 0} {appends : Appending S} (a : S) (vs : Trees) (n : ℕ) →
-    IsWritable (struct vs) → n ≡ length (member_encodings vs) → AreBegun appends a vs a vs n
-none_begun a vs n w e =
-    record { heads = []; parts = refl; sent = none_sent refl refl; size = e; writable = w; typed = λ t. t }
-
 -- the next header, and what is behind it
 pub lone_parts : (ws us : Trees) (n k : ℕ) → ws ≡ member (struct us) no_trees →
     n ≡ length (member_encodings ws) → k ≡ n - 8 →
@@ -121,20 +115,6 @@ begun_stops s a b c vs ws us n k h is d e x =
     left_stops s a b c vs ws n h e
     (stop_as b c (head ++ member_encodings us) (member_encodings ws) e (sym (lone_parts ws us n k is h.size d))
     (stop_first s b c head (member_encodings us) e x))
-
-pub whole_put_within : {S : Type 0} {appends : Appending S} → AppendsMore appends → (a b c : S) (vs ws : Trees)
-    (n : ℕ) → AreBegun appends a vs b ws n → ArePut appends b ws c → ArePut appends a vs c
-whole_put_within {appends = appends} more a b c vs ws n h k =
-    record {
-      encodings = subst (λ l. Sent appends a l c) (sym h.parts) (sent_twice more a b c h.heads (member_encodings ws) h.sent k.encodings);
-      typed = h.typed k.typed;
-    }
-
--- how much is left at the most
-pub left_within : {S : Type 0} {appends : Appending S} (a b : S) (vs ws : Trees) (n : ℕ) →
-    AreBegun appends a vs b ws n → length (member_encodings ws) ≤ length (member_encodings vs)
-left_within a b vs ws n h =
-    omega (arith, ap length h.parts, length-append h.heads (member_encodings ws))
 
 -- `outer` bytes of headers are before the second members in the encodings of the first, and a struct of the second can be written.
 pub record IsWritableWithin (vs : Trees) (outer : ℕ) (ws : Trees) : Type 0 where

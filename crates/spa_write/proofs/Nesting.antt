@@ -2,7 +2,7 @@
 use Rattle.std.proofs.Common.{◌≡◌, ℕ, ◌+◌, ◌<◌, ◌≤◌, ◌^◌, inl, inr, ⊎_elim, List, [], ◌∷◌, ◌++◌, length, take, drop, reverse, refl, sym, ap, ◌∙◌, subst, arith, append_assoc, length-append}
 use Rattle.std.specs.Prelude.{◌↔◌}
 use Rattle.std.specs.Borrow.{Bor}
-use Rattle.std.proofs.lemmas.List.{append-nil, reverse-append}
+use Rattle.std.proofs.lemmas.List.{reverse-append}
 use Rattle.spa_sink.specs.declared.gen_error.GenError.{GenError}
 use Rattle.spa_sink.specs.declared.gen_error.GenError.TheVariants.{Full, TooLarge, NulInText, WrongCount, Failed, Io, OutOfMemory}
 use Rattle.spa_sink.specs.Writing.{RefusesWrite}
@@ -21,7 +21,7 @@ use Rattle.spa_write.specs.Nesting.{AwaitsAllClosing, AwaitsClosing, Begins, IsA
 use Rattle.spa_write.specs.declared.left.Left.{Left}
 use Rattle.spa_write.specs.declared.left.Left.TheVariants as left
 use Rattle.spa_write.specs.declared.left.Begun.{Begun}
-use Rattle.spa_bodies.proofs.Frames.{sized_encoding, size_refused}
+use Rattle.spa_bodies.proofs.Frames.{sized_encoding}
 
 -- Refusals.
 
@@ -35,14 +35,6 @@ refusal_through f g WrongCount r = record { cause = r.cause }
 refusal_through f g Failed r = record { cause = r.cause }
 refusal_through f g Io r = record { cause = r.cause }
 refusal_through f g OutOfMemory r = record { cause = r.cause }
-
--- for want of memory
-pub lacks_memory : (nul large : Type 0) (e : GenError) → e ≡ OutOfMemory →
-    RefusesWrite nul large (λ d. d ≡ OutOfMemory) e
-lacks_memory nul large e q =
-    let P : GenError → Type 0 = RefusesWrite nul large (λ d. d ≡ OutOfMemory) in
-    let h : P OutOfMemory = record { cause = refl } in
-    subst P (sym q) h
 
 -- Pods that are begun.
 
@@ -178,29 +170,6 @@ pub properties_passed : (from rest : Bor (List Property)) (old now : List ℕ) �
     Passed (left.Properties from) old (left.Properties rest) now → PassedProperties from.now old rest.now now
 properties_passed from rest old now p = record { bytes = p.bytes; longer = p.longer; typed = p.typed; nul = p.nul; large = p.large }
 
--- nothing is left
-pub ends_members : (from : Bor (List Value)) (old now : List ℕ) (rest : List Value) → rest ≡ [] →
-    PassedMembers from.now old rest now → PutsAll (left.Members from) old now
-ends_members from old now rest e p = record {
-  bytes = sym (append-nil now) ∙ ap (λ l. now ++ member_encodings (views l)) (sym e) ∙ p.bytes;
-  writable = record {
-    typed = p.typed (subst (λ l. AllTyped (views l)) (sym e) tt);
-    no_nul = λ n. subst (λ l. SomeHasNul (views l)) e (p.nul.0 n);
-    fits = λ n. subst (λ l. SomeTooLarge (views l)) e (p.large.0 n);
-  };
-}
-
-pub ends_properties : (from : Bor (List Property)) (old now : List ℕ) (rest : List Property) → rest ≡ [] →
-    PassedProperties from.now old rest now → PutsAll (left.Properties from) old now
-ends_properties from old now rest e p = record {
-  bytes = sym (append-nil now) ∙ ap (λ l. now ++ property_encodings (property_views l)) (sym e) ∙ p.bytes;
-  writable = record {
-    typed = p.typed (subst (λ l. AllPropertiesTyped (property_views l)) (sym e) tt);
-    no_nul = λ n. subst (λ l. SomeValueHasNul (property_views l)) e (p.nul.0 n);
-    fits = λ n. subst (λ l. SomeValueTooLarge (property_views l)) e (p.large.0 n);
-  };
-}
-
 -- up to a member
 pub stops_member : (from : Bor (List Value)) (old now : List ℕ) (vs : List Value) (rest : Bor (List Value)) (v : Value) →
     vs ≡ v ∷ rest.now → PassedMembers from.now old vs now →
@@ -272,17 +241,6 @@ written v old begun now b w short = record {
   };
 }
 
--- the outermost
-pub begun_first : (v : Tree) (begun : Begun) (now : List ℕ) → Begins v [] begun now →
-    AwaitsAllClosing v (begun ∷ []) now
-begun_first v begun now b = record {
-  room = b.room;
-  closes = λ w short. written v [] begun now b w short;
-  past = λ l. b.large.1 (inl (omega (arith, l, b.size)));
-  nul = λ n. b.nul.1 n;
-  large = λ l. b.large.1 (inr l);
-}
-
 -- a value within the innermost was appended
 pub advanced : (holds : List ℕ → Type 0) (v w : Tree) (inner : Begun) (behind : Left) (now mid next : List ℕ) →
     AwaitsClosing holds v inner now → StopsAt inner.left now w behind mid → IsAppended w mid next →
@@ -312,13 +270,6 @@ nested v w inner begun outer behind now mid new h s b = record {
   large = λ l. h.large (s.large.1 (inl (b.large.1 (inr l))));
 }
 
--- the innermost has ended: its size word has a place,
-pub ended_room : (holds : List ℕ → Type 0) (v : Tree) (inner : Begun) (now ended : List ℕ) →
-    AwaitsClosing holds v inner now → PutsAll inner.left now ended → inner.start + header_size ≤ length ended
-ended_room holds v inner now ended h p =
-    let size = ap length p.bytes ∙ length-append now (left_encodings inner.left) in
-    omega (arith, h.room, size)
-
 -- it is closed,
 pub closed : (holds : List ℕ → Type 0) (v : Tree) (inner : Begun) (now ended new : List ℕ) →
     AwaitsClosing holds v inner now → PutsAll inner.left now ended → new ≡ closed_at inner.start ended →
@@ -326,15 +277,6 @@ pub closed : (holds : List ℕ → Type 0) (v : Tree) (inner : Begun) (now ended
 closed holds v inner now ended new h p e short =
     subst holds (sym (e ∙ ap (closed_at inner.start) p.bytes))
     (h.closes p.writable (subst (λ b. begun_length b inner.start < size_limit) p.bytes short))
-
--- or it is too large
-pub never_closed : (holds : List ℕ → Type 0) (v : Tree) (inner : Begun) (now ended : List ℕ) →
-    AwaitsClosing holds v inner now → PutsAll inner.left now ended → (e : GenError) →
-    (e ≡ TooLarge) × (size_limit ≤ begun_length ended inner.start) →
-    RefusesWrite (HasNul v) (IsTooLarge v) (λ d. d ≡ OutOfMemory) e
-never_closed holds v inner now ended h p e r =
-    size_refused (HasNul v) (IsTooLarge v) (λ d. d ≡ OutOfMemory) (size_limit ≤ begun_length ended inner.start)
-    (λ l. h.past (subst (λ b. size_limit ≤ begun_length b inner.start) p.bytes l)) e r
 
 -- the innermost but one is the last of the others, of which the outermost is first
 pub innermost : (old new : List Begun) (next : Begun) → old ≡ new ++ next ∷ [] →
@@ -345,11 +287,6 @@ pub pushed : (v : Tree) (outer all : List Begun) (inner begun : Begun) (now : Li
     AwaitsAllClosing v (begun ∷ inner ∷ reverse outer) now → AwaitsAllClosing v (begun ∷ reverse all) now
 pushed v outer all inner begun now e h =
     subst (λ l. AwaitsAllClosing v (begun ∷ l) now) (sym (innermost all outer inner e)) h
-
--- less is left once the innermost is closed,
-pub less_closed : (outer others : List Begun) (next inner : Begun) → outer ≡ others ++ next ∷ [] →
-    bytes_left (next ∷ reverse others) < bytes_left (inner ∷ reverse outer)
-less_closed outer others next inner e = rw (innermost outer others next e) (omega arith)
 
 -- and once one more is begun
 pub less_begun : (w : Tree) (outer all : List Begun) (inner begun : Begun) (behind : Left) (now mid new : List ℕ) →

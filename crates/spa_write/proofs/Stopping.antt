@@ -3,8 +3,7 @@ use Rattle.std.proofs.Common.{◌≡◌, ℕ, ◌+◌, ◌-◌, ◌<◌, ◌^◌
 use Rattle.std.specs.Prelude.{replicate}
 use Rattle.std.proofs.lemmas.List.{append-nil}
 use Rattle.spa_sink.specs.declared.gen_error.GenError.{GenError}
-use Rattle.spa_sink.specs.declared.gen_error.GenError.TheVariants.{Full, TooLarge, NulInText, WrongCount, Failed, Io, OutOfMemory}
-use Rattle.spa_sink.specs.Writing.{RefusesWrite, Sent, none_sent, some_sent}
+use Rattle.spa_sink.specs.Writing.{Sent, none_sent, some_sent}
 use Rattle.spa_sink.proofs.Sending.{AppendsMore, sent_before, sent_behind}
 use Rattle.spa_format.specs.Words.{header_size, padded_size, padding, size_limit, word_bytes}
 use Rattle.spa_format.specs.Tree.{Tree, struct, struct_type, object, object_type, Trees, no_trees, Properties, no_properties}
@@ -253,27 +252,6 @@ four_stop {refuses = refuses} a c w x y z n e p r =
     stop_by a c n ((word_bytes w ++ word_bytes x) ++ (word_bytes y ++ word_bytes z)) e p (subst (λ m. refuses a m c e) size r)
 
 -- What a refusal is where the value can be written.
-
-pub only_sink : {nul large s t : Type 0} {lacks : GenError → Type 0} → ¬ nul → ¬ large → (e : GenError) →
-    RefusesWrite (nul × s) (large × t) lacks e → lacks e
-only_sink f g Full r = r.cause
-only_sink f g TooLarge r = absurd (g r.cause.0)
-only_sink f g NulInText r = absurd (f r.cause.0)
-only_sink f g WrongCount r = r.cause
-only_sink f g Failed r = r.cause
-only_sink f g Io r = r.cause
-only_sink f g OutOfMemory r = r.cause
-
--- refused before a byte was appended
-pub refused_before : {nul large s t : Type 0} {lacks : GenError → Type 0} → s → t → (e : GenError) →
-    RefusesWrite nul large (λ _. ⊥) e → RefusesWrite (nul × s) (large × t) lacks e
-refused_before x y Full r = absurd r.cause
-refused_before x y TooLarge r = record { cause = (r.cause, y) }
-refused_before x y NulInText r = record { cause = (r.cause, x) }
-refused_before x y WrongCount r = absurd r.cause
-refused_before x y Failed r = absurd r.cause
-refused_before x y Io r = absurd r.cause
-refused_before x y OutOfMemory r = absurd r.cause
 
 -- The length that is known of one value.
 

@@ -1,5 +1,5 @@
 -- Where the body of a value under a key begins.
-use Rattle.std.proofs.Common.{◌≡◌, ℕ, ◌+◌, ◌<◌, ◌≤◌, inl, inr, List, length, drop, refl, sym, ap, subst, ◌∙◌, arith, length-drop, true≢false}
+use Rattle.std.proofs.Common.{◌≡◌, ℕ, ◌+◌, ◌≤◌, inl, inr, List, length, drop, refl, sym, ap, subst, ◌∙◌, arith, length-drop, true≢false}
 use Rattle.std.specs.Prelude.{Bool, true, false, if◌then◌else◌, nat_le, ◌&&◌}
 use Rattle.std.proofs.lemmas.Bool.Decides.{leb_tells}
 use Rattle.spa_format.specs.Faults.{choice_header_size}
@@ -77,17 +77,3 @@ other_at kind key at input value pod set v ev ep es n =
       value = v;
       other = λ b. n (subst (λ c. (word_at c 4 ≡ type_number kind) × (word_at c 0 ≡ body_size kind)) (sym settled) b.its_kind);
     }
-
-pub none_at : (kind : Kind) (key at : ℕ) (input value : List ℕ) → HasValueAt key input at → value ≡ drop at input → ¬ (HasFront value) → HasOtherAt kind key input
-none_at kind key at input value v ev n = record {
-  value_at = at;
-  value = v;
-  other = λ b. n (subst HasFront (sym ev) b.front);
-}
-
-pub past_at : (kind : Kind) (key at : ℕ) (input : List ℕ) → HasValueAt key input at → length input < at → HasOtherAt kind key input
-past_at kind key at input v l = record {
-  value_at = at;
-  value = v;
-  other = λ b. let h = b.front.header in let d = length-drop at input in omega arith;
-}

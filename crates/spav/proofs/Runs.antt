@@ -1,10 +1,10 @@
 -- A list of calls of a builder, one call longer.
-use Rattle.std.proofs.Common.{◌≡◌, ◌≢◌, ℕ, ◌+◌, ◌*◌, ◌<◌, ◌≤◌, inl, inr, List, [], ◌∷◌, ◌++◌, length, length-take, length-drop, drop, take, get_or, refl, sym, ap, ◌∙◌, subst, arith, Bool, true, false, Ok, Err}
+use Rattle.std.proofs.Common.{◌≡◌, ◌≢◌, ℕ, ◌+◌, ◌*◌, ◌<◌, inl, inr, List, [], ◌∷◌, ◌++◌, length, length-take, length-drop, drop, take, get_or, refl, sym, ap, ◌∙◌, subst, arith, Bool, true, false, Ok, Err}
 use Rattle.std.specs.Prelude.{if◌then◌else◌, IsUtf8, Option, Some, None, Result}
 use Rattle.std.specs.Option.{option_map}
 use Rattle.std.specs.Str.{is_utf8}
 use Rattle.std.proofs.lemmas.Bool.Decides.{leb_tells}
-use Rattle.std.proofs.lemmas.List.{take_all, take_more}
+use Rattle.std.proofs.lemmas.List.{take_more}
 use Rattle.std.proofs.lemmas.Str.{IsUtf8-from_is_utf8}
 use Rattle.spa_format.specs.Kind.{Fixed, Kind, body_size}
 use Rattle.spa_format.specs.Pod.{AreElements}
@@ -180,11 +180,6 @@ stops_here A texts calls at d old new e l h m =
       comes = made.1;
       such = refuses A made.0 old new e made.2;
     }
-
--- all calls of a list are accepted
-pub ends : (texts : List ℕ) (calls : List Call) (at : ℕ) (now : BuilderFields) → length calls ≤ at →
-    (s : State) × Leads texts start (take at calls) s × IsAt now s → (s : State) × Leads texts start calls s × IsAt now s
-ends texts calls at now l h = (h.0, subst (λ cs. Leads texts start cs h.0) (take_all at calls l) h.1, h.2)
 
 -- why a list stopped, by the error
 pub stopped_invalid : (texts : List ℕ) (calls : List Call) (at : ℕ) (e : Errno) → StopsAt texts calls at (λ o. IsAnswered o (Err e)) → e ≡ INVAL →

@@ -1,4 +1,4 @@
-use Rattle.std.proofs.Common.{◌≡◌, ◌+◌, ◌-◌, ◌∙◌, ap, arith, drop, length, length-append, refl, subst, sym, take}
+use Rattle.std.proofs.Common.{◌+◌, ◌-◌, ◌∙◌, ap, arith, length, length-append, refl, subst, sym, take}
 use Rattle.std.specs.Prelude.{[], Some}
 use Rattle.std.proofs.lemmas.Bool.{eqb-true}
 use Rattle.std.proofs.lemmas.List.{take_all, take_at, take_rest}
@@ -15,7 +15,7 @@ use Rattle.spa_rewrite.proofs.ShorterLemmas.{within_behind}
 use Rattle.spa_rewrite.proofs.Stretches.{all_canonical, canonical_rewritten, list_refused}
 use Rattle.spa_in_place.specs.InPlace.{RefusesListAt, moved}
 use Rattle.spa_in_place.proofs.ChangedPods.{behind_first}
-use Rattle.spa_in_place.proofs.InPlaceLemmas.{asks_behind, deep_memory, left_behind, offset_known, others_left, refused_behind}
+use Rattle.spa_in_place.proofs.InPlaceLemmas.{asks_behind, left_behind, offset_known, others_left, refused_behind}
 use Rattle.spa_in_place.proofs.in_place.rewrite_in_place.Goals as goal
 
 pub returns-then-is_empty-clause-rewritten : goal.returns-then-is_empty-clause-rewritten

@@ -1,5 +1,4 @@
-use Rattle.std.proofs.Common.{◌≡◌, ◌+◌, ◌-◌, ◌<◌, ◌≤◌, [], ◌∷◌, ◌++◌, length, ap, arith, false, get_or, refl, set, subst, sym, ◌∙◌}
-use Rattle.spa_events.specs.Inside.{key_size}
+use Rattle.std.proofs.Common.{◌≡◌, ◌+◌, ◌-◌, ◌<◌, [], ◌∷◌, ◌++◌, length, ap, arith, false, get_or, refl, set, subst, sym, ◌∙◌}
 use Rattle.spa_events.specs.declared.inside.Inside.{Inside}
 use Rattle.spa_format.specs.Words.{padded_size}
 use Rattle.spa_items.specs.Items.{items_in}

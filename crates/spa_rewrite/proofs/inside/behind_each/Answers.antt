@@ -1,4 +1,4 @@
-use Rattle.std.proofs.Common.{arith, subst, sym, ◌≡◌, ◌+◌}
+use Rattle.std.proofs.Common.{arith, subst, ◌≡◌, ◌+◌}
 use Rattle.spa_rewrite.specs.Look.{IsNoLeaf, Passes}
 use Rattle.spa_rewrite.proofs.Looks.{behind_shorter, no_behind_key, passes_more, passes_pod, same_behind_key}
 use Rattle.spa_rewrite.proofs.inside.behind_each.Goals as goal

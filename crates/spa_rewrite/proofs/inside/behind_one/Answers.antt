@@ -3,8 +3,7 @@ use Rattle.std.proofs.lemmas.Option.{IfSome_then}
 use Rattle.spa_format.specs.Typed.{IsBytes}
 use Rattle.spa_scan.specs.Canonical.{IsSized, MissesOnly}
 use Rattle.spa_scan.proofs.Opened.{none_then}
-use Rattle.spa_rewrite.proofs.Faulted.{none_sized}
-use Rattle.spa_rewrite.proofs.Looks.{behind_shorter, no_behind_key, passes_pod, same_behind_key}
+use Rattle.spa_rewrite.proofs.Looks.{behind_shorter, passes_pod, same_behind_key}
 use Rattle.spa_rewrite.proofs.inside.behind_one.Goals as goal
 
 pub returns-clause-passed : goal.returns-clause-passed

@@ -1,4 +1,4 @@
-use Rattle.std.proofs.Common.{◌≡◌, ◌<◌, arith, inl, inr, length}
+use Rattle.std.proofs.Common.{◌≡◌, arith, inl, inr, length}
 use Rattle.std.proofs.lemmas.Bool.{cases_lt}
 use Rattle.std.proofs.lemmas.List.{nil_from_length}
 use Rattle.spa_format.specs.Front.{rest_of}

@@ -1,5 +1,5 @@
-use Rattle.std.proofs.Common.{refl, ◌≡◌}
-use Rattle.std.specs.Prelude.{false, true}
+use Rattle.std.proofs.Common.{refl}
+use Rattle.std.specs.Prelude.{false}
 use Rattle.spa_rewrite.proofs.Accepted.{rejected_value}
 use Rattle.spa_rewrite.proofs.LeafBodies.{never}
 use Rattle.spa_scan.proofs.Depths.{deep_begun}

@@ -1,4 +1,4 @@
-use Rattle.std.proofs.Common.{◌∙◌, arith, subst}
+use Rattle.std.proofs.Common.{◌∙◌, subst}
 use Rattle.spa_text_commands.specs.Lines.{AddsParts}
 use Rattle.spa_text_commands.specs.Selection.{no_event, values_in}
 use Rattle.spa_text_commands.proofs.Values.{next_left, none_left, value_done, values_begin, values_end}

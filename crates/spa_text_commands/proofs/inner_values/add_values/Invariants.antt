@@ -1,5 +1,4 @@
 use Rattle.std.proofs.Common.{drop}
-use Rattle.spa_view.specs.View.{pod_bytes}
 use Rattle.spa_text_commands.proofs.Values.{ValuesSoFar}
 use Rattle.spa_text_commands.proofs.inner_values.add_values.Given as goal
 

@@ -1,6 +1,6 @@
 use Rattle.std.proofs.Common.{subst, sym, ap, ◌∙◌}
 use Rattle.spa_format.specs.Pod.{IsPod}
-use Rattle.spa_view.specs.View.{object_bytes, pod_bytes, prop_bytes}
+use Rattle.spa_view.specs.View.{object_bytes, prop_bytes}
 use Rattle.spa_parser.specs.State.{start_of}
 use Rattle.spa_parser.proofs.Values.{no_value, some_value, value_found, value_is}
 use Rattle.spa_parser.proofs.parser.Parser.value_of.Goals as goal

@@ -115,19 +115,3 @@ begun_stops s a b c vs ws us n k h is d e x =
     left_stops s a b c vs ws n h e
     (stop_as b c (head ++ member_encodings us) (member_encodings ws) e (sym (lone_parts ws us n k is h.size d))
     (stop_first s b c head (member_encodings us) e x))
-
--- `outer` bytes of headers are before the second members in the encodings of the first, and a struct of the second can be written.
-pub record IsWritableWithin (vs : Trees) (outer : ℕ) (ws : Trees) : Type 0 where
-  pub size : length (member_encodings vs) ≡ outer + length (member_encodings ws)
-  pub writable : IsWritable (struct ws)
-
-pub writable_within : (vs ws us : Trees) (outer more : ℕ) → IsWritableWithin vs outer ws →
-    ws ≡ member (struct us) no_trees → more ≡ outer + header_size → IsWritableWithin vs more us
-writable_within vs ws us outer more h is sum =
-    record {
-      size = omega (arith, h.size, sum, lone_length ws us is);
-      writable = record {
-        no_nul = λ x. h.writable.no_nul (subst SomeHasNul (sym is) (inl x));
-        fits = λ x. h.writable.fits (subst (λ l. IsTooLarge (struct l)) (sym is) (inr (inl x)));
-      };
-    }

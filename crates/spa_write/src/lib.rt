@@ -2,7 +2,6 @@
 #![tactic(auto)]
 
 mod count;
-mod known;
 mod largest;
 mod leaf;
 mod left;

@@ -17,7 +17,6 @@ use crate::count::{
     INNER_LEVELS, is_beyond, is_nested, is_small, may_be_deep, members_nest_within, only_struct,
     properties_nest_within,
 };
-use crate::known::writable_len;
 use crate::largest::{largest_member, largest_property};
 use crate::leaf::put_leaf;
 use crate::nested::write_by_loop;
@@ -178,7 +177,10 @@ fn len_of(value: &Value, known: Option<u64>) -> u64
 {
     match known {
         Some(len) => len,
-        None => writable_len(value),
+        None => match encoded_len(value) {
+            Ok(len) => len,
+            Err(_) => unreachable!(),
+        },
     }
 }
 

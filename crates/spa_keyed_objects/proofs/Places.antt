@@ -1,11 +1,32 @@
 -- A map from keys to places, with one more key.
 use Rattle.std.proofs.Common.{◌≡◌, ℕ, ◌+◌, ◌<◌, ◌==◌, Bool, true, false, cond, if◌then◌else◌, List, ◌∷◌, length, drop, get_or, refl, sym, ap, ◌∙◌, subst, Option, Some}
 use Rattle.std.specs.BTreeMap.{BTreeMap, get, is_at, Updates}
-use Rattle.std.specs.Ordering.{nat_cmp}
+use Rattle.std.specs.Cmp.{unsigned_Decides, nat_cmp_is}
+use Rattle.std.specs.Ordering.{is_eq, nat_cmp}
+use Rattle.std.specs.declared.cmp.Ordering.TheVariants.{Less, Equal, Greater}
+use Rattle.std.specs.Prelude.{nat_lt}
 use Rattle.std.proofs.lemmas.List.{drop_more, get_or_default}
 use Rattle.spa_keyed_objects.specs.Keys.{Offered}
 use Rattle.spa_value.specs.declared.object.Property.{Property}
 use Rattle.spa_keyed_objects.specs.PropertyLists.{offered_in, offered_by, IsFoundAt}
+
+-- two keys compare as equal where they are
+is_eq-same : (j : ℕ) → is_eq (nat_cmp j j) ≡ true
+is_eq-same j = sym (ap is_eq (nat_cmp_is j j Equal refl))
+
+is_eq-other_by : (b c : Bool) → c ≡ false → is_eq (cond b Less (cond c Equal Greater)) ≡ false
+is_eq-other_by true c h = refl
+is_eq-other_by false c h = ap (λ b. is_eq (cond b Equal Greater)) h
+
+-- the order's test of two keys is that of numbers
+is_at-key_by : (j k : ℕ) (b : Bool) → (j == k) ≡ b → is_at (nat_cmp j) k ≡ b
+is_at-key_by j k true e =
+    let same = (unsigned_Decides j k).0 e in
+    subst (λ n. is_eq (nat_cmp j n) ≡ true) same (is_eq-same j)
+is_at-key_by j k false e = is_eq-other_by (nat_lt j k) (j == k) e
+
+is_at-key : (j k : ℕ) → is_at (nat_cmp j) k ≡ (j == k)
+is_at-key j k = is_at-key_by j k (j == k) refl
 
 -- The property p stands at a place, and this is known of the places behind it.
 module _ (ps : List Property) (at : ℕ) (p : Property) (l : at < length ps) (e : p ≡ get_or ps at p)

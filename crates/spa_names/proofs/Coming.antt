@@ -1,12 +1,13 @@
 -- Names and numbers of the tables lead to each other.
 use Rattle.std.proofs.Common.{◌≡◌, ℕ, ◌==◌, Bool, true, false, List, [], ◌∷◌, Option, Some, None, option_map, cond, is_some, IsSome, refl, sym, ap, subst, ◌∙◌, ◌&&◌, Bor, get_or, length, nat_lt, arith}
 use Rattle.std.specs.List.{find, list_all}
+use Rattle.std.specs.Option.{option_map_or}
 use Rattle.std.proofs.lemmas.Bool.Decides.{nat_tests}
 use Rattle.std.specs.Str.{IsCharBoundary, bytes_eq}
 use Rattle.spa_names.specs.declared.table.Table.{Table}
 use Rattle.spa_names.specs.Rows.{Row, Naming, name_in, row_of}
-use Rattle.spa_names.specs.Tables.{rows_of, namings_of}
-use Rattle.spa_names.specs.Lookup.{row_at, name_of, number_of, NamesComeBack, NumbersAreNamed}
+use Rattle.spa_names.specs.Tables.{rows_of, aliases_of}
+use Rattle.spa_names.specs.Lookup.{row_at, name_of, number_of, alias_of, NamesComeBack, NumbersAreNamed}
 use Rattle.spa_names.proofs.Facts.{names_begin-all, names_come_back-all, numbers_are_named-all}
 use Rattle.spa_names.proofs.Sound.{begins, is_number}
 
@@ -50,12 +51,25 @@ come_back table number name (Some row) at is =
 pub NamesComeBack-all : NamesComeBack
 NamesComeBack-all table number name is = come_back table number name (row_at table number) refl is
 
-named : (table : Table) (number : ℕ) (name : List ℕ) (naming : Option Naming) → find (λ naming. bytes_eq naming.0 name) (namings_of table) ≡ naming →
+both_hold : (a b : Bool) → (a && b) ≡ true → (a ≡ true) × (b ≡ true)
+both_hold true b is = (refl, is)
+both_hold false b is = search
+
+alias_named : (table : Table) (number : ℕ) (name : List ℕ) (naming : Option Naming) → find (λ naming. bytes_eq naming.0 name) (aliases_of table) ≡ naming →
     option_map (λ naming. naming.1) naming ≡ Some number → IsSome (name_of table number)
-named table number name None at is = search
-named table number name (Some naming) at is =
-    let passes = found_passes (λ naming. bytes_eq naming.0 name) (λ naming. is_some (name_of table naming.1)) (namings_of table) (numbers_are_named-all table) naming at in
+alias_named table number name None at is = search
+alias_named table number name (Some naming) at is =
+    let all = (both_hold _ _ (numbers_are_named-all table)).1 in
+    let passes = found_passes (λ naming. bytes_eq naming.0 name) (λ naming. is_some (name_of table naming.1)) (aliases_of table) all naming at in
     subst (λ n. IsSome (name_of table n)) (some_alike naming.1 number is) passes.1
 
+named : (table : Table) (number : ℕ) (name : List ℕ) (row : Option Row) → find (λ row. bytes_eq (name_in row) name) (rows_of table) ≡ row →
+    option_map_or (λ row. Some row.0) row (alias_of table name) ≡ Some number → IsSome (name_of table number)
+named table number name None at is = alias_named table number name (find (λ naming. bytes_eq naming.0 name) (aliases_of table)) refl is
+named table number name (Some row) at is =
+    let all = (both_hold _ _ (numbers_are_named-all table)).0 in
+    let passes = found_passes (λ row. bytes_eq (name_in row) name) (λ row. is_some (name_of table row.0)) (rows_of table) all row at in
+    subst (λ n. IsSome (name_of table n)) (some_alike row.0 number is) passes.1
+
 pub NumbersAreNamed-all : NumbersAreNamed
-NumbersAreNamed-all table number name is = named table number name (find (λ naming. bytes_eq naming.0 name) (namings_of table)) refl is
+NumbersAreNamed-all table number name is = named table number name (find (λ row. bytes_eq (name_in row) name) (rows_of table)) refl is

@@ -3,7 +3,7 @@
 use Rattle.std.proofs.Common.{◌≡◌, true, refl}
 use Rattle.spa_names.specs.declared.table.Table.{Table}
 use Rattle.spa_names.specs.declared.table.Table.TheVariants.{Types, Choices, Controls, DeviceKeys, NodeKeys, CommandNodeKeys, PropInfoKeys, PropsKeys, FormatKeys, BuffersKeys, ParamMetaKeys, IOKeys, ProfileKeys, PortConfigKeys, RouteKeys, ProfilerKeys, LatencyKeys, ProcessLatencyKeys, DeviceEventId, Node, CommandNode, ParamId, BluetoothAudioCodec, MediaType, MediaSubtype, AudioFormat, AudioFlags, AudioIEC958Codec, ParamBitorder, AudioAACStreamFormat, AudioWMAProfile, AudioAMRBandMode, VideoFormat, VideoInterlaceMode, Meta, IO, ParamAvailability, Direction, ParamPortConfigMode, AudioChannel, Nothing}
-use Rattle.spa_names.proofs.Sound.{names_begin, numbers_rise, names_rise, names_come_back, numbers_are_named}
+use Rattle.spa_names.proofs.Sound.{names_begin, numbers_rise, names_come_back, numbers_are_named}
 
 pub names_begin-all : (table : Table) → names_begin table ≡ true
 names_begin-all Types = refl
@@ -90,49 +90,6 @@ numbers_rise-all Direction = refl
 numbers_rise-all ParamPortConfigMode = refl
 numbers_rise-all AudioChannel = refl
 numbers_rise-all Nothing = refl
-
-pub names_rise-all : (table : Table) → names_rise table ≡ true
-names_rise-all Types = refl
-names_rise-all Choices = refl
-names_rise-all Controls = refl
-names_rise-all DeviceKeys = refl
-names_rise-all NodeKeys = refl
-names_rise-all CommandNodeKeys = refl
-names_rise-all PropInfoKeys = refl
-names_rise-all PropsKeys = refl
-names_rise-all FormatKeys = refl
-names_rise-all BuffersKeys = refl
-names_rise-all ParamMetaKeys = refl
-names_rise-all IOKeys = refl
-names_rise-all ProfileKeys = refl
-names_rise-all PortConfigKeys = refl
-names_rise-all RouteKeys = refl
-names_rise-all ProfilerKeys = refl
-names_rise-all LatencyKeys = refl
-names_rise-all ProcessLatencyKeys = refl
-names_rise-all DeviceEventId = refl
-names_rise-all Node = refl
-names_rise-all CommandNode = refl
-names_rise-all ParamId = refl
-names_rise-all BluetoothAudioCodec = refl
-names_rise-all MediaType = refl
-names_rise-all MediaSubtype = refl
-names_rise-all AudioFormat = refl
-names_rise-all AudioFlags = refl
-names_rise-all AudioIEC958Codec = refl
-names_rise-all ParamBitorder = refl
-names_rise-all AudioAACStreamFormat = refl
-names_rise-all AudioWMAProfile = refl
-names_rise-all AudioAMRBandMode = refl
-names_rise-all VideoFormat = refl
-names_rise-all VideoInterlaceMode = refl
-names_rise-all Meta = refl
-names_rise-all IO = refl
-names_rise-all ParamAvailability = refl
-names_rise-all Direction = refl
-names_rise-all ParamPortConfigMode = refl
-names_rise-all AudioChannel = refl
-names_rise-all Nothing = refl
 
 pub names_come_back-all : (table : Table) → names_come_back table ≡ true
 names_come_back-all Types = refl

@@ -1,21 +1,21 @@
 -- What binary searches of the tables find.
-use Rattle.std.proofs.Common.{◌≡◌, ◌<◌, ℕ, ◌==◌, true, List, length, get_or, map, Some, None, option_map, Result, MatchResult, Bor, Ok, Err, refl, sym, ap, ◌∙◌, arith}
+use Rattle.std.proofs.Common.{◌≡◌, ◌<◌, ℕ, ◌==◌, true, List, length, get_or, map, Option, Some, None, option_map, Result, MatchResult, Bor, Ok, Err, refl, sym, ap, ◌∙◌, arith}
 use Rattle.std.specs.List.{HoldsAt, find}
+use Rattle.std.specs.Option.{option_map_or}
 use Rattle.std.specs.List.Sorted.{IsSearchInRange, IsBinarySearchResult}
 use Rattle.std.specs.Str.{bytes_eq}
-use Rattle.std.specs.Cmp.Lexicographic.{slice_cmp}
+use Rattle.std.proofs.lemmas.Slice.Eq.{bytes_eq-Decides}
 use Rattle.std.specs.Ordering.{is_eq, nat_cmp}
-use Rattle.std.specs.declared.cmp.Ordering.{Ordering}
-use Rattle.std.specs.declared.cmp.Ordering.TheVariants.{Less, Equal, Greater}
+use Rattle.std.specs.declared.cmp.Ordering.TheVariants.{Equal}
 use Rattle.std.proofs.lemmas.Bool.Decides.{nat_tests}
-use Rattle.std.proofs.lemmas.Cmp.{nat_cmp_total, nat_list_cmp_total}
-use Rattle.std.proofs.lemmas.Map.Text.{is_eq-slice_cmp}
+use Rattle.std.proofs.lemmas.Cmp.{nat_cmp_total}
 use Rattle.spa_names.specs.declared.table.Table.{Table}
-use Rattle.spa_names.specs.Rows.{row_of, naming_of}
-use Rattle.spa_names.specs.Tables.{rows_of, namings_of}
-use Rattle.spa_names.specs.Lookup.{row_at, number_of, object_at}
+use Rattle.spa_names.specs.Rows.{row_of, naming_of, name_in}
+use Rattle.spa_names.specs.Tables.{rows_of, aliases_of}
+use Rattle.spa_names.specs.Lookup.{row_at, name_of, alias_of, number_of, object_at}
 use Rattle.spa_names.specs.declared.table.TheConstants.{OBJECTS}
-use Rattle.spa_names.proofs.Facts.{numbers_rise-all, names_rise-all}
+use Rattle.spa_names.proofs.Facts.{numbers_rise-all}
+use Rattle.spa_names.proofs.Coming.{NamesComeBack-all}
 use Rattle.spa_names.proofs.Searching.{rises, rises-map, find-map, searched}
 
 is_eq-nat_cmp : (x y : ℕ) → (x == y) ≡ is_eq (nat_cmp x y)
@@ -23,11 +23,6 @@ is_eq-nat_cmp x y = grind (arith, nat_tests)
 
 nat_cmp-same : (x : ℕ) → nat_cmp x x ≡ Equal
 nat_cmp-same x = grind (arith, nat_tests)
-
-equal_from : (r : Ordering) → is_eq r ≡ true → r ≡ Equal
-equal_from Less is = search
-equal_from Equal is = refl
-equal_from Greater is = search
 
 module _ (table : Table) (number : ℕ) (entries : List (ℕ × Bor (List ℕ) × ℕ × ℕ)) (same : map row_of entries ≡ rows_of table) where
   entries_rise : rises nat_cmp (λ entry. entry.0) entries ≡ true
@@ -51,28 +46,35 @@ module _ (table : Table) (number : ℕ) (entries : List (ℕ × Bor (List ℕ) �
   entry_there at entry in_range there is =
       ap (λ e. Some (row_of e)) (there entry) ∙ entry_found (Ok at) in_range (λ d. ap (λ e. nat_cmp e.0 number) (sym (there d)) ∙ rw is (nat_cmp-same number)) entry
 
-module _ (table : Table) (name : List ℕ) (namings : List (Bor (List ℕ) × ℕ)) (same : map naming_of namings ≡ namings_of table) where
-  namings_rise : rises (slice_cmp nat_cmp) (λ naming. naming.0.now) namings ≡ true
-  namings_rise = sym (rises-map naming_of (slice_cmp nat_cmp) (λ naming. naming.0) namings) ∙ rw same (names_rise-all table)
+module _ (table : Table) (name : List ℕ) (entries : List (ℕ × Bor (List ℕ) × ℕ × ℕ)) (same : map row_of entries ≡ rows_of table) where
+  -- the number of the name, by the entry that has it
+  pub number_by : (found : Option (ℕ × Bor (List ℕ) × ℕ × ℕ)) → find (λ entry. bytes_eq (name_in (row_of entry)) name) entries ≡ found →
+      number_of table name ≡ option_map_or (λ row. Some row.0) (option_map row_of found) (alias_of table name)
+  number_by found is =
+      let row : find (λ row. bytes_eq (name_in row) name) (rows_of table) ≡ option_map row_of (find (λ entry. bytes_eq (name_in (row_of entry)) name) entries) =
+      rw (← same) (find-map row_of (λ row. bytes_eq (name_in row) name) entries) in
+      ap (λ r. option_map_or (λ row. Some row.0) r (alias_of table name)) (row ∙ ap (option_map row_of) is)
 
-  number_of-namings : number_of table name ≡ option_map (λ naming. naming.1) (option_map naming_of (find (λ naming. bytes_eq naming.0.now name) namings))
-  number_of-namings = ap (option_map (λ naming. naming.1)) (rw (← same) (find-map naming_of (λ naming. bytes_eq naming.0 name) namings))
+numbers_alike : (found : Option (Bor (List ℕ) × ℕ)) → option_map (λ naming. naming.1) (option_map naming_of found) ≡ option_map (λ naming. naming.1) found
+numbers_alike None = refl
+numbers_alike (Some naming) = refl
 
-  pub number_found : (r : Result ℕ ℕ) → IsSearchInRange r (length namings) → IsBinarySearchResult (λ naming. slice_cmp nat_cmp naming.0.now name) namings r →
-      MatchResult r (λ at. (d : Bor (List ℕ) × ℕ) → let naming = get_or namings at d in Some naming.1 ≡ number_of table name) (λ at. None ≡ number_of table name)
-  number_found (Ok at) in_range is =
-      let found = searched nat_list_cmp_total (λ naming. naming.0.now) name (λ naming. bytes_eq naming.0.now name) (λ naming. sym (is_eq-slice_cmp naming.0.now name)) namings namings_rise (Ok at) in_range is in
-      λ d. sym (number_of-namings ∙ ap (λ naming. option_map (λ naming. naming.1) (option_map naming_of naming)) (found d))
-  number_found (Err at) in_range is =
-      let found = searched nat_list_cmp_total (λ naming. naming.0.now) name (λ naming. bytes_eq naming.0.now name) (λ naming. sym (is_eq-slice_cmp naming.0.now name)) namings namings_rise (Err at) in_range is in
-      sym (number_of-namings ∙ ap (λ naming. option_map (λ naming. naming.1) (option_map naming_of naming)) found)
+-- the number of the further name, by the naming that has it
+pub alias_by : (table : Table) (name : List ℕ) (namings : List (Bor (List ℕ) × ℕ)) → map naming_of namings ≡ aliases_of table →
+    (found : Option (Bor (List ℕ) × ℕ)) → find (λ naming. bytes_eq naming.0.now name) namings ≡ found → alias_of table name ≡ option_map (λ naming. naming.1) found
+alias_by table name namings same found is =
+    let naming : find (λ naming. bytes_eq naming.0 name) (aliases_of table) ≡ option_map naming_of (find (λ naming. bytes_eq naming.0.now name) namings) =
+    rw (← same) (find-map naming_of (λ naming. bytes_eq naming.0 name) namings) in
+    ap (option_map (λ naming. naming.1)) (naming ∙ ap (option_map naming_of) is) ∙ numbers_alike found
 
-  -- a naming that has the name is the table's
-  pub naming_there : (at : ℕ) (naming : Bor (List ℕ) × ℕ) → at < length namings → HoldsAt (λ other. naming ≡ other) namings at → bytes_eq naming.0.now name ≡ true →
-      Some naming.1 ≡ number_of table name
-  naming_there at naming in_range there is =
-      let equal = equal_from (slice_cmp nat_cmp naming.0.now name) (is_eq-slice_cmp naming.0.now name ∙ is) in
-      ap (λ e. Some e.1) (there naming) ∙ number_found (Ok at) in_range (λ d. ap (λ e. slice_cmp nat_cmp e.0.now name) (sym (there d)) ∙ equal) naming
+-- an entry of the table that has the name is the one whose number the name has
+pub named_there : (table : Table) (name : List ℕ) (entries : List (ℕ × Bor (List ℕ) × ℕ × ℕ)) → map row_of entries ≡ rows_of table →
+    (at : ℕ) (entry : ℕ × Bor (List ℕ) × ℕ × ℕ) → at < length entries → HoldsAt (λ other. entry ≡ other) entries at →
+    bytes_eq (name_in (row_of entry)) name ≡ true → Some entry.0 ≡ number_of table name
+named_there table name entries same at entry in_range there is =
+    let row = entry_there table entry.0 entries same at entry in_range there refl in
+    let named : name_of table entry.0 ≡ Some name = ap (option_map name_in) (sym row) ∙ ap Some ((bytes_eq-Decides (name_in (row_of entry)) name).0 is) in
+    sym (NamesComeBack-all table entry.0 name named)
 
 module _ (type : ℕ) (r : Result ℕ ℕ) (in_range : IsSearchInRange r (length OBJECTS)) (is : IsBinarySearchResult (λ object. nat_cmp object.0 type) OBJECTS r) where
   pub object_found : MatchResult r (λ at. (d : ℕ × Table × Table) → Some (get_or OBJECTS at d) ≡ object_at type) (λ at. None ≡ object_at type)

@@ -1,5 +1,5 @@
 -- A binary search in a list whose keys rise finds what a look from its front finds.
-use Rattle.std.proofs.Common.{◌≡◌, ℕ, zero, suc, ◌+◌, ◌<◌, Bool, true, false, List, [], ◌∷◌, length, get_or, Option, Some, None, option_map, cond, map, inl, inr, Result, Ok, Err, MatchResult, ◌&&◌, refl, sym, ap, ◌∙◌, arith}
+use Rattle.std.proofs.Common.{◌≡◌, ℕ, zero, suc, ◌+◌, ◌<◌, Bool, true, false, List, [], ◌∷◌, length, get_or, take, Option, Some, None, option_map, cond, map, inl, inr, Result, Ok, Err, MatchResult, ◌&&◌, refl, sym, ap, subst, ◌∙◌, arith}
 use Rattle.std.specs.List.{find}
 use Rattle.std.specs.List.Sorted.{IsSearchInRange, IsBinarySearchResult, IsSortedBy}
 use Rattle.std.specs.Cmp.{IsTotalOrder}
@@ -87,3 +87,25 @@ option_map-cond f false x found below same = same
 pub find-map : {X Y : Type 0} (f : X → Y) (test : Y → Bool) (xs : List X) → find test (map f xs) ≡ option_map f (find (λ x. test (f x)) xs)
 find-map f test [] = refl
 find-map f test (x ∷ xs) = option_map-cond f (test (f x)) x _ _ (find-map f test xs)
+
+-- what a search from the front has found none of, up to an element
+cond_none : {X : Type 0} (b : Bool) (x : X) (found : Option X) → cond b (Some x) found ≡ None → (b ≡ false) × (found ≡ None)
+cond_none true x found is = search
+cond_none false x found is = (refl, is)
+
+module _ {X : Type 0} (test : X → Bool) where
+  pub none-more : (xs : List X) (i : ℕ) (d : X) → i < length xs → find test (take i xs) ≡ None → test (get_or xs i d) ≡ false → find test (take (i + 1) xs) ≡ None
+  none-more [] i d in_range none is = absurd (omega (arith, in_range))
+  none-more (x ∷ xs) zero d in_range none is = subst (λ b. cond b (Some x) None ≡ None) (sym is) refl
+  none-more (x ∷ xs) (suc i) d in_range none is =
+      let p = cond_none (test x) x (find test (take i xs)) none in
+      let next : suc i + 1 ≡ suc (i + 1) = omega arith in
+      subst (λ n. find test (take n (x ∷ xs)) ≡ None) (sym next)
+      (subst (λ b. cond b (Some x) (find test (take (i + 1) xs)) ≡ None) (sym p.0) (none-more xs i d (omega (arith, in_range)) p.1 is))
+
+  pub first-found : (xs : List X) (i : ℕ) (d : X) → i < length xs → find test (take i xs) ≡ None → test (get_or xs i d) ≡ true → find test xs ≡ Some (get_or xs i d)
+  first-found [] i d in_range none is = absurd (omega (arith, in_range))
+  first-found (x ∷ xs) zero d in_range none is = subst (λ b. cond b (Some x) (find test xs) ≡ Some x) (sym is) refl
+  first-found (x ∷ xs) (suc i) d in_range none is =
+      let p = cond_none (test x) x (find test (take i xs)) none in
+      subst (λ b. cond b (Some x) (find test xs) ≡ Some (get_or xs i d)) (sym p.0) (first-found xs i d (omega (arith, in_range)) p.1 is)

@@ -1,11 +1,10 @@
 -- What is asked of a table, as tests.
 use Rattle.std.proofs.Common.{ℕ, Bool, false, Option, Some, None, ◌==◌, ◌&&◌, get_or, is_some, length, nat_lt}
 use Rattle.std.specs.List.{list_all}
-use Rattle.std.specs.Cmp.Lexicographic.{slice_cmp}
 use Rattle.std.specs.Ordering.{nat_cmp}
 use Rattle.spa_names.specs.declared.table.Table.{Table}
 use Rattle.spa_names.specs.Rows.{Row, name_in}
-use Rattle.spa_names.specs.Tables.{rows_of, namings_of}
+use Rattle.spa_names.specs.Tables.{rows_of, aliases_of}
 use Rattle.spa_names.specs.Lookup.{name_of, number_of}
 use Rattle.spa_names.proofs.Searching.{rises}
 
@@ -24,11 +23,9 @@ names_begin table = list_all begins (rows_of table)
 abbrev pub numbers_rise : Table → Bool
 numbers_rise table = rises nat_cmp (λ row. row.0) (rows_of table)
 
-abbrev pub names_rise : Table → Bool
-names_rise table = rises (slice_cmp nat_cmp) (λ naming. naming.0) (namings_of table)
-
 abbrev pub names_come_back : Table → Bool
 names_come_back table = list_all (λ row. is_number (number_of table (name_in row)) row.0) (rows_of table)
 
 abbrev pub numbers_are_named : Table → Bool
-numbers_are_named table = list_all (λ naming. is_some (name_of table naming.1)) (namings_of table)
+numbers_are_named table =
+    list_all (λ row. is_some (name_of table row.0)) (rows_of table) && list_all (λ naming. is_some (name_of table naming.1)) (aliases_of table)

@@ -10,7 +10,7 @@ use Rattle.spa_names.specs.declared.table.Table.{Table}
 use Rattle.spa_names.specs.declared.table.Table.TheVariants.{Nothing}
 use Rattle.spa_names.specs.declared.table.TheConstants.{OBJECTS}
 use Rattle.spa_names.specs.Rows.{Row, name_in}
-use Rattle.spa_names.specs.Tables.{rows_of, namings_of}
+use Rattle.spa_names.specs.Tables.{rows_of, aliases_of}
 
 -- a table's row of a number; None where it has none
 abbrev pub row_at : Table → ℕ → Option Row
@@ -28,9 +28,13 @@ path_of table number = option_map (λ row. row.1) (row_at table number)
 abbrev pub expected_under : Table → ℕ → Expected
 expected_under keys key = option_map_or (λ row. row.3) (row_at keys key) NOTHING
 
--- the number of a name
+-- the number of a further name
+abbrev pub alias_of : Table → List ℕ → Option ℕ
+alias_of table name = option_map (λ naming. naming.1) (find (λ naming. bytes_eq naming.0 name) (aliases_of table))
+
+-- the number of a name, or of a further one
 abbrev pub number_of : Table → List ℕ → Option ℕ
-number_of table name = option_map (λ naming. naming.1) (find (λ naming. bytes_eq naming.0 name) (namings_of table))
+number_of table name = option_map_or (λ row. Some row.0) (find (λ row. bytes_eq (name_in row) name) (rows_of table)) (alias_of table name)
 
 -- a type of objects, with the tables of its keys and of its ids
 abbrev pub object_at : ℕ → Option (ℕ × Table × Table)

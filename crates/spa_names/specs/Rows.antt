@@ -13,7 +13,7 @@ Row = ℕ × List ℕ × ℕ × Expected
 abbrev pub name_in : Row → List ℕ
 name_in row = drop row.2 row.1
 
--- a name, and its number
+-- a further name of a number, and the number
 abbrev pub Naming : Type 0
 Naming = List ℕ × ℕ
 
@@ -21,6 +21,6 @@ Naming = List ℕ × ℕ
 abbrev pub row_of : ℕ × Bor (List ℕ) × ℕ × ℕ → Row
 row_of entry = (entry.0, entry.1.now, entry.2, get_or EXPECTED entry.3 NOTHING)
 
--- the name and the number of a naming of the code
+-- the naming of one of the code
 abbrev pub naming_of : Bor (List ℕ) × ℕ → Naming
 naming_of naming = (naming.0.now, naming.1)

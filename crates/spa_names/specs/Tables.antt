@@ -7,7 +7,7 @@ use Rattle.spa_names.specs.declared.table.Table.{Table}
 use Rattle.spa_names.specs.declared.table.Table.TheVariants.{Types, Choices, Controls, DeviceKeys, NodeKeys, CommandNodeKeys, PropInfoKeys, PropsKeys, FormatKeys, BuffersKeys, ParamMetaKeys, IOKeys, ProfileKeys, PortConfigKeys, RouteKeys, ProfilerKeys, LatencyKeys, ProcessLatencyKeys, DeviceEventId, Node, CommandNode, ParamId, BluetoothAudioCodec, MediaType, MediaSubtype, AudioFormat, AudioFlags, AudioIEC958Codec, ParamBitorder, AudioAACStreamFormat, AudioWMAProfile, AudioAMRBandMode, VideoFormat, VideoInterlaceMode, Meta, IO, ParamAvailability, Direction, ParamPortConfigMode, AudioChannel, Nothing}
 use Rattle.spa_names.specs.declared.key_entries.TheConstants.{EXPECTED, ENTRIES_OF_DEVICE_KEYS, ENTRIES_OF_NODE_KEYS, ENTRIES_OF_COMMAND_NODE_KEYS, ENTRIES_OF_PROP_INFO_KEYS, ENTRIES_OF_PROPS_KEYS, ENTRIES_OF_FORMAT_KEYS, ENTRIES_OF_BUFFERS_KEYS, ENTRIES_OF_PARAM_META_KEYS, ENTRIES_OF_IOKEYS, ENTRIES_OF_PROFILE_KEYS, ENTRIES_OF_PORT_CONFIG_KEYS, ENTRIES_OF_ROUTE_KEYS, ENTRIES_OF_PROFILER_KEYS, ENTRIES_OF_LATENCY_KEYS, ENTRIES_OF_PROCESS_LATENCY_KEYS}
 use Rattle.spa_names.specs.declared.id_entries.TheConstants.{ENTRIES_OF_TYPES, ENTRIES_OF_CHOICES, ENTRIES_OF_CONTROLS, ENTRIES_OF_DEVICE_EVENT_ID, ENTRIES_OF_NODE, ENTRIES_OF_COMMAND_NODE, ENTRIES_OF_PARAM_ID, ENTRIES_OF_BLUETOOTH_AUDIO_CODEC, ENTRIES_OF_MEDIA_TYPE, ENTRIES_OF_MEDIA_SUBTYPE, ENTRIES_OF_AUDIO_FORMAT, ENTRIES_OF_AUDIO_FLAGS, ENTRIES_OF_AUDIO_IEC958_CODEC, ENTRIES_OF_PARAM_BITORDER, ENTRIES_OF_AUDIO_AACSTREAM_FORMAT, ENTRIES_OF_AUDIO_WMAPROFILE, ENTRIES_OF_AUDIO_AMRBAND_MODE, ENTRIES_OF_VIDEO_FORMAT, ENTRIES_OF_VIDEO_INTERLACE_MODE, ENTRIES_OF_META, ENTRIES_OF_IO, ENTRIES_OF_PARAM_AVAILABILITY, ENTRIES_OF_DIRECTION, ENTRIES_OF_PARAM_PORT_CONFIG_MODE, ENTRIES_OF_AUDIO_CHANNEL}
-use Rattle.spa_names.specs.declared.names.TheConstants.{NAMES_OF_TYPES, NAMES_OF_CHOICES, NAMES_OF_CONTROLS, NAMES_OF_DEVICE_KEYS, NAMES_OF_NODE_KEYS, NAMES_OF_COMMAND_NODE_KEYS, NAMES_OF_PROP_INFO_KEYS, NAMES_OF_PROPS_KEYS, NAMES_OF_FORMAT_KEYS, NAMES_OF_BUFFERS_KEYS, NAMES_OF_PARAM_META_KEYS, NAMES_OF_IOKEYS, NAMES_OF_PROFILE_KEYS, NAMES_OF_PORT_CONFIG_KEYS, NAMES_OF_ROUTE_KEYS, NAMES_OF_PROFILER_KEYS, NAMES_OF_LATENCY_KEYS, NAMES_OF_PROCESS_LATENCY_KEYS, NAMES_OF_DEVICE_EVENT_ID, NAMES_OF_NODE, NAMES_OF_COMMAND_NODE, NAMES_OF_PARAM_ID, NAMES_OF_BLUETOOTH_AUDIO_CODEC, NAMES_OF_MEDIA_TYPE, NAMES_OF_MEDIA_SUBTYPE, NAMES_OF_AUDIO_FORMAT, NAMES_OF_AUDIO_FLAGS, NAMES_OF_AUDIO_IEC958_CODEC, NAMES_OF_PARAM_BITORDER, NAMES_OF_AUDIO_AACSTREAM_FORMAT, NAMES_OF_AUDIO_WMAPROFILE, NAMES_OF_AUDIO_AMRBAND_MODE, NAMES_OF_VIDEO_FORMAT, NAMES_OF_VIDEO_INTERLACE_MODE, NAMES_OF_META, NAMES_OF_IO, NAMES_OF_PARAM_AVAILABILITY, NAMES_OF_DIRECTION, NAMES_OF_PARAM_PORT_CONFIG_MODE, NAMES_OF_AUDIO_CHANNEL}
+use Rattle.spa_names.specs.declared.aliases.TheConstants.{ALIASES_OF_AUDIO_FORMAT}
 
 -- the entries of a table, by their numbers
 abbrev pub rows_of : Table → List Row
@@ -53,49 +53,10 @@ rows_of ParamPortConfigMode = map (λ e. (e.0, e.1.now, e.2, get_or EXPECTED e.3
 rows_of AudioChannel = map (λ e. (e.0, e.1.now, e.2, get_or EXPECTED e.3 NOTHING)) ENTRIES_OF_AUDIO_CHANNEL.now
 rows_of Nothing = []
 
--- the names of a table, in their order
-abbrev pub namings_of : Table → List Naming
-namings_of Types = map (λ e. (e.0.now, e.1)) NAMES_OF_TYPES.now
-namings_of Choices = map (λ e. (e.0.now, e.1)) NAMES_OF_CHOICES.now
-namings_of Controls = map (λ e. (e.0.now, e.1)) NAMES_OF_CONTROLS.now
-namings_of DeviceKeys = map (λ e. (e.0.now, e.1)) NAMES_OF_DEVICE_KEYS.now
-namings_of NodeKeys = map (λ e. (e.0.now, e.1)) NAMES_OF_NODE_KEYS.now
-namings_of CommandNodeKeys = map (λ e. (e.0.now, e.1)) NAMES_OF_COMMAND_NODE_KEYS.now
-namings_of PropInfoKeys = map (λ e. (e.0.now, e.1)) NAMES_OF_PROP_INFO_KEYS.now
-namings_of PropsKeys = map (λ e. (e.0.now, e.1)) NAMES_OF_PROPS_KEYS.now
-namings_of FormatKeys = map (λ e. (e.0.now, e.1)) NAMES_OF_FORMAT_KEYS.now
-namings_of BuffersKeys = map (λ e. (e.0.now, e.1)) NAMES_OF_BUFFERS_KEYS.now
-namings_of ParamMetaKeys = map (λ e. (e.0.now, e.1)) NAMES_OF_PARAM_META_KEYS.now
-namings_of IOKeys = map (λ e. (e.0.now, e.1)) NAMES_OF_IOKEYS.now
-namings_of ProfileKeys = map (λ e. (e.0.now, e.1)) NAMES_OF_PROFILE_KEYS.now
-namings_of PortConfigKeys = map (λ e. (e.0.now, e.1)) NAMES_OF_PORT_CONFIG_KEYS.now
-namings_of RouteKeys = map (λ e. (e.0.now, e.1)) NAMES_OF_ROUTE_KEYS.now
-namings_of ProfilerKeys = map (λ e. (e.0.now, e.1)) NAMES_OF_PROFILER_KEYS.now
-namings_of LatencyKeys = map (λ e. (e.0.now, e.1)) NAMES_OF_LATENCY_KEYS.now
-namings_of ProcessLatencyKeys = map (λ e. (e.0.now, e.1)) NAMES_OF_PROCESS_LATENCY_KEYS.now
-namings_of DeviceEventId = map (λ e. (e.0.now, e.1)) NAMES_OF_DEVICE_EVENT_ID.now
-namings_of Node = map (λ e. (e.0.now, e.1)) NAMES_OF_NODE.now
-namings_of CommandNode = map (λ e. (e.0.now, e.1)) NAMES_OF_COMMAND_NODE.now
-namings_of ParamId = map (λ e. (e.0.now, e.1)) NAMES_OF_PARAM_ID.now
-namings_of BluetoothAudioCodec = map (λ e. (e.0.now, e.1)) NAMES_OF_BLUETOOTH_AUDIO_CODEC.now
-namings_of MediaType = map (λ e. (e.0.now, e.1)) NAMES_OF_MEDIA_TYPE.now
-namings_of MediaSubtype = map (λ e. (e.0.now, e.1)) NAMES_OF_MEDIA_SUBTYPE.now
-namings_of AudioFormat = map (λ e. (e.0.now, e.1)) NAMES_OF_AUDIO_FORMAT.now
-namings_of AudioFlags = map (λ e. (e.0.now, e.1)) NAMES_OF_AUDIO_FLAGS.now
-namings_of AudioIEC958Codec = map (λ e. (e.0.now, e.1)) NAMES_OF_AUDIO_IEC958_CODEC.now
-namings_of ParamBitorder = map (λ e. (e.0.now, e.1)) NAMES_OF_PARAM_BITORDER.now
-namings_of AudioAACStreamFormat = map (λ e. (e.0.now, e.1)) NAMES_OF_AUDIO_AACSTREAM_FORMAT.now
-namings_of AudioWMAProfile = map (λ e. (e.0.now, e.1)) NAMES_OF_AUDIO_WMAPROFILE.now
-namings_of AudioAMRBandMode = map (λ e. (e.0.now, e.1)) NAMES_OF_AUDIO_AMRBAND_MODE.now
-namings_of VideoFormat = map (λ e. (e.0.now, e.1)) NAMES_OF_VIDEO_FORMAT.now
-namings_of VideoInterlaceMode = map (λ e. (e.0.now, e.1)) NAMES_OF_VIDEO_INTERLACE_MODE.now
-namings_of Meta = map (λ e. (e.0.now, e.1)) NAMES_OF_META.now
-namings_of IO = map (λ e. (e.0.now, e.1)) NAMES_OF_IO.now
-namings_of ParamAvailability = map (λ e. (e.0.now, e.1)) NAMES_OF_PARAM_AVAILABILITY.now
-namings_of Direction = map (λ e. (e.0.now, e.1)) NAMES_OF_DIRECTION.now
-namings_of ParamPortConfigMode = map (λ e. (e.0.now, e.1)) NAMES_OF_PARAM_PORT_CONFIG_MODE.now
-namings_of AudioChannel = map (λ e. (e.0.now, e.1)) NAMES_OF_AUDIO_CHANNEL.now
-namings_of Nothing = []
+-- the further names of numbers in a table
+abbrev pub aliases_of : Table → List Naming
+aliases_of AudioFormat = map (λ e. (e.0.now, e.1)) ALIASES_OF_AUDIO_FORMAT.now
+aliases_of _ = []
 
 -- a table of types or ids, or without names: of no keys
 abbrev pub IsOfIds : Table → Type 0

@@ -1,6 +1,7 @@
 //! The names that PipeWire gives to types, keys and ids, and what is expected under a key.
 #![tactic(auto)]
 
+mod aliases;
 mod contents;
 mod entry;
 pub mod formats;
@@ -12,7 +13,6 @@ mod key_entries;
 pub mod keys;
 pub mod laws;
 mod lookup;
-mod names;
 pub mod shapes;
 mod table;
 pub mod types;

@@ -1,12 +1,13 @@
 //! Looks names up by numbers, and numbers by names.
 ghost use Rattle.std.specs.Prelude.{◌≡◌, MatchOption, None, Some, get_or};
 ghost use Rattle.std.specs.Option.{option_map};
+ghost use Rattle.std.specs.Str.{bytes_eq};
 ghost use Rattle.spa_names.specs.declared.entry.TheConstants.Expected.{NOTHING};
 ghost use Rattle.spa_names.specs.declared.key_entries.TheConstants.{EXPECTED};
-ghost use Rattle.spa_names.specs.Rows.{row_of};
-ghost use Rattle.spa_names.specs.Lookup.{expected_under, ids_of, keys_of, name_of, number_of, object_at, path_of, row_at};
+ghost use Rattle.spa_names.specs.Rows.{name_in, row_of};
+ghost use Rattle.spa_names.specs.Lookup.{alias_of, expected_under, ids_of, keys_of, name_of, number_of, object_at, path_of, row_at};
 
-use crate::contents::{entries_of, namings_of};
+use crate::contents::{aliases_of, entries_of};
 use crate::entry::{Entry, Expected};
 use crate::guess::guess_of;
 use crate::key_entries::EXPECTED;
@@ -60,10 +61,18 @@ fn expected_at(place: usize) -> Expected
 pub fn number_of(table: Table, name: &str) -> Option<u32>
     ensures { result ≡ number_of table name.now }
 {
-    match number_at(table, name) {
-        Some((number, _)) => Some(number),
-        None => None,
+    let entries = entries_of(table);
+    if let Some(entry) = entries.get(guess_of(name, entries.len())) {
+        if has_name(entry, name) {
+            return Some(entry.0);
+        }
     }
+    for entry in entries {
+        if has_name(entry, name) {
+            return Some(entry.0);
+        }
+    }
+    alias_of(table, name)
 }
 
 /// The number of a key by its name, and what is expected of the value under it. None: the table of its object's keys doesn't have the name.
@@ -71,30 +80,33 @@ pub fn key_named(keys: Table, name: &str) -> Option<(u32, Expected)>
     ensures { MatchOption result (number_of keys name.now ≡ None)
         (λ key. (number_of keys name.now ≡ Some key.0) × (key.1 ≡ expected_under keys key.0)) }
 {
-    match number_at(keys, name) {
-        Some((number, place)) => match entry_near(keys, number, place) {
-            Some(entry) => Some((number, expected_at(entry.3))),
-            None => Some((number, Expected::NOTHING)),
-        },
+    match number_of(keys, name) {
+        Some(number) => Some((number, expected_under(keys, number))),
         None => None,
     }
 }
 
-/// The number of a name, with a guess at which index the table has the entry of this number. None: the table doesn't have the name.
-fn number_at(table: Table, name: &str) -> Option<(u32, usize)>
-    ensures { option_map (λ found. found.0) result ≡ number_of table name.now }
+/// Whether this is the name of an entry.
+fn has_name(entry: &Entry, name: &str) -> bool
+    ensures { result ≡ bytes_eq (name_in (row_of entry.now)) name.now }
 {
-    let namings = namings_of(table);
-    let (at, place) = guess_of(name, namings.len());
-    if let Some(naming) = namings.get(at) {
-        if naming.0 == name {
-            return Some((naming.1, place));
+    match entry.1.as_bytes().get(entry.2..) {
+        Some(own) => own == name.as_bytes(),
+        None => name.is_empty(),
+    }
+}
+
+/// The number of a further name. None: the table doesn't have it.
+fn alias_of(table: Table, name: &str) -> Option<u32>
+    ensures { result ≡ alias_of table name.now }
+{
+    let aliases = aliases_of(table);
+    for alias in aliases {
+        if alias.0 == name {
+            return Some(alias.1);
         }
     }
-    match namings.binary_search_by(|naming| naming.0.cmp(&name)) {
-        Ok(at) => Some((namings[at].1, place)),
-        Err(_) => None,
-    }
+    None
 }
 
 /// The table of the keys of objects of this type.
@@ -135,18 +147,6 @@ fn object_of(type_: SpaTypes) -> Option<(u32, Table, Table)>
         Ok(at) => Some(objects[at]),
         Err(_) => None,
     }
-}
-
-/// A table's entry of a number, which is likely to be at this index. None: it has none.
-fn entry_near(table: Table, number: u32, place: usize) -> Option<Entry>
-    ensures { option_map row_of result ≡ row_at table number }
-{
-    if let Some(entry) = entries_of(table).get(place) {
-        if entry.0 == number {
-            return Some(*entry);
-        }
-    }
-    entry_of(table, number)
 }
 
 /// A table's entry of a number. None: it has none.

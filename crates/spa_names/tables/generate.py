@@ -7,7 +7,7 @@
 
 A name is the shortest end of PipeWire's name, cut at a colon, that no entry before it in its table has. So a name keeps its
 number when PipeWire appends entries to a table. Entries whose names end in a colon only mark where a range begins: they give no
-name. Of several entries of one number the first one gives the name that the number is shown by; all of them are looked up.
+name. Of several entries of one number the first one gives the name that the number is shown by, and the others are further names of it.
 
 A constant is named as C's identifier, in capitals, without what all of its module begin with.
 """
@@ -114,14 +114,23 @@ def slot_of(hash_, displacement):
     return (hash_ >> 40 ^ displacement * 4) % SLOTS
 
 
+def names_in(table):
+    """The name that each number of a table is shown by, in the order of the numbers, and the further names, each with its number."""
+    first, further = {}, []
+    for number, name, _, _, _ in named(table):
+        if number in first:
+            further.append((name, number))
+        first.setdefault(number, name)
+    return [first[it] for it in sorted(first)], sorted(further)
+
+
 def guesses_of(tables):
-    """For each name the index in its table, and that of the entry of its number, at slots that no other has. Names of one hash share a slot."""
+    """For each name that a number is shown by the index of its entry, at slots that no other has. Names of one hash share a slot."""
     guesses, slots, displacements = {}, {}, [0] * DISPLACEMENTS
     for table in tables:
-        names = sorted((name.encode(), number) for number, name, _, _, _ in named(table))
-        numbers = sorted({number for _, number in names})
-        for at, (name, number) in enumerate(names):
-            guesses.setdefault(hash_of(name, len(names)), (at, numbers.index(number)))
+        names, _ = names_in(table)
+        for at, name in enumerate(names):
+            guesses.setdefault(hash_of(name.encode(), len(names)), at)
     buckets = {}
     for hash_ in guesses:
         buckets.setdefault(bucket_of(hash_), []).append(hash_)
@@ -134,7 +143,7 @@ def guesses_of(tables):
             sys.exit("generate.py: another MULTIPLIER is needed")
         displacements[bucket] = displacement
         slots.update(ours)
-    return displacements, [slots.get(at, (0, 0)) for at in range(SLOTS)]
+    return displacements, [slots.get(at, 0) for at in range(SLOTS)]
 
 
 def rows_of(items, count):
@@ -198,12 +207,12 @@ def main():
             out += rows + ["];"]
         write(f"src/{module}.rt", out)
 
-    out = [f"// Written {OF_C}", "//! The names of each table, in their order.", "", "use crate::entry::Naming;"]
-    for at in kept:
-        rows = sorted((name.encode(), number) for number, name, _, _, _ in named(tables[at]))
-        out += ["", "#[rattlefmt::skip]", f"pub(crate) const NAMES_OF_{constant_of(titles[at])}: &[Naming] = &["]
-        out += [f'    ("{name.decode()}", {number}),' for name, number in rows] + ["];"]
-    write("src/names.rt", out)
+    has_further = [at for at in kept if names_in(tables[at])[1]]
+    out = [f"// Written {OF_C}", "//! Further names of numbers that have an entry.", "", "use crate::entry::Naming;"]
+    for at in has_further:
+        out += ["", "#[rattlefmt::skip]", f"pub(crate) const ALIASES_OF_{constant_of(titles[at])}: &[Naming] = &["]
+        out += [f'    ("{name}", {number}),' for name, number in names_in(tables[at])[1]] + ["];"]
+    write("src/aliases.rt", out)
 
     def arms(ours, rows):
         """The arms of a match that gives the rows of our tables."""
@@ -212,34 +221,31 @@ def main():
     def entries(at):
         return ("key" if at in is_keys else "id") + "_entries::ENTRIES"
 
-    def names(_):
-        return "names::NAMES"
+    def aliases(_):
+        return "aliases::ALIASES"
 
     others = set(kept) - is_keys
     out = [f"// Written {OF_C}", "//! The contents of the tables."]
     out += ["ghost use Rattle.std.specs.Prelude.{◌≡◌, map};", "ghost use Rattle.spa_names.specs.Rows.{naming_of, row_of};"]
-    out += ["ghost use Rattle.spa_names.specs.Tables.{IsOfIds, namings_of, rows_of};", ""]
-    out += ["use crate::entry::{Entry, Naming};", "use crate::table::Table;", "use crate::{id_entries, key_entries, names};"]
+    out += ["ghost use Rattle.spa_names.specs.Tables.{IsOfIds, aliases_of, rows_of};", ""]
+    out += ["use crate::entry::{Entry, Naming};", "use crate::table::Table;", "use crate::{aliases, id_entries, key_entries};"]
     out += ["", "/// The entries of a table, by their numbers.", "pub(crate) fn entries_of(table: Table) -> &'static [Entry]"]
     out += ["    ensures { map row_of result.now ≡ rows_of table }", "{", "    match table {"]
     out += arms(is_keys, entries) + ["        _ => id_entries_of(table),", "    }", "}"]
     out += ["", "/// The entries of a table of types or ids; of any other none.", "fn id_entries_of(table: Table) -> &'static [Entry]"]
     out += ["    ensures { IsOfIds table → map row_of result.now ≡ rows_of table }", "{", "    match table {"]
     out += arms(others, entries) + ["        _ => &[],", "    }", "}"]
-    out += ["", "/// The names of a table, in their order.", "pub(crate) fn namings_of(table: Table) -> &'static [Naming]"]
-    out += ["    ensures { map naming_of result.now ≡ namings_of table }", "{", "    match table {"]
-    out += arms(is_keys, names) + ["        _ => id_namings_of(table),", "    }", "}"]
-    out += ["", "/// The names of a table of types or ids, in their order; of any other none.", "fn id_namings_of(table: Table) -> &'static [Naming]"]
-    out += ["    ensures { IsOfIds table → map naming_of result.now ≡ namings_of table }", "{", "    match table {"]
-    out += arms(others, names) + ["        _ => &[],", "    }", "}"]
+    out += ["", "/// The further names of numbers in a table.", "pub(crate) fn aliases_of(table: Table) -> &'static [Naming]"]
+    out += ["    ensures { map naming_of result.now ≡ aliases_of table }", "{", "    match table {"]
+    out += arms(has_further, aliases) + ["        _ => &[],", "    }", "}"]
     write("src/contents.rt", out)
 
     displacements, guesses = guesses_of([tables[at] for at in kept])
     out = [f"// Written {OF_C}", "//! Where the tables are likely to have a name."]
     out += ["", "/// What is added to the slots of names, by the highest byte of their hash.", "#[rattlefmt::skip]"]
     out += ["pub(crate) const DISPLACEMENTS: &[u8] = &["] + rows_of(displacements, 32) + ["];"]
-    out += ["", "/// For a slot the index of a name in its table, and that of the entry of its number.", "#[rattlefmt::skip]"]
-    out += ["pub(crate) const GUESSES: &[(u8, u8)] = &["] + rows_of(guesses, 16) + ["];"]
+    out += ["", "/// For a slot the index of the entry of a name.", "#[rattlefmt::skip]"]
+    out += ["pub(crate) const GUESSES: &[u8] = &["] + rows_of(guesses, 32) + ["];"]
     write("src/guesses.rt", out)
 
     identifiers = read_identifiers(sys.argv[1])
@@ -264,16 +270,16 @@ def main():
     out += ["use Rattle.spa_names.specs.declared.table.Table.{Table}"]
     variants = [titles[at] for at in kept] + ["Nothing"]
     out += [f"use Rattle.spa_names.specs.declared.table.Table.TheVariants.{{{', '.join(variants)}}}"]
-    constants = [constant_of(titles[at]) for at in kept]
     out += [f"use Rattle.spa_names.specs.declared.key_entries.TheConstants.{{EXPECTED, {constants_of(is_keys)}}}"]
     out += [f"use Rattle.spa_names.specs.declared.id_entries.TheConstants.{{{constants_of(set(kept) - is_keys)}}}"]
-    out += [f"use Rattle.spa_names.specs.declared.names.TheConstants.{{{', '.join('NAMES_OF_' + it for it in constants)}}}"]
+    further = [constant_of(titles[at]) for at in has_further]
+    out += [f"use Rattle.spa_names.specs.declared.aliases.TheConstants.{{{', '.join('ALIASES_OF_' + it for it in further)}}}"]
     out += ["", "-- the entries of a table, by their numbers", "abbrev pub rows_of : Table → List Row"]
     out += [f"rows_of {titles[at]} = map (λ e. (e.0, e.1.now, e.2, get_or EXPECTED e.3 NOTHING)) ENTRIES_OF_{constant_of(titles[at])}.now" for at in kept]
     out += ["rows_of Nothing = []"]
-    out += ["", "-- the names of a table, in their order", "abbrev pub namings_of : Table → List Naming"]
-    out += [f"namings_of {titles[at]} = map (λ e. (e.0.now, e.1)) NAMES_OF_{constant_of(titles[at])}.now" for at in kept]
-    out += ["namings_of Nothing = []"]
+    out += ["", "-- the further names of numbers in a table", "abbrev pub aliases_of : Table → List Naming"]
+    out += [f"aliases_of {titles[at]} = map (λ e. (e.0.now, e.1)) ALIASES_OF_{constant_of(titles[at])}.now" for at in has_further]
+    out += ["aliases_of _ = []"]
     out += ["", "-- a table of types or ids, or without names: of no keys", "abbrev pub IsOfIds : Table → Type 0"]
     out += [f"IsOfIds {titles[at]} = ⊥" for at in kept if at in is_keys] + ["IsOfIds _ = ⊤"]
     write("specs/Tables.antt", out)
@@ -282,8 +288,8 @@ def main():
     out += ["use Rattle.std.proofs.Common.{◌≡◌, true, refl}"]
     out += ["use Rattle.spa_names.specs.declared.table.Table.{Table}"]
     out += [f"use Rattle.spa_names.specs.declared.table.Table.TheVariants.{{{', '.join(variants)}}}"]
-    out += ["use Rattle.spa_names.proofs.Sound.{names_begin, numbers_rise, names_rise, names_come_back, numbers_are_named}"]
-    for fact in ("names_begin", "numbers_rise", "names_rise", "names_come_back", "numbers_are_named"):
+    out += ["use Rattle.spa_names.proofs.Sound.{names_begin, numbers_rise, names_come_back, numbers_are_named}"]
+    for fact in ("names_begin", "numbers_rise", "names_come_back", "numbers_are_named"):
         out += ["", f"pub {fact}-all : (table : Table) → {fact} table ≡ true"]
         out += [f"{fact}-all {variant} = refl" for variant in variants]
     write("proofs/Facts.antt", out)

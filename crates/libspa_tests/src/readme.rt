@@ -63,12 +63,12 @@ mod rewrite {
         Some(one == other)
     }
 
-    /// All pods rewritten, or the byte at which the refused one begins.
-    pub fn all_rewritten(alloc: Global, pods: &[u8]) -> Result<Vec<u8>, usize> {
+    /// All pods rewritten, or the byte at which the refused one begins, and why.
+    pub fn all_rewritten(alloc: Global, pods: &[u8]) -> Result<Vec<u8>, (usize, &'static str)> {
         let mut out = Vec::new(alloc);
         match rewrite_all(pods, &mut out) {
             Ok(()) => Ok(out),
-            Err((left, _)) => Err(pods.len() - left.len()),
+            Err((left, why)) => Err((pods.len() - left.len(), why.kind())),
         }
     }
 }
@@ -220,8 +220,9 @@ fn are_same(alloc: Global, one: &str, other: &str) -> Result<bool, Fail> {
 #[test]
 fn rewrites_lists(rt: HostRuntime) -> Result<(), Fail> {
     let pods = bytes_spelled(rt.alloc(), "4 2 7 9 4 4 3 0")?;
-    let Ok(rewritten) = all_rewritten(rt.alloc(), pods.as_slice()) else {
-        return Err(Fail::from("the list is refused"));
+    let rewritten = match all_rewritten(rt.alloc(), pods.as_slice()) {
+        Ok(rewritten) => rewritten,
+        Err((_, why)) => return Err(Fail::from(why)),
     };
     assert_spelt(&rt, rt.alloc(), rewritten.as_slice(), "4 2 1 0 4 4 3 0")?;
     let pods = bytes_spelled(rt.alloc(), "4 4 3 0 8 4 3 0")?;
@@ -233,7 +234,7 @@ fn rewrites_lists(rt: HostRuntime) -> Result<(), Fail> {
 fn refused_place(alloc: Global, pods: &[u8]) -> usize {
     match all_rewritten(alloc, pods) {
         Ok(_) => usize::MAX,
-        Err(place) => place,
+        Err((place, _)) => place,
     }
 }
 

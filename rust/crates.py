@@ -5,7 +5,7 @@ import os
 WHOLE = 'libspa'
 # The packages in rust/, and the crates for which each is there. A crate that these stand on is in the first package that needs it.
 PACKAGES = {
-    'spa-pod': [WHOLE, 'spa_names', 'spa_events', 'spa_negotiate', 'spa_filter_pods', 'spa_text'],
+    'spa-pod': [WHOLE, 'spa_names', 'spa_events', 'spa_negotiate', 'spa_filter_pods', 'spa_text', 'spa_text_forms'],
     'spa-pod-cli': ['podtool', 'pod'],
     'spav': ['spav'],
 }
@@ -14,7 +14,7 @@ PROGRAMS = {'podtool', 'pod'}
 # The crate whose functions C calls.
 EXPORTED = 'spav'
 # The crates of spa-pod that are behind its feature `text`.
-OF_TEXT = {'spa_text_read', 'spa_text'}
+OF_TEXT = {'spa_text_read', 'spa_text', 'spa_text_forms'}
 # The package of tests, made by rust/check. Crates of tests are those whose names end so, and programs that answer rows, each of which becomes a test.
 TESTS = 'tests'
 TEST_SUFFIXES = ('_tests', '_rows')

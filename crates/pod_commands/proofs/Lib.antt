@@ -2,6 +2,7 @@ mod Blocks
 mod Checked
 mod Coloured
 mod Known
+mod Leniently
 mod Listed
 mod Longer
 mod Made
@@ -10,4 +11,5 @@ mod Paired
 mod Running
 mod Streamed
 mod Twice
+mod Unread
 mod Worked

@@ -78,9 +78,9 @@ module _ (pod more : List ℕ) (f : HasFront pod) where
       let w = front_longer.whole in
       let e = ap (λ z. if z then 8 else extent (word_at (pod ++ more) 0)) (not_below (length (pod ++ more)) 8 h) in omega (arith, e, w)
 
-  cut_longer : (cut : Option Cut) → IsCutOf pod cut → IsCutOf (pod ++ more) cut
-  cut_longer None h = wanted_longer
-  cut_longer (Some cut) h = let w = wanted_whole in let l = h.2 in absurd (omega (arith, w, l))
+  cut_longer : (place : ℕ) (cut : Option Cut) → IsCutOf place pod cut → IsCutOf place (pod ++ more) cut
+  cut_longer place None h = wanted_longer
+  cut_longer place (Some cut) h = let w = wanted_whole in let l = h.2 in absurd (omega (arith, w, l))
 
   refused_longer : IsRefused pod → IsRefused (pod ++ more)
   refused_longer r = λ v h.
@@ -219,7 +219,7 @@ module _ (pod more : List ℕ) (f : HasFront pod) where
               kind = h.kind ∙ u.2.0;
               words = h.words ∙ u.2.1;
               short = λ none. absurd (none front_longer);
-              cut = cut_longer r.cut h.cut;
+              cut = cut_longer r.place r.cut h.cut;
             }
         | inr l ↦
             record {
@@ -233,7 +233,7 @@ module _ (pod more : List ℕ) (f : HasFront pod) where
               kind = h.kind;
               words = h.words;
               short = λ none. absurd (none front_longer);
-              cut = cut_longer r.cut h.cut;
+              cut = cut_longer r.place r.cut h.cut;
             }
       ]
     where

@@ -250,15 +250,3 @@ unshown printing target remaining holds names old first last why b = inl (inr (b
 pub unshown_lines : (printing : Printing) (target : Option (Bor (List ℕ))) (remaining : Option (List ℕ)) (holds : List ℕ → Option (List ℕ)) (names : List (Bor (List ℕ)))
     (old : Option (List ℕ)) → IsShownIn printing (Refused OutOfMemory) remaining names (outlet target old old holds holds)
 unshown_lines printing target remaining holds names old = inl (inl refl, untouched target old holds)
-
--- with other options it is misuse, and without them it is done
-pub not_printed : (printing : Printing) (reading : Reading) (fate : Fate) (target : Option (Bor (List ℕ))) (remaining : Option (List ℕ))
-    (holds : List ℕ → Option (List ℕ)) (names : List (Bor (List ℕ))) (old : Option (List ℕ)) (other : Excluded) →
-    IsExcluded reading fate None other → IsPrinted printing reading fate (Misused (WithPart other)) remaining names (outlet target old old holds holds)
-not_printed printing reading fate target remaining holds names old other e = inr (other, e, (refl, untouched target old holds))
-
-pub printed : (printing : Printing) (reading : Reading) (fate : Fate) (target : Option (Bor (List ℕ))) (answer : Answer) (remaining : Option (List ℕ))
-    (names : List (Bor (List ℕ))) (old new : Option (List ℕ)) (before after : List ℕ → Option (List ℕ)) → IsPlain reading fate None →
-    IsShown printing target answer remaining names (outlet target old new before after) →
-    IsPrinted printing reading fate answer remaining names (outlet target old new before after)
-printed printing reading fate target answer remaining names old new before after p w = inl (p, w)

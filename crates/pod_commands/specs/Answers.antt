@@ -18,14 +18,15 @@ use Rattle.spa_recordings.specs.declared.going_on.Refused.TheVariants.{LeftOut, 
 use Rattle.spa_recordings.specs.declared.reading.Reading.TheVariants.{Exact, Lenient}
 use Rattle.spa_refusals.specs.Refusals.{refusal_text}
 use Rattle.spa_refusals.specs.declared.several.NamedRefusal.{NamedRefusal}
+use Rattle.spa_text_read.specs.Letters.{shown_text}
 use Rattle.spa_text_commands.specs.Answers as text
 use Rattle.spa_text_commands.specs.Differences.{Differ, SayTheSame}
 use Rattle.spa_meet_commands.specs.Answers as meet
 use Rattle.spa_meet_commands.specs.Lists.{AreListsRefused, ListsGive}
 use Rattle.spa_meet_commands.specs.declared.answer.Failure.{Failure as MeetFailure}
 use Rattle.spa_meet_commands.specs.declared.pair.Work.{Work}
-use Rattle.pod_commands.specs.Inputs.{AreMade, OfOne, OfTwo, StopsAt}
-use Rattle.pod_commands.specs.Making.{AreNoPods, MakesAll, RefusesBy}
+use Rattle.pod_commands.specs.Inputs.{AreMade, OfOne, OfTwo, StopsAt, left_behind}
+use Rattle.pod_commands.specs.Making.{AreNoPods, IsNotRead, MakesAll, RefusesBy}
 use Rattle.pod_commands.specs.Program.{program}
 use Rattle.pod_commands.specs.Requests.{Asks, AsksNothing, dash, file_of, fills_terminal}
 use Rattle.pod_commands.specs.Streaming.{EndsIn, IsBroken, StreamsAs}
@@ -42,6 +43,7 @@ use Rattle.pod_commands.specs.declared.request.Fate.{Fate}
 use Rattle.pod_commands.specs.declared.request.Fate.TheVariants.{Stops, GoesOn}
 use Rattle.pod_commands.specs.declared.request.Making.{Making}
 use Rattle.pod_commands.specs.declared.request.Making.TheVariants.{Check, Rewrite}
+use Rattle.pod_commands.specs.declared.request.Making.TheVariants as making
 use Rattle.pod_commands.specs.declared.request.Printing.{Printing}
 use Rattle.pod_commands.specs.declared.request.Request.{Request}
 use Rattle.pod_commands.specs.declared.request.Streaming.{Streaming}
@@ -120,33 +122,45 @@ AreUnmade reading making remaining holds names why =
 abbrev pub Compare : (out a b : List ℕ) → Type 0
 Compare out a b = ((out ≡ []) × SayTheSame a b) ⊎ Differ out a b
 
+-- an input can't be read, or leniently conveys no values one after another
+abbrev pub IsOneUnread : Reading → (remaining : Option (List ℕ)) → (holds : List ℕ → Option (List ℕ)) → (n : List ℕ) → Failure → Type 0
+IsOneUnread reading remaining holds n why = IsUnread why ⊎ OfOne Exact remaining holds n (λ input. IsNotRead reading n input why)
+
+-- one of two isn't read
+abbrev pub AreTwoUnread : Reading → (remaining : Option (List ℕ)) → (holds : List ℕ → Option (List ℕ)) → (n m : List ℕ) → Failure → Type 0
+AreTwoUnread reading remaining holds n m why =
+    IsOneUnread reading remaining holds n why ⊎ IsOneUnread reading (left_behind remaining n) holds m why
+
 -- two inputs aren't read, or one of them isn't pods
-abbrev pub AreNotCompared : (remaining : Option (List ℕ)) → (holds : List ℕ → Option (List ℕ)) → (n m : List ℕ) → Failure → Type 0
-AreNotCompared remaining holds n m why =
-    IsUnread why ⊎ OfTwo remaining holds n m (λ first second. AreNoPods Exact n first why ⊎ AreNoPods Exact m second why)
+abbrev pub AreNotCompared : Reading → (remaining : Option (List ℕ)) → (holds : List ℕ → Option (List ℕ)) → (n m : List ℕ) → Failure → Type 0
+AreNotCompared reading remaining holds n m why =
+    AreTwoUnread reading remaining holds n m why
+    ⊎ OfTwo reading remaining holds n m (λ first second. AreNoPods Exact n first why ⊎ AreNoPods Exact m second why)
 
--- the object on which the two agree that an input consists of, or the first pair of two lists
-abbrev pub AgreesOne : Work → (remaining : Option (List ℕ)) → (holds : List ℕ → Option (List ℕ)) → (n out : List ℕ) → Type 0
-AgreesOne work remaining holds n out = OfOne remaining holds n (meet.PairIn work out)
+-- the object on which the two agree as which an input is read, or the first pair of two lists
+abbrev pub AgreesOne : Work → Reading → (remaining : Option (List ℕ)) → (holds : List ℕ → Option (List ℕ)) → (n out : List ℕ) → Type 0
+AgreesOne work reading remaining holds n out = OfOne reading remaining holds n (meet.PairIn work out)
 
-abbrev pub AgreeTwo : Work → (remaining : Option (List ℕ)) → (holds : List ℕ → Option (List ℕ)) → (n m out : List ℕ) → Type 0
-AgreeTwo work remaining holds n m out = OfTwo remaining holds n m (ListsGive work (Ok out))
+abbrev pub AgreeTwo : Work → Reading → (remaining : Option (List ℕ)) → (holds : List ℕ → Option (List ℕ)) → (n m out : List ℕ) → Type 0
+AgreeTwo work reading remaining holds n m out = OfTwo reading remaining holds n m (ListsGive work (Ok out))
 
 -- why they don't
-abbrev pub IsOneApart : Work → (remaining : Option (List ℕ)) → (holds : List ℕ → Option (List ℕ)) → (n : List ℕ) → Failure → Type 0
-IsOneApart work remaining holds n why =
-    IsUnread why ⊎ ((x : Bor (List ℕ)) × (e : MeetFailure) × (why ≡ Pair x e) × (x.now ≡ n) × OfOne remaining holds n (meet.IsPairRefused work e))
+abbrev pub IsOneApart : Work → Reading → (remaining : Option (List ℕ)) → (holds : List ℕ → Option (List ℕ)) → (n : List ℕ) → Failure → Type 0
+IsOneApart work reading remaining holds n why =
+    IsOneUnread reading remaining holds n why
+    ⊎ ((x : Bor (List ℕ)) × (e : MeetFailure) × (why ≡ Pair x e) × (x.now ≡ n) × OfOne reading remaining holds n (meet.IsPairRefused work e))
 
-abbrev pub AreTwoApart : Work → (remaining : Option (List ℕ)) → (holds : List ℕ → Option (List ℕ)) → (n m : List ℕ) → Failure → Type 0
-AreTwoApart work remaining holds n m why =
-    IsUnread why ⊎ ((x : Bor (List ℕ)) × (y : Bor (List ℕ)) × (e : MeetFailure) × (why ≡ Lists x y e) × (x.now ≡ n) × (y.now ≡ m)
-    × OfTwo remaining holds n m (AreListsRefused work e))
+abbrev pub AreTwoApart : Work → Reading → (remaining : Option (List ℕ)) → (holds : List ℕ → Option (List ℕ)) → (n m : List ℕ) → Failure → Type 0
+AreTwoApart work reading remaining holds n m why =
+    AreTwoUnread reading remaining holds n m why
+    ⊎ ((x : Bor (List ℕ)) × (y : Bor (List ℕ)) × (e : MeetFailure) × (why ≡ Lists x y e) × (x.now ≡ n) × (y.now ≡ m)
+    × OfTwo reading remaining holds n m (AreListsRefused work e))
 
 -- pods that are read exactly and refused whole, and no file that is written
 abbrev pub IsPlain : Reading → Fate → Option (Bor (List ℕ)) → Type 0
 IsPlain reading fate target = (reading ≡ Exact) × (fate ≡ Stops) × (target ≡ None)
 
--- `--stream` and the options for parts exclude this option, which is given
+-- `--stream` excludes this option, which is given
 abbrev pub IsExcluded : Reading → Fate → Option (Bor (List ℕ)) → Excluded → Type 0
 IsExcluded reading fate target excluded.Lenient = reading ≡ Lenient
 IsExcluded reading fate target excluded.KeepGoing = fate ≡ GoesOn LeftOut
@@ -162,23 +176,23 @@ misuse_of _ = TooFew
 abbrev pub IsMisuse : Misuse → Answer → Outlet → Type 0
 IsMisuse why answer o = (answer ≡ Misused why) × IsUntouched o
 
--- what an answer says of two inputs that are compared, and of the word with another number of them
-abbrev pub IsCompared : Answer → (remaining : Option (List ℕ)) → List (Bor (List ℕ)) → Outlet → Type 0
-IsCompared answer remaining (n ∷ m ∷ []) o =
-    OnAnswer answer (OfTwo remaining o.before n.now m.now SayTheSame × Gets o.target o [])
-    (Gives (λ out. OfTwo remaining o.before n.now m.now (Differ out)) o)
-    (Refuses (λ out. OfTwo remaining o.before n.now m.now (Compare out)) (AreNotCompared remaining o.before n.now m.now) o)
-IsCompared answer remaining names o = IsMisuse (misuse_of names) answer o
+-- what an answer says of two inputs that are read so and compared, and of the word with another number of them
+abbrev pub IsCompared : Reading → Answer → (remaining : Option (List ℕ)) → List (Bor (List ℕ)) → Outlet → Type 0
+IsCompared reading answer remaining (n ∷ m ∷ []) o =
+    OnAnswer answer (OfTwo reading remaining o.before n.now m.now SayTheSame × Gets o.target o [])
+    (Gives (λ out. OfTwo reading remaining o.before n.now m.now (Differ out)) o)
+    (Refuses (λ out. OfTwo reading remaining o.before n.now m.now (Compare out)) (AreNotCompared reading remaining o.before n.now m.now) o)
+IsCompared reading answer remaining names o = IsMisuse (misuse_of names) answer o
 
--- what it says of inputs in which two objects agree
-abbrev pub IsAgreed : Work → Answer → (remaining : Option (List ℕ)) → List (Bor (List ℕ)) → Outlet → Type 0
-IsAgreed work answer remaining (n ∷ []) o =
-    OnAnswer answer (Gives (AgreesOne work remaining o.before n.now) o) ⊥
-    (Refuses (AgreesOne work remaining o.before n.now) (IsOneApart work remaining o.before n.now) o)
-IsAgreed work answer remaining (n ∷ m ∷ []) o =
-    OnAnswer answer (Gives (AgreeTwo work remaining o.before n.now m.now) o) ⊥
-    (Refuses (AgreeTwo work remaining o.before n.now m.now) (AreTwoApart work remaining o.before n.now m.now) o)
-IsAgreed work answer remaining names o = IsMisuse (misuse_of names) answer o
+-- what it says of inputs that are read so, in which two objects agree
+abbrev pub IsAgreed : Work → Reading → Answer → (remaining : Option (List ℕ)) → List (Bor (List ℕ)) → Outlet → Type 0
+IsAgreed work reading answer remaining (n ∷ []) o =
+    OnAnswer answer (Gives (AgreesOne work reading remaining o.before n.now) o) ⊥
+    (Refuses (AgreesOne work reading remaining o.before n.now) (IsOneApart work reading remaining o.before n.now) o)
+IsAgreed work reading answer remaining (n ∷ m ∷ []) o =
+    OnAnswer answer (Gives (AgreeTwo work reading remaining o.before n.now m.now) o) ⊥
+    (Refuses (AgreeTwo work reading remaining o.before n.now m.now) (AreTwoApart work reading remaining o.before n.now m.now) o)
+IsAgreed work reading answer remaining names o = IsMisuse (misuse_of names) answer o
 
 -- what it says of work on inputs that are read so and refused whole
 abbrev pub IsMadeWhole : Reading → Making → Answer → (remaining : Option (List ℕ)) → List (Bor (List ℕ)) → Outlet → Type 0
@@ -282,19 +296,34 @@ abbrev pub IsShown : Printing → Option (Bor (List ℕ)) → Answer → (remain
 IsShown printing None answer remaining names o = IsWrittenAs (streaming.Print printing) answer remaining names o
 IsShown printing (Some name) answer remaining names o = IsShownIn printing answer remaining names o
 
--- what it says of that where other options may be given: with these it is misuse
+-- inputs are read leniently, and printed as pods of which none is refused; where no value is under the key, it may say so
+abbrev pub IsPrintedLeniently : Printing → Answer → (remaining : Option (List ℕ)) → List (Bor (List ℕ)) → Outlet → Type 0
+IsPrintedLeniently printing (Missing name) remaining names o =
+    (printing.printout.selection.key ≡ Some name) × Gives (λ out. AreMade (MakesAll Lenient (making.Print printing)) remaining o.before names out 0) o
+IsPrintedLeniently printing answer remaining names o = IsMadeWhole Lenient (making.Print printing) answer remaining names o
+
+-- what it says of inputs that are read so and printed
+abbrev pub IsPrintedAs : Reading → Printing → Answer → (remaining : Option (List ℕ)) → List (Bor (List ℕ)) → Outlet → Type 0
+IsPrintedAs Exact printing answer remaining names o = IsShown printing o.target answer remaining names o
+IsPrintedAs Lenient printing answer remaining names o = IsPrintedLeniently printing answer remaining names o
+
+-- the option by which this becomes of refused pods
+abbrev pub option_of : OfRefused → Excluded
+option_of LeftOut = excluded.KeepGoing
+option_of Kept = excluded.KeepRefused
+
+-- what it says of that where another option may be given: with one for refused pods it is misuse
 abbrev pub IsPrinted : Printing → Reading → Fate → Answer → (remaining : Option (List ℕ)) → List (Bor (List ℕ)) → Outlet → Type 0
-IsPrinted printing reading fate answer remaining names o =
-    (IsPlain reading fate None × IsShown printing o.target answer remaining names o)
-    ⊎ ((other : Excluded) × IsExcluded reading fate None other × IsMisuse (WithPart other) answer o)
+IsPrinted printing reading Stops answer remaining names o = IsPrintedAs reading printing answer remaining names o
+IsPrinted printing reading (GoesOn refused) answer remaining names o = IsMisuse (WithPart (option_of refused)) answer o
 
 -- what it says of a word's work on inputs of these names, where this is left of the standard input
 abbrev pub IsDone : Word → Answer → (remaining : Option (List ℕ)) → List (Bor (List ℕ)) → Outlet → Type 0
 IsDone (Print printing manner) answer remaining names o = IsPrinted printing manner.reading manner.fate answer remaining names o
 IsDone (Make making manner) answer remaining names o = IsMadeBy manner.reading manner.fate making answer remaining names o
 IsDone (Stream streaming manner) answer remaining names o = IsStreamed streaming manner.reading manner.fate answer remaining names o
-IsDone Diff answer remaining names o = IsCompared answer remaining names o
-IsDone (Agree work) answer remaining names o = IsAgreed work answer remaining names o
+IsDone (Diff reading) answer remaining names o = IsCompared reading answer remaining names o
+IsDone (Agree work reading) answer remaining names o = IsAgreed work reading answer remaining names o
 
 -- What an answer says of a run: what the words ask for was done, or refused; clap refuses them for one of the causes that stand, help
 -- and the version among them; they name no word; pods would go to a terminal; or memory ran out.
@@ -330,14 +359,14 @@ status_of (Refused why) = 1
 status_of (Misused why) = 2
 status_of (Said error) = status_of_kind (kind_of error)
 
--- what is said of an input's name
+-- what is said of an input's name, on one line
 abbrev pub name_text : List ℕ → List ℕ
-name_text name = if bytes_eq name dash then codes "standard input" else name
+name_text name = if bytes_eq name dash then codes "standard input" else shown_text name
 
 -- what is said of the file that can't be written
 abbrev pub target_text : Option (Bor (List ℕ)) → List ℕ
 target_text None = codes "standard output"
-target_text (Some name) = name.now
+target_text (Some name) = shown_text name.now
 
 -- what is said of a refusal
 abbrev pub failure_text : Failure → List ℕ

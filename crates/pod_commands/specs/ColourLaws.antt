@@ -1,11 +1,11 @@
 -- Texts in colours are made line by line.
-use Rattle.std.proofs.Common.{◌≡◌, ◌≢◌, ◌≤◌, ◌+◌, ◌/◌, ◌∙◌, ◌∷◌, ◌++◌, [], ap, append_assoc, append-nil, arith, drop, inl, inr, length, refl, suc, subst, sym, take, zero, Bool, List, ℕ, None, Some}
+use Rattle.std.proofs.Common.{◌≡◌, ◌≢◌, ◌≤◌, ◌+◌, ◌-◌, ◌/◌, ◌∙◌, ◌∷◌, ◌++◌, [], ap, append_assoc, append-nil, arith, drop, inl, inr, length, map, refl, suc, subst, sym, take, zero, Bool, List, ℕ, None, Some}
 use Rattle.std.specs.Char.{is_ascii_uppercase}
 use Rattle.std.specs.Prelude.{◌&&◌, ⊤, false, true, not, if◌then◌else◌, nat_eq}
 use Rattle.std.proofs.lemmas.Bool.Decides.{nat_tests}
 use Rattle.pod_commands.specs.Colours.{IsColoured, backslash, colour_of, further, goes_on, is_key, is_number, line_feed, nothing, piece_in, piece_len, quote, quoted_len, word_len}
 use Rattle.spa_format.specs.Tree.{Trees, no_trees, member}
-use Rattle.spa_text_commands.specs.Dump.{hex_lines, place_text, row_line, rows, spaced}
+use Rattle.spa_text_commands.specs.Dump.{blanks, hex_lines, letter_of, place_text, row_line, rows, spaced}
 use Rattle.spa_text_commands.specs.Lines.{ArePodLines, PrintsPart, PrintsParts, head_line}
 use Rattle.spa_text_commands.specs.Selection.{Part}
 use Rattle.spa_text_commands.specs.Texts.{AreTexts}
@@ -136,12 +136,19 @@ pod_lines_end part out h =
     subst EndsLine (sym (h.2 ∙ ap (λ z. head ++ z) lines.1 ∙ sym (append_assoc head lines.0 (line_feed ∷ []))))
     (ends_line (head ++ lines.0) [] tt)
 
+row_ends : (place : ℕ) (row : List ℕ) → EndsLine (row_line place row)
+row_ends place row =
+    let gap = blanks (16 - length row) in
+    let letters = map letter_of row in
+    let whole : (spaced row ++ (gap ++ letters)) ++ (line_feed ∷ []) ≡ spaced row ++ (gap ++ (letters ++ (line_feed ∷ []))) =
+    append_assoc (spaced row) (gap ++ letters) (line_feed ∷ []) ∙ ap (λ z. spaced row ++ z) (append_assoc gap letters (line_feed ∷ [])) in
+    ends_after (place_text place) 58 (spaced row ++ (gap ++ (letters ++ (line_feed ∷ []))))
+    (subst (λ z. EndsLine (58 ∷ z)) whole (ends_line (58 ∷ (spaced row ++ (gap ++ letters))) [] tt))
+
 rows_end : (n place : ℕ) (bytes : List ℕ) → EndsLine (rows n place bytes)
 rows_end zero place bytes = tt
 rows_end (suc n) place bytes =
-    ends_both (row_line place (take 16 bytes)) (rows n (place + 16) (drop 16 bytes))
-    (ends_after (place_text place) 58 (spaced (take 16 bytes) ++ (line_feed ∷ [])) (ends_line (58 ∷ spaced (take 16 bytes)) [] tt))
-    (rows_end n (place + 16) (drop 16 bytes))
+    ends_both (row_line place (take 16 bytes)) (rows n (place + 16) (drop 16 bytes)) (row_ends place (take 16 bytes)) (rows_end n (place + 16) (drop 16 bytes))
 
 quoted_end : (text out : List ℕ) → out ≡ quote ∷ (text ++ (quote ∷ line_feed ∷ [])) → EndsLine out
 quoted_end text out h = subst EndsLine (sym h) (ends_after (quote ∷ text) quote (line_feed ∷ []) refl)

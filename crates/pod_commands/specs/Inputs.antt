@@ -3,6 +3,8 @@ use Rattle.std.specs.Prelude.{◌≡◌, ◌⊎◌, ◌+◌, ℕ, List, [], ◌�
 use Rattle.std.specs.Borrow.{Bor}
 use Rattle.std.specs.Str.{bytes_eq}
 use Rattle.spa_device.specs.Whole.{IsAllOf}
+use Rattle.spa_recordings.specs.Reading.{ReadsAs}
+use Rattle.spa_recordings.specs.declared.reading.Reading.{Reading}
 use Rattle.pod_commands.specs.Requests.{dash}
 use Rattle.pod_commands.specs.declared.answer.Failure.{Failure}
 
@@ -35,25 +37,32 @@ StopsAt Makes Stops remaining holds (n ∷ ns) out why =
     ⊎ ((input : List ℕ) × (first : List ℕ) × (others : List ℕ) × (i : ℕ) × IsAllOf (content_of remaining holds n.now) input × Makes input first i
     × (out ≡ first ++ others) × StopsAt Makes Stops (left_behind remaining n.now) holds ns others why)
 
--- the inputs of two names, and this holds of them
-pub record OfTwo (remaining : Option (List ℕ)) (holds : List ℕ → Option (List ℕ)) (n m : List ℕ) (Holds : List ℕ → List ℕ → Type 0) : Type 0 where
+-- these are the pods as which an input is read: its bytes, or leniently the encodings of the values that they convey
+pub record IsRead (reading : Reading) (content : Option (List ℕ)) (pods : List ℕ) : Type 0 where
+  pub input : List ℕ
+  pub its : IsAllOf content input
+  pub read : ReadsAs reading input pods
+
+-- the pods as which the inputs of two names are read, and this holds of them
+pub record OfTwo (reading : Reading) (remaining : Option (List ℕ)) (holds : List ℕ → Option (List ℕ)) (n m : List ℕ) (Holds : List ℕ → List ℕ → Type 0) :
+    Type 0 where
   pub first : List ℕ
   pub second : List ℕ
-  pub first_read : IsAllOf (content_of remaining holds n) first
-  pub second_read : IsAllOf (content_of (left_behind remaining n) holds m) second
+  pub first_read : IsRead reading (content_of remaining holds n) first
+  pub second_read : IsRead reading (content_of (left_behind remaining n) holds m) second
   pub fact : Holds first second
 
--- the input of one name, and this holds of it
-pub record OfOne (remaining : Option (List ℕ)) (holds : List ℕ → Option (List ℕ)) (n : List ℕ) (Holds : List ℕ → Type 0) : Type 0 where
-  pub input : List ℕ
-  pub read : IsAllOf (content_of remaining holds n) input
-  pub fact : Holds input
+-- the pods as which the input of one name is read, and this holds of them
+pub record OfOne (reading : Reading) (remaining : Option (List ℕ)) (holds : List ℕ → Option (List ℕ)) (n : List ℕ) (Holds : List ℕ → Type 0) : Type 0 where
+  pub pods : List ℕ
+  pub read : IsRead reading (content_of remaining holds n) pods
+  pub fact : Holds pods
 
 -- what is expected of the standard input is what is left of it, or nothing; only private clauses cite it
 abbrev pub IsKnown : (expected remaining : Option (List ℕ)) → Type 0
 IsKnown expected remaining = (expected ≡ remaining) ⊎ (expected ≡ None)
 
--- these are the inputs of two names; only private clauses cite it
-abbrev pub AreBoth : (remaining : Option (List ℕ)) → (holds : List ℕ → Option (List ℕ)) → (n m first second : List ℕ) → Type 0
-AreBoth remaining holds n m first second =
-    IsAllOf (content_of remaining holds n) first × IsAllOf (content_of (left_behind remaining n) holds m) second
+-- these are the pods as which the inputs of two names are read; only private clauses cite it
+abbrev pub AreBoth : Reading → (remaining : Option (List ℕ)) → (holds : List ℕ → Option (List ℕ)) → (n m first second : List ℕ) → Type 0
+AreBoth reading remaining holds n m first second =
+    IsRead reading (content_of remaining holds n) first × IsRead reading (content_of (left_behind remaining n) holds m) second

@@ -9,9 +9,9 @@ use Rattle.spa_recordings.specs.declared.reading.Reading.TheVariants.{Exact, Len
 use Rattle.spa_refusals.specs.Refusals.{IsFirstRefusal}
 use Rattle.spa_text_commands.specs.Texts.{ReadsTexts, RefusesTexts}
 use Rattle.spa_text_read.specs.declared.fitting.Strictness.{Strictness}
-use Rattle.pod_commands.specs.Colours.{PrintsIn}
+use Rattle.pod_commands.specs.Colours.{PrintsIn, ShowsIn}
 use Rattle.pod_commands.specs.declared.request.Making.{Making}
-use Rattle.pod_commands.specs.declared.request.Making.TheVariants.{Json, Read, Rewrite, Fixate, Check}
+use Rattle.pod_commands.specs.declared.request.Making.TheVariants.{Json, Read, Rewrite, Fixate, Print, Check}
 use Rattle.pod_commands.specs.declared.answer.Failure.{Failure}
 use Rattle.pod_commands.specs.declared.answer.Failure.TheVariants.{Pods, Texts, OutOfMemory}
 
@@ -21,6 +21,7 @@ Makes (Json style) input out = PrintsIn style input out
 Makes (Read strictness) input out = ReadsTexts strictness input out
 Makes Rewrite input out = Rewrites input out
 Makes Fixate input out = Fixates input out
+Makes (Print printing) input out = ShowsIn printing 0 0 input out 0
 Makes Check input out = (out ≡ []) × ((vs : Trees) × AreMembers vs input)
 
 -- what is made of an input that is read so, of which no pod is refused
@@ -33,6 +34,11 @@ AreNoPods reading name input (Pods n why) = (n.now ≡ name) × IsFirstRefusal r
 AreNoPods reading name input OutOfMemory = ⊤
 AreNoPods reading name input _ = ⊥
 
+-- an input of this name isn't read so; exactly each is, as its own bytes
+abbrev pub IsNotRead : Reading → (name input : List ℕ) → Failure → Type 0
+IsNotRead Exact name input why = ⊥
+IsNotRead Lenient name input why = AreNoPods Lenient name input why
+
 -- an input of this name, read so, has to consist of texts, and is refused so
 abbrev pub AreNoTexts : Strictness → (name input : List ℕ) → Failure → Type 0
 AreNoTexts strictness name input (Texts n why) = (n.now ≡ name) × RefusesTexts strictness input why
@@ -44,6 +50,7 @@ RefusesIn (Json style) name input why = AreNoPods Exact name input why
 RefusesIn (Read strictness) name input why = AreNoTexts strictness name input why
 RefusesIn Rewrite name input why = AreNoPods Exact name input why
 RefusesIn Fixate name input why = AreNoPods Exact name input why
+RefusesIn (Print printing) name input why = AreNoPods Exact name input why
 RefusesIn Check name input why = AreNoPods Exact name input why
 
 -- what an input of this name, read so, is refused for

@@ -32,9 +32,12 @@ stream = flag (codes "stream")
 abbrev pub word : Text → App
 word name = with_rule (with_rule (new_app name) files) output
 
--- a word that goes over pods takes `--lenient` and `--keep-going` too
+-- a word that reads pods takes `--lenient` too, and one that goes over pods `--keep-going`
+abbrev pub reading_pods : App → App
+reading_pods app = with_rule app (flag (codes "lenient"))
+
 abbrev pub over_pods : App → App
-over_pods app = with_rule (with_rule app (flag (codes "lenient"))) (flag (codes "keep-going"))
+over_pods app = with_rule (reading_pods app) (flag (codes "keep-going"))
 
 -- one that writes pods for pods takes `--keep-refused` too
 abbrev pub to_pods : Text → App
@@ -46,7 +49,7 @@ with_parts app =
     with_rule (with_rule (with_rule (with_rule app nth) (valued (codes "key"))) (flag (codes "hex"))) (valued (codes "color"))
 
 abbrev pub show : App
-show = with_rule (with_parts (word (codes "show"))) stream
+show = with_rule (with_parts (reading_pods (word (codes "show")))) stream
 
 -- `json` takes `--pretty`, too
 abbrev pub json : App
@@ -68,8 +71,8 @@ bare =
       top = record app.top { no_binary_name = true; has_version = true; subcommand_required = true; arg_required_else_help = true };
     }
 
-abbrev pub with_word : App → Text → App
-with_word app name = with_subcommand app (word name).top
+abbrev pub with_pair : App → Text → App
+with_pair app name = with_subcommand app (reading_pods (word name)).top
 
 -- the program's words, in order
 abbrev pub with_json : App → App
@@ -81,7 +84,7 @@ with_writers app =
     (over_pods (word (codes "check"))).top
 
 abbrev pub with_pairs : App → App
-with_pairs app = with_word (with_word (with_word app (codes "diff")) (codes "meet")) (codes "filter")
+with_pairs app = with_pair (with_pair (with_pair app (codes "diff")) (codes "meet")) (codes "filter")
 
 -- the program
 abbrev pub program : App

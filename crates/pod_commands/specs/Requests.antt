@@ -13,9 +13,10 @@ use Rattle.pod_commands.specs.declared.colours.Colours.{Colours}
 use Rattle.pod_commands.specs.declared.colours.Colours.TheVariants.{Off, On}
 use Rattle.pod_commands.specs.declared.request.Fate.{Fate}
 use Rattle.pod_commands.specs.declared.request.Fate.TheVariants.{Stops, GoesOn}
-use Rattle.pod_commands.specs.declared.request.Making.{Making}
+use Rattle.pod_commands.specs.declared.request.Making.{Making as OfMaking}
 use Rattle.pod_commands.specs.declared.request.Streaming.{Streaming as OfStreaming}
 use Rattle.pod_commands.specs.declared.request.Making.TheVariants.{Json, Read, Rewrite, Fixate, Check}
+use Rattle.pod_commands.specs.declared.request.Making.TheVariants as Making
 use Rattle.pod_commands.specs.declared.request.Streaming.TheVariants as Streaming
 use Rattle.pod_commands.specs.declared.request.Word.{Word}
 use Rattle.pod_commands.specs.declared.request.Word.TheVariants.{Print, Make, Stream, Diff, Agree}
@@ -29,7 +30,7 @@ use Rattle.spa_recordings.specs.declared.going_on.Refused.TheVariants.{LeftOut, 
 use Rattle.spa_recordings.specs.declared.reading.Reading.{Reading}
 use Rattle.spa_recordings.specs.declared.reading.Reading.TheVariants.{Exact, Lenient}
 use Rattle.spa_meet_commands.specs.declared.pair.Work.TheVariants.{Negotiate, Filter}
-use Rattle.spa_text_commands.specs.KeyNames.{HasKeyNamed}
+use Rattle.spa_text_commands.specs.KeyNames.{HaveKeysNamed}
 use Rattle.spa_text_commands.specs.declared.printing.Layout.{Layout}
 use Rattle.spa_text_commands.specs.declared.printing.Layout.TheVariants.{OneLine, Indented}
 use Rattle.spa_text_read.specs.declared.fitting.Strictness.{Strictness}
@@ -52,14 +53,15 @@ name_of (Make (Json style) manner) = codes "json"
 name_of (Make (Read strictness) manner) = codes "read"
 name_of (Make Rewrite manner) = codes "rewrite"
 name_of (Make Fixate manner) = codes "fixate"
+name_of (Make (Making.Print printing) manner) = word_of_form printing.printout.form
 name_of (Make Check manner) = codes "check"
 name_of (Stream (Streaming.Json style) manner) = codes "json"
 name_of (Stream Streaming.Rewrite manner) = codes "rewrite"
 name_of (Stream (Streaming.Print printing) manner) = word_of_form printing.printout.form
 name_of (Stream Streaming.Check manner) = codes "check"
-name_of Diff = codes "diff"
-name_of (Agree Negotiate) = codes "meet"
-name_of (Agree Filter) = codes "filter"
+name_of (Diff reading) = codes "diff"
+name_of (Agree Negotiate reading) = codes "meet"
+name_of (Agree Filter reading) = codes "filter"
 
 -- a flag is given
 abbrev pub is_true_text : Option Text → Bool
@@ -101,6 +103,7 @@ HasPrinting options printing = HasForm options printing.printout.form × (printi
 abbrev pub HasPrintout : Options → Word → Type 0
 HasPrintout options (Print printing manner) = HasPrinting options printing
 HasPrintout options (Stream (Streaming.Print printing) manner) = HasPrinting options printing
+HasPrintout options (Make (Making.Print printing) manner) = HasPrinting options printing
 HasPrintout options (Make (Json style) manner) = (style ≡ style_of options) × (is_plain options ≡ true)
 HasPrintout options (Stream (Streaming.Json style) manner) = (style ≡ style_of options) × (is_plain options ≡ true)
 HasPrintout options _ = ⊤
@@ -128,9 +131,9 @@ goes_to_terminal is_terminal (Some name) = false
 abbrev pub takes_colours : Screen → (output : Option Text) → Bool
 takes_colours screen output = goes_to_terminal screen.is_terminal output && not screen.no_color
 
--- a key's name is given, or its number, if `--key` is
+-- names of keys are given, or their numbers, if `--key` is
 abbrev pub IsKey : Option Text → Option Text → Type 0
-IsKey given key = (key ≡ given) × IfSome given HasKeyNamed
+IsKey given key = (key ≡ given) × IfSome given HaveKeysNamed
 
 -- these options are given
 pub record AreGiven (rows : List Row) (screen : Screen) (options : Options) : Type 0 where
@@ -153,9 +156,9 @@ HasUnknownWhen given (Color when) =
     (given ≡ Some when.now) × (when.now ≢ codes "auto") × (when.now ≢ codes "always") × (when.now ≢ codes "never")
 HasUnknownWhen given _ = ⊥
 
--- the NAME of `--key` is none of a key's, and no key's number
+-- a NAME of `--key` is none of a key's, and no key's number
 abbrev pub HasUnknownKey : Option Text → Misuse → Type 0
-HasUnknownKey given (Key name similar) = (given ≡ Some name.now) × ¬ (HasKeyNamed name.now)
+HasUnknownKey given (Key name similar) = (given ≡ Some name.now) × ¬ (HaveKeysNamed name.now)
 HasUnknownKey given _ = ⊥
 
 -- An option has a value that is none of its own. That of `--nth` doesn't come so far: clap refuses it itself, by its
@@ -180,26 +183,28 @@ fate_by goes_on keeps = if keeps then GoesOn Kept else (if goes_on then GoesOn L
 abbrev pub fate_in : List Row → Fate
 fate_in rows = fate_by (is_given (codes "keep-going") rows) (is_given (codes "keep-refused") rows)
 
--- pods are read so where their values are printed as texts or bytes; those that are shown are read exactly, refused ones too
+-- pods are read so; where lines are shown of them, refused ones are shown, too
 abbrev pub HasMannerOf : Reading → Fate → Form → Manner → Type 0
-HasMannerOf reading fate Lines manner = (manner.reading ≡ Exact) × (manner.fate ≡ Stops)
-HasMannerOf reading fate LinesAndBytes manner = (manner.reading ≡ Exact) × (manner.fate ≡ Stops)
+HasMannerOf reading fate Lines manner = (manner.reading ≡ reading) × (manner.fate ≡ Stops)
+HasMannerOf reading fate LinesAndBytes manner = (manner.reading ≡ reading) × (manner.fate ≡ Stops)
 HasMannerOf reading fate _ manner = (manner.reading ≡ reading) × (manner.fate ≡ fate)
 
--- pods are read so; texts, and pods that are shown, as they are
+-- pods are read so; texts as they are
 abbrev pub HasManner : Reading → Fate → Word → Type 0
 HasManner reading fate (Make (Read strictness) manner) = (manner.reading ≡ Exact) × (manner.fate ≡ Stops)
 HasManner reading fate (Make making manner) = (manner.reading ≡ reading) × (manner.fate ≡ fate)
 HasManner reading fate (Print printing manner) = HasMannerOf reading fate printing.printout.form manner
 HasManner reading fate (Stream (Streaming.Print printing) manner) = HasMannerOf reading fate printing.printout.form manner
 HasManner reading fate (Stream streaming manner) = (manner.reading ≡ reading) × (manner.fate ≡ fate)
-HasManner reading fate _ = ⊤
+HasManner reading fate (Diff its) = its ≡ reading
+HasManner reading fate (Agree work its) = its ≡ reading
 
 -- what is written as input comes is so where `--stream` is given, and else not
 abbrev pub HasStream : Bool → Word → Type 0
 HasStream streams (Print printing manner) = streams ≡ false
 HasStream streams (Make (Json style) manner) = streams ≡ false
 HasStream streams (Make Rewrite manner) = streams ≡ false
+HasStream streams (Make (Making.Print printing) manner) = streams ≡ false
 HasStream streams (Stream streaming manner) = streams ≡ true
 HasStream streams _ = ⊤
 
@@ -240,11 +245,12 @@ pub record Asks (words : List (Bor (List ℕ))) (screen : Screen) (request : Req
   pub target : option_map (λ s. s.now) request.target ≡ first_of (codes "output") rows
 
 -- a word that writes pods, and no text
-abbrev pub makes_pods : Making → Bool
+abbrev pub makes_pods : OfMaking → Bool
 makes_pods (Json style) = false
 makes_pods (Read strictness) = true
 makes_pods Rewrite = true
 makes_pods Fixate = true
+makes_pods (Making.Print printing) = false
 makes_pods Check = false
 
 abbrev pub streams_pods : OfStreaming → Bool
@@ -257,8 +263,8 @@ abbrev pub writes_pods : Word → Bool
 writes_pods (Print printing manner) = false
 writes_pods (Make making manner) = makes_pods making
 writes_pods (Stream streaming manner) = streams_pods streaming
-writes_pods Diff = false
-writes_pods (Agree work) = true
+writes_pods (Diff reading) = false
+writes_pods (Agree work reading) = true
 
 -- pods would go to a terminal, which `-o` doesn't ask for
 abbrev pub fills_terminal : Screen → Request → Bool

@@ -1,10 +1,11 @@
 //! What becomes of a run, and what is said of it.
 ghost use Rattle.std.specs.Prelude.{◌≡◌, ◌++◌, OnOk, length};
 ghost use Rattle.std.specs.Io.KnownBytes.{Appends};
-ghost use Rattle.pod_commands.specs.Answers.{count_line, line_of, line_of_pod, lines_of_pods, missing_line, name_text, status_of, target_text};
+ghost use Rattle.pod_commands.specs.Answers.{count_line, line_of, line_of_pod, lines_of_pods, missing_line, status_of};
 ghost use Rattle.pod_commands.specs.Misuses.{misuse_line};
 
 use crate::misuse::Misuse;
+use crate::plain::Plain;
 use clap::Error;
 use spa_refusals::{NamedRefusal, Refusal};
 use std::alloc::AllocError;
@@ -71,22 +72,42 @@ pub enum Failure<'a> {
 }
 
 /// What is said of an input's name.
-fn shown_name<'a>(name: &'a str) -> &'a str
-    ensures { result.now ≡ name_text name.now }
-{
-    if name == "-" {
-        return "standard input";
+#[derive(Clone, Copy)]
+struct Name<'a>(&'a str);
+
+impl fmt::Display for Name<'_> {
+    ghost use Rattle.std.specs.Prelude.{Some};
+    ghost use Rattle.pod_commands.specs.Answers.{name_text};
+
+    ghost output = { λ it. Some (name_text it.0.now) };
+
+    fn fmt<W: fmt::Write>(&self, f: &mut fmt::Formatter<W>) -> fmt::Result {
+        if self.0 == "-" {
+            return f.write_str("standard input");
+        }
+        let name = Plain(self.0);
+        write!(f, "{name}")
     }
-    name
 }
 
 /// What is said of the file that is written.
-fn shown_target<'a>(target: Option<&'a str>) -> &'a str
-    ensures { result.now ≡ target_text target.entry }
-{
-    match target {
-        Some(name) => name,
-        None => "standard output",
+#[derive(Clone, Copy)]
+struct Target<'a>(Option<&'a str>);
+
+impl fmt::Display for Target<'_> {
+    ghost use Rattle.std.specs.Prelude.{Some};
+    ghost use Rattle.pod_commands.specs.Answers.{target_text};
+
+    ghost output = { λ it. Some (target_text it.0) };
+
+    fn fmt<W: fmt::Write>(&self, f: &mut fmt::Formatter<W>) -> fmt::Result {
+        match self.0 {
+            Some(name) => {
+                let name = Plain(name);
+                write!(f, "{name}")
+            }
+            None => f.write_str("standard output"),
+        }
     }
 }
 
@@ -98,15 +119,15 @@ impl fmt::Display for Failure<'_> {
 
     fn fmt<W: fmt::Write>(&self, f: &mut fmt::Formatter<W>) -> fmt::Result {
         match self {
-            Failure::Pods(name, why) => write!(f, "{}: {why}", shown_name(*name)),
-            Failure::Texts(name, why) => write!(f, "{}: {why}", shown_name(*name)),
-            Failure::Pair(name, why) => write!(f, "{}: {why}", shown_name(*name)),
+            Failure::Pods(name, why) => write!(f, "{}: {why}", Name(*name)),
+            Failure::Texts(name, why) => write!(f, "{}: {why}", Name(*name)),
+            Failure::Pair(name, why) => write!(f, "{}: {why}", Name(*name)),
             Failure::Lists(ours, theirs, why) => {
-                write!(f, "{}, {}: {why}", shown_name(*ours), shown_name(*theirs))
+                write!(f, "{}, {}: {why}", Name(*ours), Name(*theirs))
             }
             Failure::OutOfMemory => write!(f, "out of memory"),
-            Failure::Unread(name, why) => write!(f, "{}: {why}", shown_name(*name)),
-            Failure::Unwritten(target) => write!(f, "{}: write failed", shown_target(*target)),
+            Failure::Unread(name, why) => write!(f, "{}: {why}", Name(*name)),
+            Failure::Unwritten(target) => write!(f, "{}: write failed", Target(*target)),
         }
     }
 }
@@ -177,7 +198,7 @@ pub fn report_missing<E: Write>(faults: &mut E, name: &str) -> io::Result<()>
 fn report_pod<E: Write>(faults: &mut E, pod: &NamedRefusal<'_>) -> io::Result<()>
     ensures written { OnOk result (Appends (E.contents faults.old) (E.contents faults.new) (line_of_pod pod.now)) }
 {
-    writeln!(faults, "pod: {}: {}", shown_name(pod.name), pod.refusal)
+    writeln!(faults, "pod: {}: {}", Name(pod.name), pod.refusal)
 }
 
 /// Writes the line of a wrong command line.

@@ -16,7 +16,7 @@ const ABOUT: &str =
 
 /// What stands behind the help of the program.
 const EXAMPLES: &str =
-    "Without a FILE, or where FILE is -, the standard input is read. show, --stream, --nth, --key and --hex write as input is read. Other output is written once all input is accepted, or with --keep-going and --keep-refused once it is read.
+    "Without a FILE, or where FILE is -, the standard input is read. show, --stream, --nth, --key and --hex write as input is read, unless --lenient is given. Other output is written once all input is accepted, or with --keep-going and --keep-refused once it is read.
 
 Status: 0 the work is done; 1 a pod is refused, two inputs differ, no value has the key of --key, or something can't be read or written; 2 the command line is wrong.
 
@@ -109,18 +109,27 @@ fn with_flag<'a>(
     command.arg(flag(alloc, name, help))
 }
 
+/// A word that reads pods, as it is told to.
+fn reading_pods<'a>(alloc: Global, command: Command<'a>) -> Result<Command<'a>, AllocError>
+    requires { (out-Command command).has_globals ≡ false }
+    ensures app { IfOk result (λ it. app_of it ≡ spec.reading_pods (app_of command.entry)) }
+    ensures local { IfOk result (λ it. (out-Command it).has_globals ≡ false) }
+{
+    with_flag(
+        alloc,
+        command,
+        "lenient",
+        "Reads as PipeWire does, also pods that aren't encoded exactly",
+    )
+}
+
 /// A word that goes over pods.
 fn over_pods<'a>(alloc: Global, command: Command<'a>) -> Result<Command<'a>, AllocError>
     requires { (out-Command command).has_globals ≡ false }
     ensures app { IfOk result (λ it. app_of it ≡ spec.over_pods (app_of command.entry)) }
     ensures local { IfOk result (λ it. (out-Command it).has_globals ≡ false) }
 {
-    let with_lenient = with_flag(
-        alloc,
-        command,
-        "lenient",
-        "Reads as PipeWire does, also pods that aren't encoded exactly",
-    )?;
+    let with_lenient = reading_pods(alloc, command)?;
     with_flag(
         alloc,
         with_lenient,
@@ -171,7 +180,7 @@ fn with_parts<'a>(alloc: Global, command: Command<'a>) -> Result<Command<'a>, Al
         alloc,
         "key",
         "NAME",
-        "Prints only the values that objects have under the key of this name or number, at any depth of structs and objects",
+        "Prints only the values that objects have under the keys of these names or numbers, between commas, at any depth of structs and objects",
     ))?;
     let with_hex = with_key.arg(flag(
         alloc,
@@ -197,7 +206,8 @@ fn show<'a>(alloc: Global) -> Result<Command<'a>, AllocError>
         "Shows each pod as lines with names, also refused ones; the status is 1 if there are any",
         "Example: pod show --nth 17 --hex recording.pods",
     )?;
-    let with_parts = with_parts(alloc, plain)?;
+    let with_reading = reading_pods(alloc, plain)?;
+    let with_parts = with_parts(alloc, with_reading)?;
     with_parts.arg(stream(alloc))
 }
 
@@ -254,7 +264,7 @@ fn read<'a>(alloc: Global) -> Result<Command<'a>, AllocError>
     let plain = word(
         alloc,
         "read",
-        "Reads JSON with names and writes it as pods",
+        "Reads JSON with names, whose keys come in any order, and writes it as pods",
         "Example: pod read formats.json -o formats.pods",
     )?;
     plain.arg(flag(
@@ -278,17 +288,18 @@ fn bare<'a>(alloc: Global) -> Result<Command<'a>, AllocError>
         .bin_name("pod")
 }
 
-/// A command with one more word.
-fn with_word<'a>(
+/// A command with one more word, of two inputs.
+fn with_pair<'a>(
     alloc: Global,
     command: Command<'a>,
     name: &'a str,
     about: &'a str,
     example: &'a str,
 ) -> Result<Command<'a>, AllocError>
-    ensures { IfOk result (λ it. app_of it ≡ spec.with_word (app_of command.entry) name.entry.now) }
+    ensures { IfOk result (λ it. app_of it ≡ spec.with_pair (app_of command.entry) name.entry.now) }
 {
-    let one = word(alloc, name, about, example)?;
+    let plain = word(alloc, name, about, example)?;
+    let one = reading_pods(alloc, plain)?;
     command.subcommand(one)
 }
 
@@ -332,25 +343,25 @@ fn with_writers<'a>(alloc: Global, command: Command<'a>) -> Result<Command<'a>, 
 fn with_pairs<'a>(alloc: Global, command: Command<'a>) -> Result<Command<'a>, AllocError>
     ensures { IfOk result (λ it. app_of it ≡ spec.with_pairs (app_of command.entry)) }
 {
-    let first = with_word(
+    let first = with_pair(
         alloc,
         command,
         "diff",
-        "Compares the pods of two FILEs one by one and prints those that differ; the status is 1 if some do",
+        "Aligns the pods of two FILEs and prints what differs; the status is 1 if something does",
         "Example: pod diff before.pods after.pods",
     )?;
-    let second = with_word(
+    let second = with_pair(
         alloc,
         first,
         "meet",
-        "Negotiates: writes the object on which two agree, those of one FILE or the first pair of two FILEs that does",
+        "Negotiates: writes the object on which two top-level objects agree, those of one FILE or the first pair of two FILEs that does",
         "Example: pod meet ours.pods theirs.pods | pod show",
     )?;
-    with_word(
+    with_pair(
         alloc,
         second,
         "filter",
-        "Filters: writes the object of the values that two share, those of one FILE or the first pair of two FILEs that does",
+        "Filters: writes the object of the values that two top-level objects share, those of one FILE or the first pair of two FILEs that does",
         "Example: pod filter ours.pods theirs.pods | pod fixate",
     )
 }

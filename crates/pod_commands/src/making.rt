@@ -1,7 +1,7 @@
 //! What is made of each input.
 ghost use Rattle.std.specs.Prelude.{◌≡◌, ◌++◌, IfErr, IfOk, OnOk};
 ghost use Rattle.pod_commands.specs.Answers.{AreUnmade, IsUnread};
-ghost use Rattle.pod_commands.specs.Colours.{PrintsIn};
+ghost use Rattle.pod_commands.specs.Colours.{PrintsIn, ShowsIn};
 ghost use Rattle.pod_commands.specs.Inputs.{AreMade};
 ghost use Rattle.pod_commands.specs.Making.{AreNoPods, Makes, MakesAll, RefusesBy, RefusesIn};
 ghost use Rattle.pod_commands.specs.Working.{AreWorked, WorksOn};
@@ -12,17 +12,18 @@ ghost use Rattle.spa_recordings.specs.declared.reading.Reading as Reading;
 use crate::answer::Failure;
 use crate::colours::in_colours;
 use crate::files::{Files, read_named};
+use crate::reading::read_leniently;
 use crate::refusing::refused;
-use crate::request::{Making, Style};
+use crate::request::{Making, Printing, Style};
 use crate::streaming::check_all;
 use spa_in_place::rewrite_in_place;
-use spa_lenient::rewrite_all_leniently;
 use spa_pod_commands::making::{check, fixated};
 use spa_recordings::going_on::{Made, Maker, Manner, make_each};
 use spa_recordings::reading::Reading;
 use spa_refusals::{NamedRefusal, add_refusals};
 use spa_text_commands::printing::print_all;
 use spa_text_commands::reading::read_all;
+use spa_text_commands::showing::show_pods;
 use std::alloc::{AllocError, Global};
 use std::io::Read;
 
@@ -31,15 +32,15 @@ use std::io::Read;
 #[tactic(auto, using(crate::proofs::Checked::made_by_check, crate::proofs::Checked::unmade_by_check))]
 pub(crate) fn make_all<'a, R: Read, S: Files>(
     alloc: Global,
-    making: Making,
+    making: Making<'_>,
     reading: Reading,
     names: &[&'a str],
     input: &mut R,
     files: &S,
 ) -> Result<Vec<u8>, Failure<'a>>
     ensures made { IfOk result
-        (λ out. AreMade (MakesAll reading making) (R.remaining input.old) (S.holds files.now) names.now out.items 0) }
-    ensures refused { IfErr result (AreUnmade reading making (R.remaining input.old) (S.holds files.now) names.now) }
+        (λ out. AreMade (MakesAll reading making.entry) (R.remaining input.old) (S.holds files.now) names.now out.items 0) }
+    ensures refused { IfErr result (AreUnmade reading making.entry (R.remaining input.old) (S.holds files.now) names.now) }
 {
     if let (Reading::Exact, Making::Check) = (reading, making) {
         return match check_all(alloc, names, input, files) {
@@ -59,13 +60,13 @@ pub(crate) fn make_all<'a, R: Read, S: Files>(
 /// What is made of these bytes, which are those of the input of this name, read so.
 fn make_read<'a>(
     alloc: Global,
-    making: Making,
+    making: Making<'_>,
     reading: Reading,
     name: &'a str,
     bytes: Vec<u8>,
 ) -> Result<Vec<u8>, Failure<'a>>
-    ensures made { IfOk result (λ out. MakesOf reading (Makes making) bytes.items out.items) }
-    ensures refused { IfErr result (RefusesBy reading making name.entry.now bytes.items) }
+    ensures made { IfOk result (λ out. MakesOf reading (Makes making.entry) bytes.items out.items) }
+    ensures refused { IfErr result (RefusesBy reading making.entry name.entry.now bytes.items) }
 {
     match reading {
         Reading::Exact => make(alloc, making, name, bytes),
@@ -76,17 +77,17 @@ fn make_read<'a>(
 /// What is made of the values that these bytes convey.
 fn make_leniently<'a>(
     alloc: Global,
-    making: Making,
+    making: Making<'_>,
     name: &'a str,
     bytes: Vec<u8>,
 ) -> Result<Vec<u8>, Failure<'a>>
-    ensures made { IfOk result (λ out. MakesOf Reading.Lenient (Makes making) bytes.items out.items) }
-    ensures refused { IfErr result (RefusesBy Reading.Lenient making name.entry.now bytes.items) }
+    ensures made { IfOk result (λ out. MakesOf Reading.Lenient (Makes making.entry) bytes.items out.items) }
+    ensures refused { IfErr result (RefusesBy Reading.Lenient making.entry name.entry.now bytes.items) }
 {
-    let mut pods = Vec::new(alloc);
-    if rewrite_all_leniently(bytes.as_slice(), &mut pods).is_err() {
-        return Err(refused(alloc, Reading::Lenient, name, bytes.as_slice()));
-    }
+    let pods = match read_leniently(alloc, name, bytes.as_slice()) {
+        Ok(pods) => pods,
+        Err(why) => return Err(why),
+    };
     // What was read is refused for lack of memory alone.
     match make(alloc, making, name, pods) {
         Ok(made) => Ok(made),
@@ -97,12 +98,12 @@ fn make_leniently<'a>(
 /// What is made of these bytes, which are those of the input of this name.
 fn make<'a>(
     alloc: Global,
-    making: Making,
+    making: Making<'_>,
     name: &'a str,
     bytes: Vec<u8>,
 ) -> Result<Vec<u8>, Failure<'a>>
-    ensures made { IfOk result (λ out. Makes making bytes.items out.items) }
-    ensures refused { IfErr result (RefusesIn making name.entry.now bytes.items) }
+    ensures made { IfOk result (λ out. Makes making.entry bytes.items out.items) }
+    ensures refused { IfErr result (RefusesIn making.entry name.entry.now bytes.items) }
 {
     match making {
         Making::Json(style) => print(alloc, style, name, bytes.as_slice()),
@@ -112,6 +113,7 @@ fn make<'a>(
         },
         Making::Rewrite => rewrite(alloc, name, bytes),
         Making::Fixate => fixate(alloc, name, bytes),
+        Making::Print(printing) => print_parts(alloc, printing, name, bytes.as_slice()),
         Making::Check => match check(alloc, bytes.as_slice()) {
             Ok(()) => Ok(Vec::new(alloc)),
             Err(_) => Err(refused(alloc, Reading::Exact, name, bytes.as_slice())),
@@ -134,6 +136,29 @@ fn print<'a>(
         return Err(refused(alloc, Reading::Exact, name, bytes));
     };
     match in_colours(alloc, style.colours, texts) {
+        Ok(out) => Ok(out),
+        Err(_) => Err(Failure::OutOfMemory),
+    }
+}
+
+/// What is printed of the pods that these bytes consist of, where none of those that are printed is refused.
+#[tactic(auto, using(crate::proofs::Coloured::parts_in))]
+fn print_parts<'a>(
+    alloc: Global,
+    printing: Printing<'_>,
+    name: &'a str,
+    bytes: &[u8],
+) -> Result<Vec<u8>, Failure<'a>>
+    ensures made { IfOk result (λ out. ShowsIn printing.entry 0 0 bytes.now out.items 0) }
+    ensures refused { IfErr result (AreNoPods Reading.Exact name.entry.now bytes.now) }
+{
+    let Ok(printed) = show_pods(alloc, printing.printout, 0, 0, bytes) else {
+        return Err(refused(alloc, Reading::Exact, name, bytes));
+    };
+    if printed.refused != 0 {
+        return Err(refused(alloc, Reading::Exact, name, bytes));
+    }
+    match in_colours(alloc, printing.colours, printed.bytes) {
         Ok(out) => Ok(out),
         Err(_) => Err(Failure::OutOfMemory),
     }
@@ -179,7 +204,7 @@ fn add(out: &mut Vec<u8>, more: Vec<u8>) -> Result<(), AllocError>
     out.extend_from_slice(more.as_slice())
 }
 
-impl Maker for Making {
+impl Maker for Making<'_> {
     ghost makes = { λ making pods out. Makes making pods out };
 
     fn make(&self, alloc: Global, pods: Vec<u8>) -> Result<Vec<u8>, AllocError> {
@@ -200,13 +225,13 @@ pub(crate) struct Worked<'a> {
 /// What is made of each of the inputs of these names, whose refused pods are left out or kept, one behind another.
 pub(crate) fn make_what_is_read<'a, R: Read, S: Files>(
     alloc: Global,
-    making: Making,
+    making: Making<'_>,
     manner: Manner,
     names: &[&'a str],
     input: &mut R,
     files: &S,
 ) -> Result<Worked<'a>, Failure<'a>>
-    ensures made { IfOk result (λ worked. AreWorked manner.reading manner.refused making
+    ensures made { IfOk result (λ worked. AreWorked manner.reading manner.refused making.entry
         (R.remaining input.old) (S.holds files.now) names.now worked.out.items worked.refused.items) }
     ensures refused { IfErr result IsUnread }
 {
@@ -225,13 +250,13 @@ pub(crate) fn make_what_is_read<'a, R: Read, S: Files>(
 /// Adds what is made of these bytes, which are those of the input of this name, and what is said of its refused pods.
 fn work_on<'a>(
     alloc: Global,
-    making: Making,
+    making: Making<'_>,
     manner: Manner,
     name: &'a str,
     bytes: &[u8],
     worked: Worked<'a>,
 ) -> Result<Worked<'a>, AllocError>
-    ensures { IfOk result (λ more. WorksOn manner.reading manner.refused making name.entry.now bytes.now
+    ensures { IfOk result (λ more. WorksOn manner.reading manner.refused making.entry name.entry.now bytes.now
         worked.entry.out.items more.out.items worked.entry.refused.items more.refused.items) }
 {
     let mut said = worked.refused;

@@ -1,7 +1,11 @@
 //! What is wrong with a command line that `clap` accepts.
+ghost use Rattle.std.specs.Prelude.{◌≡◌};
+ghost use Rattle.pod_commands.specs.Misuses as spec;
+
+use crate::plain::Plain;
 use std::fmt;
 
-/// An option that `--stream`, or those for parts of inputs, exclude.
+/// An option that `--stream` excludes, or of which those for parts of inputs exclude `--keep-going` and `--keep-refused`.
 #[derive(Clone, Copy, Debug)]
 pub enum Excluded {
     /// `--lenient`
@@ -53,6 +57,18 @@ impl fmt::Display for Excluded {
     }
 }
 
+/// Why `--stream` excludes this option.
+fn stream_reason(excluded: Excluded) -> &'static str
+    ensures { result.now ≡ spec.stream_reason excluded }
+{
+    match excluded {
+        Excluded::Lenient => "an input is held whole for that",
+        Excluded::KeepGoing => "the list of refused pods grows with the input",
+        Excluded::KeepRefused => "the list of refused pods grows with the input",
+        Excluded::Output => "it writes as input comes, and a file is written at the end",
+    }
+}
+
 /// A name that is nearly the one that was given, where there is one.
 #[derive(Clone, Copy)]
 struct Similar(Option<&'static str>);
@@ -80,21 +96,36 @@ impl fmt::Display for Misuse<'_> {
     fn fmt<W: fmt::Write>(&self, f: &mut fmt::Formatter<W>) -> fmt::Result {
         match self {
             Misuse::NoWord => f.write_str("there is no command"),
-            Misuse::Nth(value) => write!(f, "--nth takes a number from 1 on, not '{value}'"),
-            Misuse::Color(value) => write!(f, "--color takes auto, always or never, not '{value}'"),
+            Misuse::Nth(value) => {
+                write!(f, "--nth takes a number from 1 on, not '{}'", Plain(*value))
+            }
+            Misuse::Color(value) => {
+                write!(
+                    f,
+                    "--color takes auto, always or never, not '{}'",
+                    Plain(*value)
+                )
+            }
             Misuse::Key(value, similar) => {
+                let value = Plain(*value);
                 let similar = Similar(*similar);
                 write!(f, "--key: no key has the name or number '{value}'{similar}")
             }
             Misuse::TooFew => f.write_str("diff takes two FILEs"),
-            Misuse::TooMany(name) => write!(f, "unexpected FILE '{name}': two are the most"),
+            Misuse::TooMany(name) => {
+                write!(f, "unexpected FILE '{}': two are the most", Plain(*name))
+            }
             Misuse::ToTerminal => f.write_str(
                 "pods are bytes, and the standard output is a terminal: -o FILE writes a file, -o - writes there all the same",
             ),
-            Misuse::WithStream(other) => write!(f, "--stream can't be used with {other}"),
-            Misuse::WithPart(other) => {
-                write!(f, "--nth, --key and --hex can't be used with {other}")
+            Misuse::WithStream(other) => {
+                let why = stream_reason(*other);
+                write!(f, "--stream can't be used with {other}: {why}")
             }
+            Misuse::WithPart(other) => write!(
+                f,
+                "--nth, --key and --hex can't be used with {other}: they count refused pods, too; 'pod rewrite --keep-going' leaves these out"
+            ),
         }
     }
 }

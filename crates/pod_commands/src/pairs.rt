@@ -1,70 +1,79 @@
 //! Two inputs compared, and two objects on which is agreed.
 ghost use Rattle.std.specs.Prelude.{◌≡◌, ◌≢◌, [], IfErr, IfOk};
 ghost use Rattle.spa_text_commands.specs.Differences.{Differ, SayTheSame};
-ghost use Rattle.pod_commands.specs.Answers.{AgreeTwo, AgreesOne, AreNotCompared, AreTwoApart, IsOneApart, IsUnread};
-ghost use Rattle.pod_commands.specs.Inputs.{AreBoth, OfTwo, content_of};
+ghost use Rattle.pod_commands.specs.Answers.{AgreeTwo, AgreesOne, AreNotCompared, AreTwoApart, AreTwoUnread, IsOneApart};
+ghost use Rattle.pod_commands.specs.Inputs.{AreBoth, OfTwo};
 
 use crate::answer::Failure;
-use crate::files::{Files, read_named};
+use crate::files::Files;
+use crate::reading::read_pods;
 use crate::refusing::either_refused;
 use spa_meet_commands::lists::of_lists;
 use spa_meet_commands::pair::{Work, of_pair};
 use spa_meet_commands::progress::Progress;
+use spa_recordings::reading::Reading;
 use spa_text_commands::comparing::differences;
 use std::alloc::Global;
 use std::io::Read;
 
-/// The lines of text that differ of the pods of two inputs: none where these say the same values.
+/// The lines of text that differ of the pods as which two inputs are read: none where these say the same values.
+#[tactic(auto, using(crate::proofs::Unread::of_both))]
 pub(crate) fn compare<'a, R: Read, S: Files>(
     alloc: Global,
+    reading: Reading,
     ours: &'a str,
     theirs: &'a str,
     input: &mut R,
     files: &S,
 ) -> Result<Vec<u8>, Failure<'a>>
     ensures same { IfOk result (λ lines. lines.items ≡ [] →
-        OfTwo (R.remaining input.old) (S.holds files.now) ours.entry.now theirs.entry.now SayTheSame) }
+        OfTwo reading (R.remaining input.old) (S.holds files.now) ours.entry.now theirs.entry.now SayTheSame) }
     ensures other { IfOk result (λ lines. lines.items ≢ [] →
-        OfTwo (R.remaining input.old) (S.holds files.now) ours.entry.now theirs.entry.now (Differ lines.items)) }
+        OfTwo reading (R.remaining input.old) (S.holds files.now) ours.entry.now theirs.entry.now (Differ lines.items)) }
     ensures refused { IfErr result
-        (AreNotCompared (R.remaining input.old) (S.holds files.now) ours.entry.now theirs.entry.now) }
+        (AreNotCompared reading (R.remaining input.old) (S.holds files.now) ours.entry.now theirs.entry.now) }
 {
-    let (first, second) = match read_both(alloc, ours, theirs, input, files) {
+    let (first, second) = match read_both(alloc, reading, ours, theirs, input, files) {
         Ok(both) => both,
         Err(why) => return Err(why),
     };
     match differences(alloc, first.as_slice(), second.as_slice()) {
         Ok(lines) => Ok(lines),
+        // What is read leniently is refused for lack of memory alone.
         Err(_) => Err(either_refused(alloc, ours, theirs, first.as_slice(), second.as_slice())),
     }
 }
 
-/// The encoding of the object on which the two agree that an input consists of.
+/// The encoding of the object on which the two agree as which an input is read.
+#[tactic(auto, using(crate::proofs::Unread::of_one))]
 pub(crate) fn agree<'a, R: Read, S: Files>(
     alloc: Global,
     work: Work,
+    reading: Reading,
     name: &'a str,
     input: &mut R,
     files: &S,
 ) -> Result<Vec<u8>, Failure<'a>>
     ensures made { IfOk result
-        (λ met. AgreesOne work (R.remaining input.old) (S.holds files.now) name.entry.now met.items) }
-    ensures refused { IfErr result (IsOneApart work (R.remaining input.old) (S.holds files.now) name.entry.now) }
+        (λ met. AgreesOne work reading (R.remaining input.old) (S.holds files.now) name.entry.now met.items) }
+    ensures refused { IfErr result (IsOneApart work reading (R.remaining input.old) (S.holds files.now) name.entry.now) }
 {
-    let bytes = match read_named(alloc, name, input, files) {
-        Ok(bytes) => bytes,
+    let pods = match read_pods(alloc, reading, name, input, files) {
+        Ok(pods) => pods,
         Err(why) => return Err(why),
     };
-    match of_pair(alloc, work, bytes.as_slice()) {
+    match of_pair(alloc, work, pods.as_slice()) {
         Ok(met) => Ok(met),
         Err(why) => Err(Failure::Pair(name, why)),
     }
 }
 
-/// The encoding of the object on which the first pair of two lists agrees.
+/// The encoding of the object on which the first pair agrees of two lists, as which two inputs are read.
+#[tactic(auto, using(crate::proofs::Unread::of_both))]
 pub(crate) fn agree_of_lists<'a, R: Read, S: Files, P: Progress>(
     alloc: Global,
     work: Work,
+    reading: Reading,
     ours: &'a str,
     theirs: &'a str,
     input: &mut R,
@@ -72,11 +81,11 @@ pub(crate) fn agree_of_lists<'a, R: Read, S: Files, P: Progress>(
     progress: &mut P,
 ) -> Result<Vec<u8>, Failure<'a>>
     ensures made { IfOk result
-        (λ met. AgreeTwo work (R.remaining input.old) (S.holds files.now) ours.entry.now theirs.entry.now met.items) }
+        (λ met. AgreeTwo work reading (R.remaining input.old) (S.holds files.now) ours.entry.now theirs.entry.now met.items) }
     ensures refused { IfErr result
-        (AreTwoApart work (R.remaining input.old) (S.holds files.now) ours.entry.now theirs.entry.now) }
+        (AreTwoApart work reading (R.remaining input.old) (S.holds files.now) ours.entry.now theirs.entry.now) }
 {
-    let (first, second) = match read_both(alloc, ours, theirs, input, files) {
+    let (first, second) = match read_both(alloc, reading, ours, theirs, input, files) {
         Ok(both) => both,
         Err(why) => return Err(why),
     };
@@ -86,23 +95,26 @@ pub(crate) fn agree_of_lists<'a, R: Read, S: Files, P: Progress>(
     }
 }
 
-/// All bytes of two inputs.
+/// The pods as which two inputs are read.
+#[tactic(auto, using(crate::proofs::Unread::known_read))]
 fn read_both<'a, R: Read, S: Files>(
     alloc: Global,
+    reading: Reading,
     ours: &'a str,
     theirs: &'a str,
     input: &mut R,
     files: &S,
 ) -> Result<(Vec<u8>, Vec<u8>), Failure<'a>>
     ensures both { IfOk result (λ both.
-        AreBoth (R.remaining input.old) (S.holds files.now) ours.entry.now theirs.entry.now both.0.items both.1.items) }
-    ensures cause { IfErr result IsUnread }
+        AreBoth reading (R.remaining input.old) (S.holds files.now) ours.entry.now theirs.entry.now both.0.items both.1.items) }
+    ensures refused { IfErr result
+        (AreTwoUnread reading (R.remaining input.old) (S.holds files.now) ours.entry.now theirs.entry.now) }
 {
-    let first = match read_named(alloc, ours, input, files) {
-        Ok(bytes) => bytes,
+    let first = match read_pods(alloc, reading, ours, input, files) {
+        Ok(pods) => pods,
         Err(why) => return Err(why),
     };
-    match read_named(alloc, theirs, input, files) {
+    match read_pods(alloc, reading, theirs, input, files) {
         Ok(second) => Ok((first, second)),
         Err(why) => Err(why),
     }

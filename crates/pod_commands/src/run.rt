@@ -1,7 +1,7 @@
 //! The program's work, over a reader, files and a writer.
 ghost use Rattle.std.specs.Prelude.{◌≡◌, ◌≢◌, ◌⊎◌, IfNone, IfSome, None, false, true};
 ghost use Rattle.pod_commands.specs.Answers as spec;
-ghost use Rattle.pod_commands.specs.Answers.{AreFiles, AreUnmade, Gives, IsAgreed, IsAnswer, IsCompared, IsDone, IsExcluded, IsMadeBy, IsMadeInPart, IsPlain, IsPrinted, IsShown, IsShownIn, IsStreamed, IsOutcome, IsWrittenAs, MayReadTwice, OnAnswer, Refuses, outlet};
+ghost use Rattle.pod_commands.specs.Answers.{AreFiles, AreUnmade, Gives, IsAgreed, IsAnswer, IsCompared, IsDone, IsExcluded, IsMadeBy, IsMadeInPart, IsPlain, IsPrinted, IsPrintedAs, IsPrintedLeniently, IsShown, IsShownIn, IsStreamed, IsOutcome, IsWrittenAs, MayReadTwice, OnAnswer, Refuses, outlet};
 ghost use Rattle.pod_commands.specs.declared.request.Fate.TheVariants.{Stops};
 ghost use Rattle.pod_commands.specs.declared.request.Making.TheVariants.{Rewrite};
 ghost use Rattle.spa_recordings.specs.declared.reading.Reading.TheVariants.{Exact};
@@ -28,8 +28,8 @@ use std::io::{self, Read, Write};
 
 /// Does what the words ask for, the program's own name not among them.
 ///
-/// The words are settled before anything is read. But for `show`, `--stream`, and `json` with `--nth`, `--key` or `--hex`, nothing is written before all
-/// inputs are read and accepted; a file that is to be written is written at the end, by all words. Where the device is a terminal, `show` and `json`
+/// The words are settled before anything is read. But for `--stream`, and without `--lenient` for `show`, and for `json` with `--nth`, `--key` or
+/// `--hex`, nothing is written before all inputs are read and accepted; a file that is to be written is written at the end, by all words. Where the device is a terminal, `show` and `json`
 /// print in colours, unless `NO_COLOR` or `--color` says other, and no pods are written, unless `-o -` asks for it. A search among two lists tells how
 /// far it is.
 pub fn run<'a, R: Read, S: Files, P: Progress, W: Write + Drop>(
@@ -88,15 +88,19 @@ fn do_work<'a, R: Read, S: Files, P: Progress, W: Write + Drop>(
                 alloc, streaming, manner, names, target, input, files, device,
             )
         }
-        Word::Diff => diff(alloc, names, target, input, files, device),
-        Word::Agree(work) => seek(alloc, work, names, target, input, files, progress, device),
+        Word::Diff(reading) => diff(alloc, reading, names, target, input, files, device),
+        Word::Agree(work, reading) => {
+            seek(
+                alloc, work, reading, names, target, input, files, progress, device,
+            )
+        }
     }
 }
 
 /// Makes this of the inputs of these names.
 fn make<'a, R: Read, S: Files, W: Write + Drop>(
     alloc: Global,
-    making: Making,
+    making: Making<'_>,
     manner: Manner,
     names: &[&'a str],
     target: Option<&'a str>,
@@ -104,7 +108,7 @@ fn make<'a, R: Read, S: Files, W: Write + Drop>(
     files: &mut S,
     device: W,
 ) -> (Answer<'a>, W)
-    ensures { IsMadeBy manner.reading manner.fate making result.0 (R.remaining input.old) names.now
+    ensures { IsMadeBy manner.reading manner.fate making.entry result.0 (R.remaining input.old) names.now
         (outlet target.entry (W.contents device) (W.contents result.1) (S.holds files.old) (S.holds files.new)) }
 {
     match manner.fate {
@@ -127,13 +131,13 @@ fn make<'a, R: Read, S: Files, W: Write + Drop>(
 
 /// Whether pods are read exactly and rewritten to the standard output, and each of these names is a regular file's.
 fn may_read_twice<S: Files>(
-    making: Making,
+    making: Making<'_>,
     reading: Reading,
     names: &[&str],
     target: Option<&str>,
     files: &S,
 ) -> bool
-    ensures { result ≡ true → MayReadTwice reading making names.now target.entry }
+    ensures { result ≡ true → MayReadTwice reading making.entry names.now target.entry }
 {
     match (reading, making, target) {
         (Reading::Exact, Making::Rewrite, None) => are_regular(names, files),
@@ -200,7 +204,7 @@ fn emptied<'a, S: Files>(names: &[&'a str], files: &S) -> Option<&'a str> {
 /// Works on what is read of the inputs of these names, and answers which pods of them are refused.
 fn go_on<'a, R: Read, S: Files, W: Write + Drop>(
     alloc: Global,
-    making: Making,
+    making: Making<'_>,
     manner: recordings::Manner,
     names: &[&'a str],
     target: Option<&'a str>,
@@ -208,7 +212,7 @@ fn go_on<'a, R: Read, S: Files, W: Write + Drop>(
     files: &mut S,
     device: W,
 ) -> (Answer<'a>, W)
-    ensures { IsMadeInPart manner.reading manner.refused making result.0 (R.remaining input.old) names.now
+    ensures { IsMadeInPart manner.reading manner.refused making.entry result.0 (R.remaining input.old) names.now
         (outlet target.entry (W.contents device) (W.contents result.1) (S.holds files.old) (S.holds files.new)) }
 {
     let made = match make_what_is_read(alloc, making, manner, names, input, files) {
@@ -334,8 +338,7 @@ fn shown<'a>(refused: usize, key: Option<&'a str>, is_written: bool) -> Answer<'
     Answer::Missing(name)
 }
 
-/// Prints this of the inputs of these names, where pods are read exactly and refused whole.
-#[tactic(auto, using(crate::proofs::Streamed::printed, crate::proofs::Streamed::not_printed))]
+/// Prints this of the inputs of these names, where no refused pod is to be left out.
 fn print<'a, R: Read, S: Files, W: Write + Drop>(
     alloc: Global,
     printing: Printing<'a>,
@@ -349,10 +352,83 @@ fn print<'a, R: Read, S: Files, W: Write + Drop>(
     ensures { IsPrinted printing.entry manner.reading manner.fate result.0 (R.remaining input.old) names.now
         (outlet target.entry (W.contents device) (W.contents result.1) (S.holds files.old) (S.holds files.new)) }
 {
-    if let Some(other) = excluded_in(manner, None) {
-        return (Answer::Misused(Misuse::WithPart(other)), device);
+    match manner.fate {
+        Fate::Stops => {
+            print_read(
+                alloc,
+                printing,
+                manner.reading,
+                names,
+                target,
+                input,
+                files,
+                device,
+            )
+        }
+        Fate::GoesOn(refused) => (
+            Answer::Misused(Misuse::WithPart(option_of(refused))),
+            device,
+        ),
     }
-    print_inputs(alloc, printing, names, target, input, files, device)
+}
+
+/// The option that is given for this to become of refused pods.
+fn option_of(refused: Refused) -> Excluded
+    ensures { result ≡ spec.option_of refused }
+{
+    match refused {
+        Refused::LeftOut => Excluded::KeepGoing,
+        Refused::Kept => Excluded::KeepRefused,
+    }
+}
+
+/// Prints this of the inputs of these names, which are read so.
+fn print_read<'a, R: Read, S: Files, W: Write + Drop>(
+    alloc: Global,
+    printing: Printing<'a>,
+    reading: Reading,
+    names: &[&'a str],
+    target: Option<&'a str>,
+    input: &mut R,
+    files: &mut S,
+    device: W,
+) -> (Answer<'a>, W)
+    ensures { IsPrintedAs reading printing.entry result.0 (R.remaining input.old) names.now
+        (outlet target.entry (W.contents device) (W.contents result.1) (S.holds files.old) (S.holds files.new)) }
+{
+    match reading {
+        Reading::Exact => print_inputs(alloc, printing, names, target, input, files, device),
+        Reading::Lenient => print_leniently(alloc, printing, names, target, input, files, device),
+    }
+}
+
+/// Prints this of the values that the inputs of these names convey, once all are read.
+fn print_leniently<'a, R: Read, S: Files, W: Write + Drop>(
+    alloc: Global,
+    printing: Printing<'a>,
+    names: &[&'a str],
+    target: Option<&'a str>,
+    input: &mut R,
+    files: &mut S,
+    device: W,
+) -> (Answer<'a>, W)
+    ensures { IsPrintedLeniently printing.entry result.0 (R.remaining input.old) names.now
+        (outlet target.entry (W.contents device) (W.contents result.1) (S.holds files.old) (S.holds files.new)) }
+{
+    match make_all(
+        alloc,
+        Making::Print(printing),
+        Reading::Lenient,
+        names,
+        input,
+        files,
+    ) {
+        Ok(made) => {
+            let done = shown(0, printing.printout.selection.key, !made.is_empty());
+            answered(files, target, device, Ok(made), done)
+        }
+        Err(why) => (Answer::Refused(why), device),
+    }
 }
 
 /// Prints this of the inputs of these names: as they come, or where a file is written, all of it at the end.
@@ -417,22 +493,23 @@ fn print_to_file<'a, R: Read, S: Files, W: Write + Drop>(
     }
 }
 
-/// Compares the two inputs of these names.
+/// Compares the two inputs of these names, which are read so.
 fn diff<'a, R: Read, S: Files, W: Write + Drop>(
     alloc: Global,
+    reading: Reading,
     names: &[&'a str],
     target: Option<&'a str>,
     input: &mut R,
     files: &mut S,
     device: W,
 ) -> (Answer<'a>, W)
-    ensures { IsCompared result.0 (R.remaining input.old) names.now
+    ensures { IsCompared reading result.0 (R.remaining input.old) names.now
         (outlet target.entry (W.contents device) (W.contents result.1) (S.holds files.old) (S.holds files.new)) }
 {
     let [ours, theirs] = names else {
         return (Answer::Misused(misuse_of(names)), device);
     };
-    let lines = match compare(alloc, *ours, *theirs, input, files) {
+    let lines = match compare(alloc, reading, *ours, *theirs, input, files) {
         Ok(lines) => lines,
         Err(why) => return (Answer::Refused(why), device),
     };
@@ -442,10 +519,11 @@ fn diff<'a, R: Read, S: Files, W: Write + Drop>(
     answered(files, target, device, Ok(lines), Answer::Differs)
 }
 
-/// Seeks the object on which two of the inputs of these names agree.
+/// Seeks the object on which two of the inputs of these names, which are read so, agree.
 fn seek<'a, R: Read, S: Files, P: Progress, W: Write + Drop>(
     alloc: Global,
     work: Work,
+    reading: Reading,
     names: &[&'a str],
     target: Option<&'a str>,
     input: &mut R,
@@ -453,16 +531,16 @@ fn seek<'a, R: Read, S: Files, P: Progress, W: Write + Drop>(
     progress: &mut P,
     device: W,
 ) -> (Answer<'a>, W)
-    ensures { IsAgreed work result.0 (R.remaining input.old) names.now
+    ensures { IsAgreed work reading result.0 (R.remaining input.old) names.now
         (outlet target.entry (W.contents device) (W.contents result.1) (S.holds files.old) (S.holds files.new)) }
 {
     match names {
         [name] => {
-            let made = agree(alloc, work, *name, input, files);
+            let made = agree(alloc, work, reading, *name, input, files);
             answered(files, target, device, made, Answer::Done)
         }
         [ours, theirs] => {
-            let made = agree_of_lists(alloc, work, *ours, *theirs, input, files, progress);
+            let made = agree_of_lists(alloc, work, reading, *ours, *theirs, input, files, progress);
             answered(files, target, device, made, Answer::Done)
         }
         _ => (Answer::Misused(misuse_of(names)), device),

@@ -1,4 +1,5 @@
 mod Going
 mod Holding
+mod Likely
 mod Streamed
 mod Unreading

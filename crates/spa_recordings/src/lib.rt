@@ -3,5 +3,6 @@
 
 mod blocks;
 pub mod going_on;
+pub mod plausible;
 pub mod reading;
 pub mod streaming;

@@ -1,7 +1,9 @@
 -- Why a pod isn't read.
-use Rattle.std.proofs.Common.{◌≡◌, ◌≢◌, ◌≤◌, ◌+◌, ◌-◌, ◌∙◌, ℕ, List, ◌++◌, length, take, drop, ap, arith, length-append, refl, sym, subst}
+use Rattle.std.proofs.Common.{◌≡◌, ◌≢◌, ◌≤◌, ◌<◌, ◌^◌, ◌+◌, ◌-◌, ◌∙◌, ℕ, List, ◌++◌, length, take, drop, ap, arith, inl, inr, length-append, refl, sym, subst}
+use Rattle.std.proofs.lemmas.Bool.{cases_lt}
 use Rattle.std.proofs.lemmas.List.{drop_at}
 use Rattle.std.specs.Borrow.{Bor}
+use Rattle.std.specs.Option.{SomeIff}
 use Rattle.std.specs.Prelude.{Option, Some, None, Result, Ok, Err, IfNone, IfOk, IfSome, codes}
 use Rattle.spa_fixed_sized.specs.Faults.{fault_kind_text, kind_text}
 use Rattle.spa_fixed_sized.specs.declared.fault.DeserializeError.{DeserializeError}
@@ -16,7 +18,9 @@ use Rattle.spa_lenient.specs.Rewriting as lenient
 use Rattle.spa_rewrite.specs.Rewriting as exact
 use Rattle.spa_refusals.specs.Paths.{LeadsTo, itself, further, member, property}
 use Rattle.spa_format.specs.Walk.{walk}
-use Rattle.spa_refusals.specs.Refusals.{IsFirstRefusal, IsNothing, IsRefusalAt, IsRefusalOf, IsUnreadFor, LeadsBy}
+use Rattle.spa_format.specs.Words.{header_size}
+use Rattle.spa_recordings.specs.Plausible.{IsNextPlausible}
+use Rattle.spa_refusals.specs.Refusals.{IsFirstRefusal, IsNextOf, IsNothing, IsRefusalAt, IsRefusalOf, IsUnreadFor, LeadsBy}
 use Rattle.spa_refusals.specs.declared.refusal.Refusal.{Refusal}
 
 fault_of : {I : Type 0} (Fact : Type 0) (e : DeserializeError I) → e ≢ error.OutOfMemory → OnFault Fact e → Fact
@@ -119,3 +123,12 @@ pub nothing_at : (reading : Reading) (input left : List ℕ) (e : DeserializeErr
     e ≢ error.OutOfMemory → place ≡ length input - length left → IsNothing reading (drop place input)
 nothing_at reading input left e place h n is =
     subst (IsNothing reading) (sym (behind reading input left place (its_list reading input left e h) is)) (nothing_left reading input left e h n)
+
+-- where the next pod plausibly begins
+pub next_counted : (r : Option ℕ) (place n : ℕ) (pod : List ℕ) → SomeIff r (place + n < 2 ^ 64) (place + n) → n < length pod →
+    IsNextPlausible pod header_size n → IsNextOf place pod r
+next_counted None place n pod h within next = inr (elim (cases_lt (place + n) (2 ^ 64)) [
+  | inl fits ↦ absurd (h fits)
+  | inr past ↦ omega (arith, past, within)
+])
+next_counted (Some at) place n pod h within next = (n, h.1, next)

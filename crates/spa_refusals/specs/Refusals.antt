@@ -1,5 +1,5 @@
 -- What is said of a refused pod: docs/TEXT.md, "What is said of a refused pod".
-use Rattle.std.specs.Prelude.{◌≡◌, ◌≤◌, ◌<◌, ◌+◌, if◌then◌else◌, nat_lt, ℕ, codes, List, [], ◌∷◌, ◌++◌, Option, Some, None, length, drop, take, option_map, string_bytes}
+use Rattle.std.specs.Prelude.{◌≡◌, ◌≤◌, ◌<◌, ◌+◌, ◌^◌, ◌⊎◌, if◌then◌else◌, nat_lt, ℕ, codes, List, [], ◌∷◌, ◌++◌, Option, Some, None, length, drop, take, option_map, string_bytes}
 use Rattle.std.specs.Borrow.{Bor}
 use Rattle.std.specs.Fmt.{decimal}
 use Rattle.spa_fixed_sized.specs.Faults.{error_text, kind_text}
@@ -10,6 +10,7 @@ use Rattle.spa_format.specs.Walk.{walk}
 use Rattle.spa_format.specs.Words.{extent, header_size, word_at}
 use Rattle.spa_bodies.specs.Reading.{IsShortAt, Names, OnMemory}
 use Rattle.spa_read.specs.Reading.{ConveysNothing, StandsLeniently}
+use Rattle.spa_recordings.specs.Plausible.{IsNextPlausible, IsNoneBehind}
 use Rattle.spa_recordings.specs.Reading.{IsAccepted, IsLeftOf}
 use Rattle.spa_recordings.specs.declared.reading.Reading.{Reading}
 use Rattle.spa_recordings.specs.declared.reading.Reading.TheVariants.{Exact, Lenient}
@@ -44,10 +45,16 @@ LeadsBy Lenient pod path inner = (path ≡ []) × (inner ≡ pod)
 abbrev pub wanted : List ℕ → ℕ
 wanted pod = if nat_lt (length pod) header_size then header_size else extent (word_at pod 0)
 
--- all of the pod at the front is there, or so much of it
-abbrev pub IsCutOf : List ℕ → Option Cut → Type 0
-IsCutOf pod None = wanted pod ≤ length pod
-IsCutOf pod (Some cut) = (cut.takes ≡ wanted pod) × (cut.there ≡ length pod) × (length pod < wanted pod)
+-- behind the header of the pod at this byte the next one plausibly begins at that byte; or none does, or bytes that far are past what is counted
+abbrev pub IsNextOf : (place : ℕ) → List ℕ → Option ℕ → Type 0
+IsNextOf place pod (Some at) = (n : ℕ) × (at ≡ place + n) × IsNextPlausible pod header_size n
+IsNextOf place pod None = IsNoneBehind pod header_size ⊎ (2 ^ 64 ≤ place + length pod)
+
+-- all of the pod at the front is there, which begins at this byte, or so much of it
+abbrev pub IsCutOf : (place : ℕ) → List ℕ → Option Cut → Type 0
+IsCutOf place pod None = wanted pod ≤ length pod
+IsCutOf place pod (Some cut) =
+    (cut.takes ≡ wanted pod) × (cut.there ≡ length pod) × (length pod < wanted pod) × IsNextOf place pod cut.next
 
 -- what is said of the pod at the front of these bytes: its type, the path to the malformed one inside, and the cause
 pub record IsRefusalOf (reading : Reading) (pod : List ℕ) (refusal : Refusal) : Type 0 where
@@ -61,7 +68,7 @@ pub record IsRefusalOf (reading : Reading) (pod : List ℕ) (refusal : Refusal) 
   pub kind : refusal.kind.now ≡ kind_text cause
   pub words : string_bytes refusal.words ≡ error_text cause
   pub short : ¬ (HasFront pod) → refusal.kind.now ≡ codes "Short"
-  pub cut : IsCutOf pod refusal.cut
+  pub cut : IsCutOf refusal.place pod refusal.cut
 
 -- what is said of the pod at the front of what follows `place`
 pub record IsRefusalAt (reading : Reading) (input : List ℕ) (refusal : Refusal) : Type 0 where
@@ -81,10 +88,16 @@ abbrev pub title_text : Option TypeName → List ℕ
 title_text None = []
 title_text (Some type) = codes " (" ++ (name_text type ++ codes ")")
 
+-- where the next pod plausibly begins, if one does
+abbrev pub next_text : Option ℕ → List ℕ
+next_text None = []
+next_text (Some at) = codes ", and a pod may begin at byte " ++ decimal at
+
 -- how much of the pod is there, where it isn't whole
 abbrev pub there_text : Option Cut → List ℕ
 there_text None = []
-there_text (Some cut) = codes ": " ++ (decimal cut.there ++ (codes " of " ++ (decimal cut.takes ++ codes " are there")))
+there_text (Some cut) =
+    codes ": " ++ (decimal cut.there ++ (codes " of " ++ (decimal cut.takes ++ (codes " are there" ++ next_text cut.next))))
 
 -- the path, where there is one, and the type of the pod that it leads to
 abbrev pub inner_text : (path : List ℕ) → Option TypeName → List ℕ

@@ -2,7 +2,7 @@
 ghost use Rattle.std.specs.Prelude.{◌≡◌, ◌+◌, ◌≤◌, IfErr, IfNone, IfOk, IfSome, OnOk, drop, length, take};
 ghost use Rattle.spa_format.specs.Walk.{walk};
 ghost use Rattle.spa_recordings.specs.Reading.{IsAccepted, RefusesList};
-ghost use Rattle.spa_refusals.specs.Refusals.{IsCutOf, IsFirstRefusal, IsNothing, IsRefusalAt, IsRefusalOf};
+ghost use Rattle.spa_refusals.specs.Refusals.{IsCutOf, IsFirstRefusal, IsNextOf, IsNothing, IsRefusalAt, IsRefusalOf};
 
 use crate::counting::count;
 use crate::inside::malformed;
@@ -10,6 +10,7 @@ use crate::names::{TypeName, type_name};
 use spa_bytes::{HEADER_LEN, extent_of, u32_at};
 use spa_fixed_sized::DeserializeError;
 use spa_lenient::rewrite_all_leniently;
+use spa_recordings::plausible::next_plausible;
 use spa_recordings::reading::Reading;
 use spa_rewrite::accept_all;
 use std::alloc::{AllocError, Global};
@@ -46,6 +47,8 @@ pub struct Cut {
     pub takes: usize,
     /// How many of them are there.
     pub there: usize,
+    /// The byte of the input where behind its header the next pod plausibly begins, if one does.
+    pub next: Option<usize>,
 }
 
 /// The refusal of the first pod of the input that isn't read; None where all of it is read.
@@ -130,13 +133,13 @@ pub fn refusal_of(
         inner_type: type_name(inner.pod),
         kind: inner.error.kind(),
         words,
-        cut: cut_of(pod),
+        cut: cut_of(place, pod),
     })
 }
 
-/// What is there of the pod at the front, where it isn't whole.
-fn cut_of(pod: &[u8]) -> Option<Cut>
-    ensures { IsCutOf pod.now result }
+/// What is there of the pod at the front, which begins at this byte, where it isn't whole.
+fn cut_of(place: usize, pod: &[u8]) -> Option<Cut>
+    ensures { IsCutOf place pod.now result }
 {
     let takes = if pod.len() < HEADER_LEN {
         HEADER_LEN
@@ -147,9 +150,20 @@ fn cut_of(pod: &[u8]) -> Option<Cut>
         return Some(Cut {
             takes,
             there: pod.len(),
+            next: next_of(place, pod),
         });
     }
     None
+}
+
+/// The byte where behind the header of the pod at this byte the next one plausibly begins, if one does.
+fn next_of(place: usize, pod: &[u8]) -> Option<usize>
+    ensures { IsNextOf place pod.now result }
+{
+    match next_plausible(pod, HEADER_LEN) {
+        Some(bytes) => place.checked_add(bytes),
+        None => None,
+    }
 }
 
 /// How much of a pod is there, where it isn't whole.
@@ -164,7 +178,28 @@ impl fmt::Display for There {
 
     fn fmt<W: fmt::Write>(&self, f: &mut fmt::Formatter<W>) -> fmt::Result {
         match self.0 {
-            Some(cut) => write!(f, ": {} of {} are there", cut.there, cut.takes),
+            Some(cut) => {
+                let next = Next(cut.next);
+                write!(f, ": {} of {} are there{next}", cut.there, cut.takes)
+            }
+            None => Ok(()),
+        }
+    }
+}
+
+/// Where the next pod plausibly begins, if one does.
+#[derive(Clone, Copy)]
+struct Next(Option<usize>);
+
+impl fmt::Display for Next {
+    ghost use Rattle.std.specs.Prelude.{Some};
+    ghost use Rattle.spa_refusals.specs.Refusals.{next_text};
+
+    ghost output = { λ next. Some (next_text next.0) };
+
+    fn fmt<W: fmt::Write>(&self, f: &mut fmt::Formatter<W>) -> fmt::Result {
+        match self.0 {
+            Some(at) => write!(f, ", and a pod may begin at byte {at}"),
             None => Ok(()),
         }
     }

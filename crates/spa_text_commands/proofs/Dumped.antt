@@ -1,8 +1,9 @@
 -- Bytes in hex, one behind another.
-use Rattle.std.proofs.Common.{◌≡◌, ◌≤◌, ◌<◌, ℕ, suc, ◌+◌, ◌/◌, ◌%◌, List, [], ◌∷◌, ◌++◌, refl, sym, arith, take, drop, length, slice_index, ◌∙◌, ap, length-drop, append_assoc, append-nil}
+use Rattle.std.proofs.Common.{◌≡◌, ◌≤◌, ◌<◌, ℕ, suc, ◌+◌, ◌-◌, ◌/◌, ◌%◌, List, [], ◌∷◌, ◌++◌, refl, sym, arith, take, drop, length, map, slice_index, ◌∙◌, ap, length-drop, append_assoc, append-nil}
+use Rattle.std.specs.Prelude.{Err, Ok, OnOk, Result, if◌then◌else◌, is_ok}
 use Rattle.std.proofs.lemmas.List.{nil_from_length, take_all}
 use Rattle.hex.specs.Hex.{encode_lower, encode_with, lower_digits}
-use Rattle.spa_text_commands.specs.Dump.{hex_lines, place_text, row_line, rows, spaced}
+use Rattle.spa_text_commands.specs.Dump.{blanks, hex_lines, letter_of, place_text, row_line, rows, spaced}
 use Rattle.spa_text_commands.specs.Lines.{Adds}
 
 one_byte : (b : ℕ) (bs : List ℕ) → encode_lower (b ∷ bs) ≡ encode_lower (b ∷ []) ++ encode_lower bs
@@ -43,22 +44,59 @@ spaced_pushed left behind mid one new all b h e o n =
 pub spaced_ended : (left mid all : List ℕ) → mid ++ spaced left ≡ all → length left ≡ 0 → mid ≡ all
 spaced_ended left mid all h e = sym (append-nil mid) ∙ ap (λ z. mid ++ spaced z) (sym (nil_from_length left e)) ∙ h
 
-pub row_pushed : (a b c d e : List ℕ) (place : ℕ) (row : List ℕ) → b ≡ a ++ place_text place → c ≡ b ++ (58 ∷ []) → d ≡ c ++ spaced row →
-    e ≡ d ++ (10 ∷ []) → e ≡ a ++ row_line place row
-row_pushed a b c d e place row p q r s =
-    let t = place_text place in
-    s ∙ ap (λ z. z ++ (10 ∷ [])) (r ∙ ap (λ z. z ++ spaced row) (q ∙ ap (λ z. z ++ (58 ∷ [])) p ∙ append_assoc a t (58 ∷ []))
-    ∙ append_assoc a (t ++ (58 ∷ [])) (spaced row) ∙ ap (λ z. a ++ z) (append_assoc t (58 ∷ []) (spaced row)))
-    ∙ append_assoc a (t ++ (58 ∷ spaced row)) (10 ∷ []) ∙ ap (λ z. a ++ z) (append_assoc t (58 ∷ spaced row) (10 ∷ []))
+pub letters_pushed : (left behind mid new all : List ℕ) (b x : ℕ) → mid ++ map letter_of left ≡ all → left ≡ b ∷ behind → x ≡ letter_of b →
+    new ≡ mid ++ (x ∷ []) → new ++ map letter_of behind ≡ all
+letters_pushed left behind mid new all b x h e l n =
+    ap (λ z. z ++ map letter_of behind) (n ∙ ap (λ z. mid ++ (z ∷ [])) l) ∙ append_assoc mid (letter_of b ∷ []) (map letter_of behind)
+    ∙ ap (λ z. mid ++ map letter_of z) (sym e) ∙ h
 
--- a line that is begun ends in a row
+pub letters_ended : (left mid all : List ℕ) → mid ++ map letter_of left ≡ all → length left ≡ 0 → mid ≡ all
+letters_ended left mid all h e = sym (append-nil mid) ∙ ap (λ z. mid ++ map letter_of z) (sym (nil_from_length left e)) ∙ h
+
+blanks_by : (n left : ℕ) → left ≡ suc n → blanks left ≡ 32 ∷ 32 ∷ 32 ∷ blanks n
+blanks_by n left e = ap blanks e
+
+pub blanks_pushed : (left next : ℕ) (mid new all : List ℕ) → mid ++ blanks left ≡ all → left ≡ next + 1 → new ≡ mid ++ (32 ∷ 32 ∷ 32 ∷ []) →
+    new ++ blanks next ≡ all
+blanks_pushed left next mid new all h e n =
+    ap (λ z. z ++ blanks next) n ∙ append_assoc mid (32 ∷ 32 ∷ 32 ∷ []) (blanks next)
+    ∙ ap (λ z. mid ++ z) (sym (blanks_by next left (let s : left ≡ suc next = omega (arith, e) in s))) ∙ h
+
+pub blanks_ended : {T E : Type 0} (r : Result T E) (left : ℕ) (mid new all : List ℕ) → mid ++ blanks left ≡ all → left ≡ 0 →
+    new ≡ (if is_ok r then mid ++ (32 ∷ 32 ∷ []) else mid) → OnOk r (new ≡ all)
+blanks_ended (Ok x) left mid new all h e n = n ∙ ap (λ z. mid ++ blanks z) (sym e) ∙ h
+blanks_ended (Err x) left mid new all h e n = tt
+
+pub row_pushed : (a b c d e f g : List ℕ) (place short : ℕ) (row : List ℕ) → b ≡ a ++ place_text place → c ≡ b ++ (58 ∷ []) → d ≡ c ++ spaced row →
+    short ≡ 16 - length row → e ≡ d ++ blanks short → f ≡ e ++ map letter_of row → g ≡ f ++ (10 ∷ []) → g ≡ a ++ row_line place row
+row_pushed a b c d e f g place short row p q r m s t u =
+    let letters = map letter_of row in
+    let gap = blanks (16 - length row) in
+    let rest = gap ++ (letters ++ (10 ∷ [])) in
+    u ∙ ap (λ z. z ++ (10 ∷ [])) t ∙ append_assoc e letters (10 ∷ [])
+    ∙ ap (λ z. z ++ (letters ++ (10 ∷ []))) (s ∙ ap (λ z. d ++ blanks z) m) ∙ append_assoc d gap (letters ++ (10 ∷ []))
+    ∙ ap (λ z. z ++ rest) r ∙ append_assoc c (spaced row) rest
+    ∙ ap (λ z. z ++ (spaced row ++ rest)) q ∙ append_assoc b (58 ∷ []) (spaced row ++ rest)
+    ∙ ap (λ z. z ++ (58 ∷ (spaced row ++ rest))) p ∙ append_assoc a (place_text place) (58 ∷ (spaced row ++ rest))
+
+-- the last byte of a line ends it
+line_ends : (place : ℕ) (row : List ℕ) → (before : List ℕ) × (row_line place row ≡ before ++ (10 ∷ []))
+line_ends place row =
+    let letters = map letter_of row in
+    let gap = blanks (16 - length row) in (
+      place_text place ++ (58 ∷ (spaced row ++ (gap ++ letters))),
+      ap (λ z. place_text place ++ (58 ∷ (spaced row ++ z))) (sym (append_assoc gap letters (10 ∷ [])))
+          ∙ ap (λ z. place_text place ++ (58 ∷ z)) (sym (append_assoc (spaced row) (gap ++ letters) (10 ∷ [])))
+          ∙ sym (append_assoc (place_text place) (58 ∷ (spaced row ++ (gap ++ letters))) (10 ∷ [])),
+    )
+
 pub row_added : (a b c l : List ℕ) (place : ℕ) (row : List ℕ) → b ≡ a ++ l → c ≡ b ++ row_line place row → Adds a c
 row_added a b c l place row p q =
-    let begun = place_text place ++ (58 ∷ spaced row) in
+    let begun = line_ends place row in
     record {
       said = l ++ row_line place row;
       added = q ∙ ap (λ z. z ++ row_line place row) p ∙ append_assoc a l (row_line place row);
-      lines = (l ++ begun, ap (λ z. l ++ z) (sym (append_assoc (place_text place) (58 ∷ spaced row) (10 ∷ []))) ∙ sym (append_assoc l begun (10 ∷ [])));
+      lines = (l ++ begun.0, ap (λ z. l ++ z) begun.1 ∙ sym (append_assoc l begun.0 (10 ∷ [])));
     }
 
 rows_of : (n m place : ℕ) (bytes : List ℕ) → n ≡ suc m → rows n place bytes ≡ row_line place (take 16 bytes) ++ rows m (place + 16) (drop 16 bytes)

@@ -9,8 +9,6 @@ use Rattle.spa_format.specs.Pod.{AreMembers}
 use Rattle.spa_format.specs.Tree.{Tree, Trees, no_trees, member, join_members}
 use Rattle.spa_format.proofs.Refused.{refused_behind_members}
 use Rattle.spa_format.proofs.Sequences.{members_joined, members_push}
-use Rattle.spa_fixed_sized.specs.declared.fault.DeserializeError.{DeserializeError}
-use Rattle.spa_fixed_sized.specs.declared.fault.DeserializeError.TheVariants as error
 use Rattle.spa_text_commands.specs.Unread.{AddsTexts, IsNoFront, IsStopped}
 use Rattle.spa_text_commands.specs.Texts.{AreTexts, IsTextIn, Prints, RefusesPods}
 use Rattle.spa_text_commands.specs.declared.printing.Layout.{Layout}

@@ -8,14 +8,13 @@ use Rattle.spa_format.specs.Writable.{HasNul, IsTooLarge}
 use Rattle.std.proofs.Math.Seq.{take-append_seam}
 use Rattle.std.proofs.lemmas.List.{length-take-le, take-append-drop}
 use Rattle.spa_text_commands.specs.Extent.{BeginsText, column_behind, line_behind}
-use Rattle.spa_text_read.specs.Grammar.{IsTextOf}
-use Rattle.spa_text_commands.specs.Texts.{BeginTexts, HasNoPod, IsRefusedAt, IsTextFor, ReadsTexts, RefusesTexts, blank_line, nothing_read, one_text}
+use Rattle.spa_text_forms.specs.Forms.{IsTextFor}
+use Rattle.spa_text_commands.specs.Texts.{BeginTexts, HasNoPod, IsRefusedAt, ReadsTexts, RefusesTexts, blank_line, nothing_read, one_text}
 use Rattle.spa_text_commands.specs.Unread.{AddsText, IsFor, IsNoPod, IsNoText}
 use Rattle.spa_text_commands.specs.declared.answer.Failure.{Failure}
 use Rattle.spa_text_commands.specs.declared.answer.Failure.TheVariants.{NoPods, Line, OutOfMemory, WriteFailed}
 use Rattle.spa_text_commands.specs.declared.reading.Unread.{Unread}
 use Rattle.spa_text_commands.specs.declared.reading.Unread.TheVariants as unread
-use Rattle.spa_text_read.specs.Fitting.{Admits}
 use Rattle.spa_text_read.specs.declared.cause.Cause.{Cause}
 use Rattle.spa_text_read.specs.declared.cause.Cause.TheVariants as cause
 use Rattle.spa_text_read.specs.declared.fitting.Strictness.{Strictness}
@@ -135,14 +134,14 @@ pub no_encoding : (s : Strictness) (line : List ℕ) (v : Tree) → IsTextFor s 
 no_encoding s line v t h = inr (inr (v, t, h))
 
 -- a value that is the same one, and its text
-pub text_of : (s : Strictness) (v w : Tree) (text line : List ℕ) → w ≡ v → text ≡ line → IsTextOf v text → Admits s v → IsTextFor s w line
-text_of s v w text line e t h a = subst (IsTextFor s w) t (subst (λ u. IsTextFor s u text) (sym e) (h, a))
+pub text_of : (s : Strictness) (v w : Tree) (text line : List ℕ) → w ≡ v → text ≡ line → IsTextFor s v text → IsTextFor s w line
+text_of s v w text line e t h = subst (IsTextFor s w) t (subst (λ u. IsTextFor s u text) (sym e) h)
 
 -- a refusal that memory isn't the cause of
 pub is_for : (s : Strictness) (line : List ℕ) (u : Unread) → HasNoPod s line → IsFor u → IsNoPod s line u
 is_for s line unread.OutOfMemory h w = tt
 is_for s line (unread.For kind words offset path misfit) h w = h
 
-pub no_value : (s : Strictness) (line text : List ℕ) (c : Cause) → text ≡ line →
-    (c ≢ cause.OutOfMemory → (v : Tree) → IsTextOf v text → ¬ (Admits s v)) → c ≢ cause.OutOfMemory → HasNoPod s line
-no_value s line text c e h w = no_text s line (λ v t. h w v (subst (IsTextOf v) (sym e) t.0) t.1)
+pub no_value : (s : Strictness) (line text : List ℕ) (c : Cause) → text ≡ line → (c ≢ cause.OutOfMemory → (v : Tree) → ¬ (IsTextFor s v text)) →
+    c ≢ cause.OutOfMemory → HasNoPod s line
+no_value s line text c e h w = no_text s line (λ v t. h w v (subst (IsTextFor s v) (sym e) t))

@@ -1,7 +1,6 @@
--- The values of a name inside a pod, and pods that are selected.
+-- What is looked for inside a pod, and pods that are selected.
 use Rattle.std.proofs.Common.{◌≡◌, ◌≢◌, ◌≤◌, ◌<◌, ℕ, ◌+◌, ◌^◌, List, [], ◌∷◌, ◌++◌, add-one, refl, sym, inl, inr, arith, drop, drop-cons, get_or, length, ◌∙◌, ap, subst, length-drop, append_assoc, append-nil, Bool, true, false}
 use Rattle.std.specs.Prelude.{Result, Ok, Err, IfOk, IfNone, IfSome, OnOk, flat_map, if◌then◌else◌, Option, None, Some, is_some}
-use Rattle.std.specs.Borrow.{Bor}
 use Rattle.std.proofs.lemmas.List.{length-take-le, nil_from_length}
 use Rattle.hex.specs.Hex.{encode_lower}
 use Rattle.json.specs.Ascii.{quote}
@@ -15,7 +14,7 @@ use Rattle.spa_format.specs.Words.{extent, word_at}
 use Rattle.spa_format.proofs.WalkLemmas.{walk-end, walk-there}
 use Rattle.spa_text_commands.specs.Dump.{hex_lines}
 use Rattle.spa_text_commands.specs.Lines.{AddsPart, AddsParts, AddsPodLines, IsCounted}
-use Rattle.spa_text_commands.specs.Selection.{Part, first_part, holder_of, is_selected, is_value_of, part_of, parts_of, selected_of, value_at, values_in}
+use Rattle.spa_text_commands.specs.Selection.{Part, first_part, found_at, found_in, is_found, is_selected, looks_inside, part_of, parts_of, selected_of}
 use Rattle.spa_text_commands.specs.Unread.{AddsTexts}
 use Rattle.spa_text_commands.specs.declared.printing.Layout.{Layout}
 use Rattle.spa_text_commands.specs.declared.selection.Form.TheVariants as of
@@ -28,53 +27,52 @@ use Rattle.spa_text_commands.proofs.Saying.{SoFar, begins, ends, goes_on, none_a
 pub not_selected : (form : Form) (s : Selection) (count place : ℕ) (pod a : List ℕ) (is : Bool) → is ≡ is_selected s.nth count → is ≡ false →
     AddsParts form (selected_of s count place pod) a a 0
 not_selected form s count place pod a is e f =
-    subst (λ ps. AddsParts form ps a a 0) (sym (ap (λ b. if b then parts_of s.key count place pod else []) (sym e ∙ f))) (none_added form a)
+    subst (λ ps. AddsParts form ps a a 0) (sym (ap (λ b. if b then parts_of s count place pod else []) (sym e ∙ f))) (none_added form a)
 
-pub pod_selected : (form : Form) (s : Selection) (count place : ℕ) (pod a b : List ℕ) (is : Bool) {E : Type 0} (r : Result ℕ E) → is ≡ is_selected s.nth count →
-    is ≡ true → s.key ≡ None → IfOk r (AddsParts form (part_of count place pod ∷ []) a b) → IfOk r (AddsParts form (selected_of s count place pod) a b)
-pod_selected form s count place pod a b is r e t k h =
-    subst (λ ps. IfOk r (AddsParts form ps a b))
-    (sym (ap (λ b. if b then parts_of s.key count place pod else []) (sym e ∙ t) ∙ ap (λ key. parts_of key count place pod) k)) h
-
-pub values_selected : (form : Form) (s : Selection) (name : Bor (List ℕ)) (count place : ℕ) (pod a b : List ℕ) (is : Bool) {E : Type 0} (r : Result ℕ E) →
-    is ≡ is_selected s.nth count → is ≡ true → s.key ≡ Some name → IfOk r (AddsParts form (values_in name.now count place pod) a b) →
+pub pod_selected : (form : Form) (s : Selection) (count place : ℕ) (pod a b : List ℕ) (is inside : Bool) {E : Type 0} (r : Result ℕ E) →
+    is ≡ is_selected s.nth count → is ≡ true → inside ≡ looks_inside s → inside ≡ false → IfOk r (AddsParts form (part_of count place pod ∷ []) a b) →
     IfOk r (AddsParts form (selected_of s count place pod) a b)
-values_selected form s name count place pod a b is r e t k h =
+pod_selected form s count place pod a b is inside r e t i f h =
     subst (λ ps. IfOk r (AddsParts form ps a b))
-    (sym (ap (λ b. if b then parts_of s.key count place pod else []) (sym e ∙ t) ∙ ap (λ key. parts_of key count place pod) k)) h
+    (sym (ap (λ b. if b then parts_of s count place pod else []) (sym e ∙ t)
+    ∙ ap (λ b. if b then found_in s count place pod else part_of count place pod ∷ []) (sym i ∙ f))) h
 
--- ---- Values inside
+pub found_selected : (form : Form) (s : Selection) (count place : ℕ) (pod a b : List ℕ) (is inside : Bool) {E : Type 0} (r : Result ℕ E) →
+    is ≡ is_selected s.nth count → is ≡ true → inside ≡ looks_inside s → inside ≡ true → IfOk r (AddsParts form (found_in s count place pod) a b) →
+    IfOk r (AddsParts form (selected_of s count place pod) a b)
+found_selected form s count place pod a b is inside r e t i f h =
+    subst (λ ps. IfOk r (AddsParts form ps a b))
+    (sym (ap (λ b. if b then parts_of s count place pod else []) (sym e ∙ t)
+    ∙ ap (λ b. if b then found_in s count place pod else part_of count place pod ∷ []) (sym i ∙ f))) h
 
--- the pod of an event is no value of the name
-pub no_value : (form : Form) (name : List ℕ) (count place : ℕ) (pod a : List ℕ) (events : List Event) (event object : Event) (is : Bool) →
-    object ≡ holder_of events event → is ≡ is_value_of name pod object event.at → is ≡ false →
-    AddsParts form (value_at name count place pod events event) a a 0
-no_value form name count place pod a events event object is o e f =
+-- ---- What is inside
+
+-- the pod of an event isn't looked for
+pub not_found : (form : Form) (s : Selection) (count place : ℕ) (pod a : List ℕ) (events : List Event) (event : Event) (is : Bool) →
+    is ≡ is_found s.key s pod events event → is ≡ false → AddsParts form (found_at s count place pod events event) a a 0
+not_found form s count place pod a events event is e f =
     subst (λ ps. AddsParts form ps a a 0)
-    (sym (ap (λ t. if t then first_part count (place + event.at) (walk (drop event.at pod)) else [])
-    (ap (λ z. is_value_of name pod z event.at) (sym o) ∙ sym e ∙ f))) (none_added form a)
+    (sym (ap (λ t. if t then first_part count (place + event.at) (walk (drop event.at pod)) else []) (sym e ∙ f))) (none_added form a)
 
 no_part : (t : Bool) (count place : ℕ) → (if t then first_part count place [] else []) ≡ []
 no_part true count place = refl
 no_part false count place = refl
 
 -- nor where no pod is there
-pub none_there : (form : Form) (name : List ℕ) (count place : ℕ) (pod a : List ℕ) (events : List Event) (event : Event) → ¬ (HasFront (drop event.at pod)) →
-    AddsParts form (value_at name count place pod events event) a a 0
-none_there form name count place pod a events event absent =
+pub none_there : (form : Form) (s : Selection) (count place : ℕ) (pod a : List ℕ) (events : List Event) (event : Event) → ¬ (HasFront (drop event.at pod)) →
+    AddsParts form (found_at s count place pod events event) a a 0
+none_there form s count place pod a events event absent =
     subst (λ ps. AddsParts form ps a a 0)
-    (sym (ap (λ ws. if is_value_of name pod (holder_of events event) event.at then first_part count (place + event.at) ws else []) (walk-end (drop event.at pod) absent)
-    ∙ no_part (is_value_of name pod (holder_of events event) event.at) count (place + event.at))) (none_added form a)
+    (sym (ap (λ ws. if is_found s.key s pod events event then first_part count (place + event.at) ws else []) (walk-end (drop event.at pod) absent)
+    ∙ no_part (is_found s.key s pod events event) count (place + event.at))) (none_added form a)
 
-pub a_value : (form : Form) (name : List ℕ) (count place : ℕ) (pod value a b : List ℕ) (events : List Event) (event object : Event) (is : Bool) {E : Type 0}
-    (r : Result ℕ E) → object ≡ holder_of events event → is ≡ is_value_of name pod object event.at → is ≡ true → HasFront (drop event.at pod) →
-    value ≡ front_of (drop event.at pod) → IfOk r (AddsParts form (part_of count (place + event.at) value ∷ []) a b) →
-    IfOk r (AddsParts form (value_at name count place pod events event) a b)
-a_value form name count place pod value a b events event object is r o e t there v h =
+pub is_there : (form : Form) (s : Selection) (count place : ℕ) (pod value a b : List ℕ) (events : List Event) (event : Event) (is : Bool) {E : Type 0}
+    (r : Result ℕ E) → is ≡ is_found s.key s pod events event → is ≡ true → HasFront (drop event.at pod) → value ≡ front_of (drop event.at pod) →
+    IfOk r (AddsParts form (part_of count (place + event.at) value ∷ []) a b) → IfOk r (AddsParts form (found_at s count place pod events event) a b)
+is_there form s count place pod value a b events event is r e t there v h =
     subst (λ ps. IfOk r (AddsParts form ps a b))
     (ap (λ z. part_of count (place + event.at) z ∷ []) v
-    ∙ sym (ap (λ z. if z then first_part count (place + event.at) (walk (drop event.at pod)) else [])
-    (ap (λ z. is_value_of name pod z event.at) (sym o) ∙ sym e ∙ t)
+    ∙ sym (ap (λ z. if z then first_part count (place + event.at) (walk (drop event.at pod)) else []) (sym e ∙ t)
     ∙ ap (first_part count (place + event.at)) (walk-there (drop event.at pod) there))) h
 
 -- a value ends where the pod does that it is in
@@ -89,30 +87,30 @@ value_room place at pod value r there v =
     omega (arith, r, l, d, h, w, t)
 
 -- how far the loop over events is
-pub record ValuesSoFar (form : Form) (name : List ℕ) (count place : ℕ) (pod : List ℕ) (events left : List Event) (at : ℕ) (old new : List ℕ) (refused : ℕ) : Type 0 where
-  pub so : SoFar form (flat_map (value_at name count place pod events) events) (flat_map (value_at name count place pod events) left) old new refused
+pub record FoundSoFar (form : Form) (s : Selection) (count place : ℕ) (pod : List ℕ) (events left : List Event) (at : ℕ) (old new : List ℕ) (refused : ℕ) : Type 0 where
+  pub so : SoFar form (flat_map (found_at s count place pod events) events) (flat_map (found_at s count place pod events) left) old new refused
   pub few : refused ≤ at
 
-pub values_begin : (form : Form) (name : List ℕ) (count place : ℕ) (pod : List ℕ) (events : List Event) (a : List ℕ) →
-    ValuesSoFar form name count place pod events events 0 a a 0
-values_begin form name count place pod events a = record { so = begins form _ a; few = omega arith }
+pub found_begin : (form : Form) (s : Selection) (count place : ℕ) (pod : List ℕ) (events : List Event) (a : List ℕ) →
+    FoundSoFar form s count place pod events events 0 a a 0
+found_begin form s count place pod events a = record { so = begins form _ a; few = omega arith }
 
-pub value_done : (form : Form) (name : List ℕ) (count place : ℕ) (pod : List ℕ) (events left others : List Event) (event : Event) (at refused more : ℕ)
-    (a b c : List ℕ) → left ≡ event ∷ others → more ≤ 1 → AddsParts form (value_at name count place pod events event) b c more →
-    ValuesSoFar form name count place pod events left at a b refused → ValuesSoFar form name count place pod events others (at + 1) a c (refused + more)
-value_done form name count place pod events left others event at refused more a b c e one added so =
+pub found_done : (form : Form) (s : Selection) (count place : ℕ) (pod : List ℕ) (events left others : List Event) (event : Event) (at refused more : ℕ)
+    (a b c : List ℕ) → left ≡ event ∷ others → more ≤ 1 → AddsParts form (found_at s count place pod events event) b c more →
+    FoundSoFar form s count place pod events left at a b refused → FoundSoFar form s count place pod events others (at + 1) a c (refused + more)
+found_done form s count place pod events left others event at refused more a b c e one added so =
     let few = so.few in
     record {
-      so = goes_on form _ _ (value_at name count place pod events event) _ a b c refused more (ap (flat_map (value_at name count place pod events)) e) so.so added;
+      so = goes_on form _ _ (found_at s count place pod events event) _ a b c refused more (ap (flat_map (found_at s count place pod events)) e) so.so added;
       few = omega (arith, few, one);
     }
 
-pub values_end : (form : Form) (name : List ℕ) (count place : ℕ) (pod : List ℕ) (events left : List Event) (at : ℕ) (a b : List ℕ) (refused : ℕ) →
-    left ≡ [] → events ≡ events_of pod → ValuesSoFar form name count place pod events left at a b refused →
-    AddsParts form (values_in name count place pod) a b refused
-values_end form name count place pod events left at a b refused e is so =
-    subst (λ es. AddsParts form (flat_map (value_at name count place pod es) es) a b refused) is
-    (ends form _ _ a b refused (ap (flat_map (value_at name count place pod events)) e) so.so)
+pub found_end : (form : Form) (s : Selection) (count place : ℕ) (pod : List ℕ) (events left : List Event) (at : ℕ) (a b : List ℕ) (refused : ℕ) →
+    left ≡ [] → events ≡ events_of pod → FoundSoFar form s count place pod events left at a b refused →
+    AddsParts form (found_in s count place pod) a b refused
+found_end form s count place pod events left at a b refused e is so =
+    subst (λ es. AddsParts form (flat_map (found_at s count place pod es) es) a b refused) is
+    (ends form _ _ a b refused (ap (flat_map (found_at s count place pod events)) e) so.so)
 
 -- the next one of a list, and those behind it
 pub next_left : {X : Type 0} (xs : List X) (i : ℕ) (d : X) → i < length xs → drop i xs ≡ get_or xs i d ∷ drop (i + 1) xs

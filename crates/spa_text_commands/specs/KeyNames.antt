@@ -1,11 +1,16 @@
 -- Names that keys have: docs/TEXT.md, "A part of an input".
 use Rattle.std.specs.Prelude.{◌≡◌, ◌<◌, ◌≤◌, ◌+◌, ◌^◌, ◌&&◌, ◌||◌, ℕ, Bool, true, false, List, nat_le, nat_lt}
+use Rattle.std.specs.List.{All}
 use Rattle.spa_names.specs.Lookup.{keys_of}
-use Rattle.spa_text_commands.specs.Selection.{is_named}
+use Rattle.spa_text_commands.specs.Selection.{is_named, names_in}
 
 -- a key of objects of some type has this name, or this number
 abbrev pub HasKeyNamed : (name : List ℕ) → Type 0
 HasKeyNamed name = (type : ℕ) × (key : ℕ) × (key < 2 ^ 32) × (is_named (keys_of (record { 0 = type })) key name ≡ true)
+
+-- each of several names is so a key's
+abbrev pub HaveKeysNamed : (names : List ℕ) → Type 0
+HaveKeysNamed names = All HasKeyNamed (names_in names)
 
 -- Keys that have names are counted from these numbers on, and there are fewer than 32 from each. Only private clauses
 -- cite these.

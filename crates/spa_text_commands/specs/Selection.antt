@@ -1,8 +1,8 @@
 -- Which pods of an input are printed, and which values of them: docs/TEXT.md, "A part of an input".
-use Rattle.std.specs.Prelude.{◌+◌, ◌-◌, ◌==◌, ◌&&◌, ◌||◌, ℕ, Bool, true, false, List, [], ◌∷◌, ◌++◌, Option, None, Some, length, drop, flat_map, slice_index, slice_index_or, if◌then◌else◌, nat_eq, nat_le}
+use Rattle.std.specs.Prelude.{◌+◌, ◌-◌, ◌==◌, ◌&&◌, ◌||◌, ℕ, Bool, true, false, List, [], ◌∷◌, ◌++◌, Option, None, Some, is_some, length, drop, flat_map, slice_index, slice_index_or, if◌then◌else◌, nat_eq, nat_le}
 use Rattle.std.specs.Borrow.{Bor}
 use Rattle.std.specs.Fmt.{decimal}
-use Rattle.std.specs.List.{ends_with}
+use Rattle.std.specs.List.{ends_with, list_any, slice_split}
 use Rattle.std.specs.Option.{option_map_or}
 use Rattle.std.specs.Str.{bytes_eq}
 use Rattle.spa_format.specs.Tree.{object_type}
@@ -10,8 +10,9 @@ use Rattle.spa_events.specs.Events.{events_of}
 use Rattle.spa_events.specs.declared.event.Event.{Event}
 use Rattle.spa_format.specs.Walk.{walk}
 use Rattle.spa_format.specs.Words.{header_size, word_at}
-use Rattle.spa_names.specs.Lookup.{keys_of, path_of}
+use Rattle.spa_names.specs.Lookup.{ids_of, keys_of, path_of}
 use Rattle.spa_names.specs.declared.table.Table.{Table}
+use Rattle.spa_names.specs.declared.table.Table.TheVariants.{Types}
 use Rattle.spa_text_commands.specs.declared.selection.Selection.{Selection}
 
 -- the N-th top-level pod is selected by N, and each one without a number; so many stand before it
@@ -24,9 +25,47 @@ abbrev pub is_end_of : (path name : List ℕ) → Bool
 is_end_of path name =
     ends_with nat_eq path name && (length path == length name || slice_index path (length path - length name - 1) == 58)
 
--- a key has a name where that is PipeWire's name for it, an end of this, or the digits of its number
-abbrev pub is_named : Table → (key : ℕ) → (name : List ℕ) → Bool
-is_named keys key name = option_map_or (λ path. is_end_of path name) (path_of keys key) false || bytes_eq (decimal key) name
+-- a number of a table has a name where that is PipeWire's name for it, an end of this, or its digits
+abbrev pub is_named : Table → (number : ℕ) → (name : List ℕ) → Bool
+is_named table number name = option_map_or (λ path. is_end_of path name) (path_of table number) false || bytes_eq (decimal number) name
+
+-- several names stand between commas
+abbrev pub names_in : List ℕ → List (List ℕ)
+names_in names = slice_split (λ b. b == 44) names
+
+abbrev pub is_among : Table → (number : ℕ) → (names : List ℕ) → Bool
+is_among table number names = list_any (λ name. is_named table number name) (names_in names)
+
+-- a number has one of the names that are asked for, if some are
+abbrev pub is_asked : Option (Bor (List ℕ)) → Table → (number : ℕ) → Bool
+is_asked None table number = true
+is_asked (Some names) table number = is_among table number names.now
+
+-- the type of the object that begins at this byte, and its id, which stand behind its header
+abbrev pub type_at : (pod : List ℕ) → (at : ℕ) → ℕ
+type_at pod at = word_at pod (at + header_size)
+
+abbrev pub id_at : (pod : List ℕ) → (at : ℕ) → ℕ
+id_at pod at = word_at pod (at + header_size + 4)
+
+-- The event is of an object, whose type and id are there and have the names that are asked for.
+abbrev pub is_of : Selection → (pod : List ℕ) → Event → Bool
+is_of s pod object =
+    ((nat_eq object.type_ object_type && nat_le header_size object.size) && nat_le 16 (length pod - object.at))
+    && (is_asked s.type_ Types (type_at pod object.at) && is_asked s.id (ids_of (record { 0 = type_at pod object.at })) (id_at pod object.at))
+
+-- The pod at this byte stands in such an object, and has a key of these names before it, and flags.
+abbrev pub is_value_of : Selection → (names pod : List ℕ) → (object : Event) → (at : ℕ) → Bool
+is_value_of s names pod object at =
+    is_of s pod object
+    && ((nat_le header_size at && nat_le at (length pod)) && is_among (keys_of (record { 0 = type_at pod object.at })) (word_at pod (at - header_size)) names)
+
+-- the event of the pod that this one stands in; a top-level one stands in none
+abbrev pub no_event : Event
+no_event = record { type_ = 0; size = 0; depth = 0; at = 0; parent = 0 }
+
+abbrev pub holder_of : List Event → Event → Event
+holder_of events event = slice_index_or events event.parent no_event
 
 -- a pod that is printed: how many top-level pods stand before it, or before the object that it is in; the byte where it begins; its bytes
 pub record Part : Type 0 where
@@ -37,41 +76,34 @@ pub record Part : Type 0 where
 abbrev pub part_of : (count place : ℕ) → (pod : List ℕ) → Part
 part_of count place pod = record { count = count; place = place; pod = pod }
 
--- The pod at this byte of another one stands in this object there, and has a key of this name before it. Between the fronts of the two there are at
--- least a header, a type and an id, and a key and flags, which are 24 bytes.
-abbrev pub is_value_of : (name pod : List ℕ) → (object : Event) → (at : ℕ) → Bool
-is_value_of name pod object at =
-    (((nat_eq object.type_ object_type && nat_le at (length pod)) && nat_le 24 at) && nat_le object.at (at - 24))
-    && is_named (keys_of (record { 0 = word_at pod (object.at + header_size) })) (word_at pod (at - header_size)) name
-
--- the event of the pod that this one stands in; a top-level one stands in none
-abbrev pub no_event : Event
-no_event = record { type_ = 0; size = 0; depth = 0; at = 0; parent = 0 }
-
-abbrev pub holder_of : List Event → Event → Event
-holder_of events event = slice_index_or events event.parent no_event
-
 -- the pod that begins at this byte, where a whole one does
 abbrev pub first_part : (count place : ℕ) → List (List ℕ) → List Part
 first_part count place [] = []
 first_part count place (p ∷ ps) = part_of count place p ∷ []
 
--- the pod of an event, where it is a value of this name
-abbrev pub value_at : (name : List ℕ) → (count place : ℕ) → (pod : List ℕ) → List Event → Event → List Part
-value_at name count place pod events event =
-    if is_value_of name pod (holder_of events event) event.at then first_part count (place + event.at) (walk (drop event.at pod)) else []
+-- what is looked for: the values under keys, or without one the objects themselves
+abbrev pub is_found : Option (Bor (List ℕ)) → Selection → (pod : List ℕ) → List Event → Event → Bool
+is_found None s pod events event = is_of s pod event
+is_found (Some names) s pod events event = is_value_of s names.now pod (holder_of events event) event.at
 
--- the values of this name in all objects of a pod, at any depth of structs and objects, in the order in which they stand
-abbrev pub values_in : (name : List ℕ) → (count place : ℕ) → (pod : List ℕ) → List Part
-values_in name count place pod = flat_map (value_at name count place pod (events_of pod)) (events_of pod)
+-- the pod of an event, where it is looked for
+abbrev pub found_at : Selection → (count place : ℕ) → (pod : List ℕ) → List Event → Event → List Part
+found_at s count place pod events event =
+    if is_found s.key s pod events event then first_part count (place + event.at) (walk (drop event.at pod)) else []
 
--- what is printed of a top-level pod, which so many pods and bytes stand before: itself, or the values of a name; nothing where it isn't selected
-abbrev pub parts_of : Option (Bor (List ℕ)) → (count place : ℕ) → (pod : List ℕ) → List Part
-parts_of None count place pod = part_of count place pod ∷ []
-parts_of (Some name) count place pod = values_in name.now count place pod
+-- what is looked for in a pod, at any depth of structs and objects, in the order in which it stands
+abbrev pub found_in : Selection → (count place : ℕ) → (pod : List ℕ) → List Part
+found_in s count place pod = flat_map (found_at s count place pod (events_of pod)) (events_of pod)
+
+-- what is printed of a top-level pod, which so many pods and bytes stand before: itself, or what is looked for in it; nothing where it isn't selected
+abbrev pub looks_inside : Selection → Bool
+looks_inside s = is_some s.key || (is_some s.type_ || is_some s.id)
+
+abbrev pub parts_of : Selection → (count place : ℕ) → (pod : List ℕ) → List Part
+parts_of s count place pod = if looks_inside s then found_in s count place pod else part_of count place pod ∷ []
 
 abbrev pub selected_of : Selection → (count place : ℕ) → (pod : List ℕ) → List Part
-selected_of s count place pod = if is_selected s.nth count then parts_of s.key count place pod else []
+selected_of s count place pod = if is_selected s.nth count then parts_of s count place pod else []
 
 -- what is printed of these top-level pods
 abbrev pub selected : Selection → (count place : ℕ) → List (List ℕ) → List Part

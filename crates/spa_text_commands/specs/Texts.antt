@@ -10,21 +10,17 @@ use Rattle.spa_format.specs.Encoding.{member_encodings}
 use Rattle.spa_format.specs.Front.{IsRefused}
 use Rattle.spa_format.specs.Writable.{HasNul, IsTooLarge}
 use Rattle.spa_rewrite.specs.Rewriting.{IsLeft}
-use Rattle.spa_text_read.specs.Fitting.{Admits}
 use Rattle.spa_text_read.specs.Grammar.{IsTextOf}
 use Rattle.spa_text_read.specs.declared.fitting.Strictness.{Strictness}
 use Rattle.spa_text.specs.Line.{HasNoEnd}
+use Rattle.spa_text_forms.specs.Forms.{IsTextFor}
 use Rattle.spa_text_commands.specs.Extent.{BeginsText, column_behind, line_behind}
 use Rattle.spa_text_commands.specs.declared.answer.Failure.{Failure}
 use Rattle.spa_text_commands.specs.declared.answer.Failure.TheVariants.{NoPods, Line, OutOfMemory}
 use Rattle.spa_text_commands.specs.declared.printing.Layout.{Layout}
 use Rattle.spa_text_commands.specs.declared.printing.Layout.TheVariants.{OneLine, Indented}
 
--- the text is one of this value, which a reader of this strictness takes
-abbrev pub IsTextFor : Strictness → Tree → List ℕ → Type 0
-IsTextFor strictness v text = IsTextOf v text × Admits strictness v
-
--- it is such a text on one line, or with each member and each property on one of its own
+-- the text is one of this value on one line, or with each member and each property on one of its own
 abbrev pub IsTextIn : Layout → Tree → List ℕ → Type 0
 IsTextIn OneLine v text = IsTextOf v text × HasNoEnd text
 IsTextIn Indented v text = IsTextOf v text × (text ≡ pretty (tokens text))

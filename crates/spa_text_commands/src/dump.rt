@@ -1,7 +1,8 @@
-//! Bytes in hex, sixteen to a line.
-ghost use Rattle.std.specs.Prelude.{◌≡◌, ◌+◌, ◌<◌, ◌^◌, ◌∷◌, ◌++◌, [], OnOk, length};
+//! Bytes in hex, sixteen to a line, with their letters.
+ghost use Rattle.std.specs.Prelude.{◌≡◌, ◌+◌, ◌<◌, ◌^◌, ◌∷◌, ◌++◌, [], OnOk, length, map};
 ghost use Rattle.hex.specs.Hex.{encode_lower};
-ghost use Rattle.spa_text_commands.specs.Dump.{hex_lines, place_text, row_line, spaced};
+ghost use Rattle.spa_text_commands.specs.Dump as spec;
+ghost use Rattle.spa_text_commands.specs.Dump.{blanks, hex_lines, place_text, row_line, spaced};
 
 use std::alloc::AllocError;
 
@@ -37,6 +38,8 @@ pub(crate) fn add_row(lines: &mut Vec<u8>, place: usize, row: &[u8]) -> Result<(
     add_place(lines, place)?;
     lines.push(b':')?;
     add_spaced(lines, row)?;
+    add_blanks(lines, ROW_LEN.saturating_sub(row.len()))?;
+    add_letters(lines, row)?;
     lines.push(b'\n')?;
     Ok(())
 }
@@ -62,6 +65,41 @@ fn add_spaced(lines: &mut Vec<u8>, bytes: &[u8]) -> Result<(), AllocError>
         left = behind;
     }
     Ok(())
+}
+
+/// Adds blanks for so many bytes that a line has too few, and two more.
+fn add_blanks(lines: &mut Vec<u8>, missing: usize) -> Result<(), AllocError>
+    ensures { OnOk result (lines.new.items ≡ lines.old.items ++ blanks missing) }
+{
+    let mut left = missing;
+    while left > 0 {
+        lines.extend_from_slice(b"   ")?;
+        left -= 1;
+    }
+    lines.extend_from_slice(b"  ")
+}
+
+/// Adds the letters of these bytes.
+fn add_letters(lines: &mut Vec<u8>, bytes: &[u8]) -> Result<(), AllocError>
+    ensures { OnOk result (lines.new.items ≡ lines.old.items ++ map spec.letter_of bytes.now) }
+{
+    let mut left = bytes;
+    while let Some((byte, behind)) = left.split_first() {
+        lines.push(letter_of(*byte))?;
+        left = behind;
+    }
+    Ok(())
+}
+
+/// A byte's letter where it is one of ASCII or a blank, else a dot.
+fn letter_of(byte: u8) -> u8
+    ensures { result ≡ spec.letter_of byte }
+{
+    if b' ' <= byte && byte <= b'~' {
+        byte
+    } else {
+        b'.'
+    }
 }
 
 /// Adds these bytes in hex.

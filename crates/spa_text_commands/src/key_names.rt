@@ -1,7 +1,7 @@
 //! Names that keys have.
 ghost use Rattle.std.specs.Prelude.{◌≡◌, ◌≢◌, ◌<◌, ◌≤◌, ◌^◌, ◌+◌, ℕ, false, true};
 ghost use Rattle.std.specs.Fmt.{decimal};
-ghost use Rattle.spa_text_commands.specs.KeyNames.{HasKeyNamed, HasNoKeyNamed, is_counted};
+ghost use Rattle.spa_text_commands.specs.KeyNames.{HasKeyNamed, HasNoKeyNamed, HaveKeysNamed, is_counted};
 ghost use Rattle.spa_text_commands.specs.Selection as spec;
 
 use crate::selection::is_named;
@@ -9,8 +9,21 @@ use itoa::Buffer;
 use spa_names::{Table, keys_of, types};
 use spa_utils::SpaTypes;
 
+/// Whether each of these names, which stand between commas, is that of a key.
+pub fn are_key_names(names: &str) -> bool
+    ensures named { result ≡ true → HaveKeysNamed names.now }
+    ensures other { result ≡ false → ¬ (HaveKeysNamed names.now) }
+{
+    for name in names.split(',') {
+        if !is_key_name(name) {
+            return false;
+        }
+    }
+    true
+}
+
 /// Whether a key of objects of some type has this name, or this is a key's number.
-pub fn is_key_name(name: &str) -> bool
+pub(crate) fn is_key_name(name: &str) -> bool
     ensures named { result ≡ true → HasKeyNamed name.now }
     ensures other { result ≡ false → ¬ (HasKeyNamed name.now) }
 {

@@ -1,6 +1,7 @@
 //! Pods as text: printed, read, shown with names, and compared by their texts.
 #![tactic(auto)]
 
+mod aligning;
 pub mod answer;
 pub mod comparing;
 mod dump;
@@ -15,6 +16,7 @@ pub mod output;
 mod page;
 mod parts;
 pub mod printing;
+mod properties;
 pub mod reading;
 pub mod selection;
 pub mod showing;

@@ -10,7 +10,7 @@ ghost use Rattle.spa_text_commands.specs.Unread.{AddsTexts};
 ghost use Rattle.spa_view.specs.View.{pod_bytes};
 
 use crate::dump::{add_hex, add_rows};
-use crate::inner_values::add_values;
+use crate::inner_values::add_found;
 use crate::inside::{Inside, Item, Label};
 use crate::lines::{put_indent, put_label, put_refusal, put_rest, put_value};
 use crate::message::{head_of, put_head};
@@ -60,19 +60,19 @@ pub(crate) fn add_selected(
     if !printout.selection.has_pod(count) {
         return Ok(0);
     }
-    match printout.selection.key {
-        Some(name) => add_values(alloc, page, printout.form, name, pod, count, place),
-        None => add_part(
-            alloc,
-            page,
-            printout.form,
-            pod,
-            Table::Nothing,
-            count,
-            place,
-            pod,
-        ),
+    if printout.selection.looks_inside() {
+        return add_found(alloc, page, printout, pod, count, place);
     }
+    add_part(
+        alloc,
+        page,
+        printout.form,
+        pod,
+        Table::Nothing,
+        count,
+        place,
+        pod,
+    )
 }
 
 /// Adds what is printed of a pod, which so many pods and bytes of the input stand before, where ids have these names and which is in this top-level

@@ -2,10 +2,11 @@
 ghost use Rattle.std.specs.Prelude.{◌≡◌, ◌≢◌, ◌+◌, ◌<◌, ◌^◌, ◌++◌, [], IfErr, IfOk, IfSome, OnOk, length};
 ghost use Rattle.spa_text_commands.specs.Extent.{BeginsText};
 ghost use Rattle.spa_text_commands.specs.Texts as spec;
-ghost use Rattle.spa_text_commands.specs.Texts.{IsTextFor, ReadsTexts, RefusesTexts};
+ghost use Rattle.spa_text_commands.specs.Texts.{ReadsTexts, RefusesTexts};
 ghost use Rattle.spa_text_commands.specs.Unread.{AddsText, IsFor, IsNoPod, IsNoText};
 ghost use Rattle.spa_format.specs.Encoding.{encoding_of};
 ghost use Rattle.spa_format.specs.Tree.{Tree};
+ghost use Rattle.spa_text_forms.specs.Forms.{IsTextFor};
 ghost use Rattle.spa_text_read.specs.declared.cause.Cause as Cause;
 ghost use Rattle.spa_text_read.specs.declared.fitting.Strictness.{Strictness as StrictnessOf};
 
@@ -13,7 +14,8 @@ use crate::answer::Failure;
 use crate::extent::{position_behind, split_text};
 use crate::strings::behind_string;
 use spa_sink::GenError;
-use spa_text::{Cause, Misfit, Strictness, TextReader};
+use spa_text::{Cause, Misfit, Strictness};
+use spa_text_forms::FreeReader;
 use spa_value::Held;
 use spa_write::write_sized;
 use std::alloc::Global;
@@ -38,7 +40,7 @@ pub fn read_all(alloc: Global, strictness: Strictness, bytes: &[u8]) -> Result<V
     ensures read { IfOk result (λ pods. ReadsTexts strictness bytes.now pods.items) }
     ensures refused { IfErr result (RefusesTexts strictness bytes.now) }
 {
-    let mut reader = TextReader::new(alloc);
+    let mut reader = FreeReader::new(alloc);
     let mut pods = Vec::new(alloc);
     let mut left = bytes;
     while !left.is_empty() {
@@ -134,7 +136,7 @@ fn failure_at(why: Unread, text: &[u8], first: usize) -> Failure
 /// Adds the pod of the value of which these bytes are a text; of a blank line nothing.
 fn add_text(
     alloc: Global,
-    reader: &mut TextReader,
+    reader: &mut FreeReader,
     strictness: Strictness,
     bytes: &[u8],
     pods: &mut Vec<u8>,
@@ -163,7 +165,7 @@ fn is_blank(text: &[u8]) -> bool
 /// Adds the pod of the value of which these bytes are a text.
 fn add_pod(
     alloc: Global,
-    reader: &mut TextReader,
+    reader: &mut FreeReader,
     strictness: Strictness,
     bytes: &[u8],
     pods: &mut Vec<u8>,
@@ -180,7 +182,7 @@ fn add_pod(
             return Err(unread_at(alloc, "Text", words, error.valid_up_to()));
         }
     };
-    let value = match reader.read_with(text, strictness) {
+    let value = match reader.read(text, strictness) {
         Ok(value) => Held::from(value),
         Err(error) => {
             let Some(kind) = kind_of(error.cause) else {

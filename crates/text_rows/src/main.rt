@@ -6,6 +6,7 @@ use spa_names::laws::{names_come_back, numbers_are_named};
 use spa_names::{expected_under, ids_of, keys_of, name_of, number_of, path_of};
 use spa_text::laws::{print_pretty_then_read, print_then_read};
 use spa_text::{Cause, Strictness, TextError, TextReader, print, print_pretty};
+use spa_text_forms::FreeReader;
 use spa_utils::SpaTypes;
 use spa_value::{Held, Value, same};
 use std::alloc::{AllocError, Global};
@@ -63,17 +64,24 @@ fn number_in(word: Option<&str>) -> u32 {
 /// Adds what the text is read as, if it is.
 fn answer_text(alloc: Global, word: &str, text: &str, answers: &mut Vec<u8>) -> io::Result<()> {
     let text = text.replace(alloc, "⏎", "\n")?;
-    let mut reader = TextReader::new(alloc);
-    match reader.read_with(text.as_str(), strictness_of(word)) {
+    match read(alloc, word, text.as_str()) {
         Ok(value) => answer_value(alloc, word, &Held::from(value), answers),
         Err(error) => answer_refusal(word, &error, answers),
+    }
+}
+
+/// Reads the text of a row with this word: as it stands, or in any order.
+fn read(alloc: Global, word: &str, text: &str) -> Result<Value, TextError> {
+    match word {
+        "any" | "any.loose" => FreeReader::new(alloc).read(text, strictness_of(word)),
+        _ => TextReader::new(alloc).read_with(text, strictness_of(word)),
     }
 }
 
 /// How strictly the text of a row with this word is read.
 fn strictness_of(word: &str) -> Strictness {
     match word {
-        "strict" => Strictness::Strict,
+        "strict" | "any" => Strictness::Strict,
         _ => Strictness::Plain,
     }
 }
@@ -85,7 +93,7 @@ fn answer_value(alloc: Global, word: &str, value: &Value, answers: &mut Vec<u8>)
             write!(answers, "{value:?}")?;
             print_then_read(alloc, value)?
         }
-        "line" => {
+        "line" | "any" | "any.loose" => {
             print(alloc, value, answers)?;
             print_then_read(alloc, value)?
         }
@@ -114,7 +122,7 @@ fn answer_refusal(word: &str, error: &TextError, answers: &mut Vec<u8>) -> io::R
     match word {
         _ if *cause == Cause::OutOfMemory => Err(io::Error::from(AllocError)),
         "cause" => write!(answers, "{cause:?}"),
-        "strict" => write!(answers, "{error}"),
+        "strict" | "any" | "any.loose" => write!(answers, "{error}"),
         "place" => write!(answers, "{line}:{column}:{path}"),
         _ => answers.write_all(b"refused"),
     }

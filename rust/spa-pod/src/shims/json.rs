@@ -235,6 +235,75 @@ impl<'a> Reader<'a> {
     }
 }
 
+/// Why a text is no value.
+#[derive(Clone, Copy, Debug, PartialEq, Eq)]
+pub enum Error {
+    Invalid,
+    OutOfMemory,
+}
+
+impl From<AllocError> for Error {
+    fn from(_: AllocError) -> Error {
+        Error::OutOfMemory
+    }
+}
+
+/// How deep the arrays and the objects of a value nest at most.
+const MAX_DEPTH: usize = 128;
+
+/// The value that a text is. An object has its members in their order, also those under one key.
+#[derive(Debug)]
+pub enum Value<'a> {
+    Null,
+    Bool(bool),
+    Number(&'a str),
+    String(&'a str),
+    Array(Vec<Value<'a>>),
+    Object(Vec<(&'a str, Value<'a>)>),
+}
+
+impl<'a> Value<'a> {
+    pub fn parse(text: &'a str, room: &'a mut Scratch) -> Result<Value<'a>, Error> {
+        let mut reader = Reader::new(text, room)?;
+        let first = reader.next();
+        let value = Value::beginning(first, &mut reader, MAX_DEPTH)?;
+        if reader.next().is_some() { Err(Error::Invalid) } else { Ok(value) }
+    }
+
+    /// The value that begins with this token.
+    fn beginning(first: Option<Token<'a>>, reader: &mut Reader<'a>, depth: usize) -> Result<Value<'a>, Error> {
+        match (first, depth.checked_sub(1)) {
+            (Some(Token::Null), _) => Ok(Value::Null),
+            (Some(Token::Bool(flag)), _) => Ok(Value::Bool(flag)),
+            (Some(Token::Number(text)), _) => Ok(Value::Number(text)),
+            (Some(Token::String(text)), _) => Ok(Value::String(text)),
+            (Some(Token::BeginArray), Some(depth)) => {
+                let mut items = Vec::new();
+                loop {
+                    match reader.next() {
+                        Some(Token::EndArray) => return Ok(Value::Array(items)),
+                        first => items.try_push(Value::beginning(first, reader, depth)?).map_err(AllocError::from)?,
+                    }
+                }
+            }
+            (Some(Token::BeginObject), Some(depth)) => {
+                let mut members = Vec::new();
+                loop {
+                    match reader.next() {
+                        Some(Token::EndObject) => return Ok(Value::Object(members)),
+                        Some(Token::Key(key)) => {
+                            let first = reader.next();
+                            members.try_push((key, Value::beginning(first, reader, depth)?)).map_err(AllocError::from)?;
+                        }
+                        _ => return Err(Error::Invalid),
+                    }
+                }
+            }
+            _ => Err(Error::Invalid),
+        }
+    }
+}
+
 /// Writes tokens without blanks between them, or as `jq` does: each member and each property on a line of its own.
 pub struct Tokens<const ON_LINES: bool> {
     out: Vec<u8>,
@@ -344,6 +413,7 @@ impl<const ON_LINES: bool> Tokens<ON_LINES> {
         end_array() token(Token::EndArray);
         key(text: &str) token(Token::Key(text));
         string(text: &str) token(Token::String(text));
+        number(text: &str) token(Token::Number(text));
         u64(number: u64) integer("", number);
         i64(number: i64) integer(if number < 0 { "-" } else { "" }, number.unsigned_abs());
         float(number: impl Number) token(Token::Number(Buffer::new().format(number)));

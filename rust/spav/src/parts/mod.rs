@@ -2,8 +2,8 @@
 //! The proved crates, a module each.
 // The text follows its proofs. What lints say of style goes unheeded; those of correctness stand.
 #![allow(unused_imports, unused_variables, dead_code, non_upper_case_globals, missing_docs)]
-// The proved text also drops what has nothing to drop in Rust, and makes empty arrays of what a call gives.
-#![allow(clippy::style, clippy::complexity, clippy::perf, clippy::drop_non_drop, clippy::zero_repeat_side_effects)]
+// The proved text also drops what has nothing to drop in Rust, makes empty arrays of what a call gives, and writes matches out.
+#![allow(clippy::style, clippy::complexity, clippy::perf, clippy::drop_non_drop, clippy::zero_repeat_side_effects, clippy::manual_unwrap_or_default)]
 // Values whose `==` was proved are equal exactly where all fields are, so that a derived Hash is theirs.
 #![allow(clippy::pedantic, clippy::derived_hash_with_manual_eq)]
 

@@ -6,5 +6,5 @@ use Rattle.pod_commands.proofs.command.over_pods.Goals as goal
 
 pub returns-clause-app : goal.returns-clause-app
 returns-clause-app c =
-    subst (λ app. IfOk c.with_flag-2.result (λ it. app_of it ≡ with_rule app (flag (codes "keep-going")))) c.in_ok-with_lenient.ensures.app
-    c.with_flag-2.ensures.app
+    subst (λ app. IfOk c.with_flag.result (λ it. app_of it ≡ with_rule app (flag (codes "keep-going")))) c.in_ok-with_lenient.ensures.app
+    c.with_flag.ensures.app

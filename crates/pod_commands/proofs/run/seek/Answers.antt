@@ -10,7 +10,7 @@ returns-in-len1 g c =
     let d : Bor (List ℕ) = record { ref_ptr = (0, 0); now = [] } in
     let o = outlet c.args.target (g.W.Write.contents c.args.device) (g.W.Write.contents c.answered.result.1) (g.S.Files.holds c.args.files.now)
     (g.S.Files.holds c.answered.new.files) in
-    subst (λ ns. IsAgreed c.args.work c.answered.result.0 (g.R.Read.remaining c.args.input.now) ns o)
+    subst (λ ns. IsAgreed c.args.work c.args.reading c.answered.result.0 (g.R.Read.remaining c.args.input.now) ns o)
     (sym (one_name c.args.names.now d (omega arith)))
     (answers c.agree-made.result (λ v. v.items) _ _ o c.answered.result.0 c.agree-made.ensures.made c.agree-made.ensures.refused
     c.answered.ensures.made c.answered.ensures.refused)
@@ -20,7 +20,7 @@ returns-in-len2 g c =
     let d : Bor (List ℕ) = record { ref_ptr = (0, 0); now = [] } in
     let o = outlet c.args.target (g.W.Write.contents c.args.device) (g.W.Write.contents c.answered-in-len2.result.1)
     (g.S.Files.holds c.args.files.now) (g.S.Files.holds c.answered-in-len2.new.files) in
-    subst (λ ns. IsAgreed c.args.work c.answered-in-len2.result.0 (g.R.Read.remaining c.args.input.now) ns o)
+    subst (λ ns. IsAgreed c.args.work c.args.reading c.answered-in-len2.result.0 (g.R.Read.remaining c.args.input.now) ns o)
     (sym (two_names c.args.names.now d (omega arith)))
     (answers c.agree_of_lists-made.result (λ v. v.items) _ _ o c.answered-in-len2.result.0 c.agree_of_lists-made.ensures.made
     c.agree_of_lists-made.ensures.refused c.answered-in-len2.ensures.made c.answered-in-len2.ensures.refused)

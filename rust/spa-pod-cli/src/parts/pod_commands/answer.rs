@@ -3,6 +3,7 @@
 
 use spa_pod::shims::prelude::*;
 use crate::parts::pod_commands::misuse::Misuse;
+use crate::parts::pod_commands::plain::Plain;
 use crate::shims::clap::Error;
 use crate::parts::spa_refusals::{NamedRefusal, Refusal};
 use spa_pod::shims::memory::AllocError;
@@ -67,33 +68,47 @@ pub enum Failure<'a> {
 }
 
 /// What is said of an input's name.
-fn shown_name<'a>(name: &'a str) -> &'a str {
-    if name == "-" {
-        return "standard input";
+#[derive(Clone, Copy)]
+struct Name<'a>(&'a str);
+
+impl fmt::Display for Name<'_> {
+    fn fmt(&self, f: &mut fmt::Formatter<'_>) -> fmt::Result {
+        if self.0 == "-" {
+            return f.write_str("standard input");
+        }
+        let name = Plain(self.0);
+        write!(f, "{name}")
     }
-    name
 }
 
 /// What is said of the file that is written.
-fn shown_target<'a>(target: Option<&'a str>) -> &'a str {
-    match target {
-        Some(name) => name,
-        None => "standard output",
+#[derive(Clone, Copy)]
+struct Target<'a>(Option<&'a str>);
+
+impl fmt::Display for Target<'_> {
+    fn fmt(&self, f: &mut fmt::Formatter<'_>) -> fmt::Result {
+        match self.0 {
+            Some(name) => {
+                let name = Plain(name);
+                write!(f, "{name}")
+            }
+            None => f.write_str("standard output"),
+        }
     }
 }
 
 impl fmt::Display for Failure<'_> {
     fn fmt(&self, f: &mut fmt::Formatter<'_>) -> fmt::Result {
         match self {
-            Failure::Pods(name, why) => write!(f, "{}: {why}", shown_name(*name)),
-            Failure::Texts(name, why) => write!(f, "{}: {why}", shown_name(*name)),
-            Failure::Pair(name, why) => write!(f, "{}: {why}", shown_name(*name)),
+            Failure::Pods(name, why) => write!(f, "{}: {why}", Name(*name)),
+            Failure::Texts(name, why) => write!(f, "{}: {why}", Name(*name)),
+            Failure::Pair(name, why) => write!(f, "{}: {why}", Name(*name)),
             Failure::Lists(ours, theirs, why) => {
-                write!(f, "{}, {}: {why}", shown_name(*ours), shown_name(*theirs))
+                write!(f, "{}, {}: {why}", Name(*ours), Name(*theirs))
             }
             Failure::OutOfMemory => write!(f, "out of memory"),
-            Failure::Unread(name, why) => write!(f, "{}: {why}", shown_name(*name)),
-            Failure::Unwritten(target) => write!(f, "{}: write failed", shown_target(*target)),
+            Failure::Unread(name, why) => write!(f, "{}: {why}", Name(*name)),
+            Failure::Unwritten(target) => write!(f, "{}: write failed", Target(*target)),
         }
     }
 }
@@ -150,7 +165,7 @@ pub fn report_missing<E: Write>(faults: &mut E, name: &str) -> io::Result<()> {
 
 /// Writes the line of a refused pod.
 fn report_pod<E: Write>(faults: &mut E, pod: &NamedRefusal<'_>) -> io::Result<()> {
-    writeln!(faults, "pod: {}: {}", shown_name(pod.name), pod.refusal)
+    writeln!(faults, "pod: {}: {}", Name(pod.name), pod.refusal)
 }
 
 /// Writes the line of a wrong command line.

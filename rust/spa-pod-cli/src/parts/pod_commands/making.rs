@@ -5,24 +5,25 @@ use spa_pod::shims::prelude::*;
 use crate::parts::pod_commands::answer::Failure;
 use crate::parts::pod_commands::colours::in_colours;
 use crate::parts::pod_commands::files::{Files, read_named};
+use crate::parts::pod_commands::reading::read_leniently;
 use crate::parts::pod_commands::refusing::refused;
-use crate::parts::pod_commands::request::{Making, Style};
+use crate::parts::pod_commands::request::{Making, Printing, Style};
 use crate::parts::pod_commands::streaming::check_all;
 use spa_pod::parts::spa_in_place::rewrite_in_place;
-use spa_pod::parts::spa_lenient::rewrite_all_leniently;
 use crate::parts::spa_pod_commands::making::{check, fixated};
 use crate::parts::spa_recordings::going_on::{Made, Maker, Manner, make_each};
 use crate::parts::spa_recordings::reading::Reading;
 use crate::parts::spa_refusals::{NamedRefusal, add_refusals};
 use crate::parts::spa_text_commands::printing::print_all;
 use crate::parts::spa_text_commands::reading::read_all;
+use crate::parts::spa_text_commands::showing::show_pods;
 use spa_pod::shims::memory::AllocError;
 use std::io::Read;
 
 /// What is made of each of the inputs of these names, read so, one behind another. Inputs that are read exactly and
 /// checked are held block by block, and else whole.
 pub(crate) fn make_all<'a, R: Read, S: Files>(
-    making: Making,
+    making: Making<'_>,
     reading: Reading,
     names: &[&'a str],
     input: &mut R,
@@ -45,7 +46,7 @@ pub(crate) fn make_all<'a, R: Read, S: Files>(
 
 /// What is made of these bytes, which are those of the input of this name, read so.
 fn make_read<'a>(
-    making: Making,
+    making: Making<'_>,
     reading: Reading,
     name: &'a str,
     bytes: Vec<u8>,
@@ -58,14 +59,14 @@ fn make_read<'a>(
 
 /// What is made of the values that these bytes convey.
 fn make_leniently<'a>(
-    making: Making,
+    making: Making<'_>,
     name: &'a str,
     bytes: Vec<u8>,
 ) -> Result<Vec<u8>, Failure<'a>> {
-    let mut pods = Vec::new();
-    if rewrite_all_leniently(bytes.as_slice(), &mut pods).is_err() {
-        return Err(refused(Reading::Lenient, name, bytes.as_slice()));
-    }
+    let pods = match read_leniently(name, bytes.as_slice()) {
+        Ok(pods) => pods,
+        Err(why) => return Err(why),
+    };
     // What was read is refused for lack of memory alone.
     match make(making, name, pods) {
         Ok(made) => Ok(made),
@@ -75,7 +76,7 @@ fn make_leniently<'a>(
 
 /// What is made of these bytes, which are those of the input of this name.
 fn make<'a>(
-    making: Making,
+    making: Making<'_>,
     name: &'a str,
     bytes: Vec<u8>,
 ) -> Result<Vec<u8>, Failure<'a>> {
@@ -87,6 +88,7 @@ fn make<'a>(
         },
         Making::Rewrite => rewrite(name, bytes),
         Making::Fixate => fixate(name, bytes),
+        Making::Print(printing) => print_parts(printing, name, bytes.as_slice()),
         Making::Check => match check(bytes.as_slice()) {
             Ok(()) => Ok(Vec::new()),
             Err(_) => Err(refused(Reading::Exact, name, bytes.as_slice())),
@@ -104,6 +106,24 @@ fn print<'a>(
         return Err(refused(Reading::Exact, name, bytes));
     };
     match in_colours(style.colours, texts) {
+        Ok(out) => Ok(out),
+        Err(_) => Err(Failure::OutOfMemory),
+    }
+}
+
+/// What is printed of the pods that these bytes consist of, where none of those that are printed is refused.
+fn print_parts<'a>(
+    printing: Printing<'_>,
+    name: &'a str,
+    bytes: &[u8],
+) -> Result<Vec<u8>, Failure<'a>> {
+    let Ok(printed) = show_pods(printing.printout, 0, 0, bytes) else {
+        return Err(refused(Reading::Exact, name, bytes));
+    };
+    if printed.refused != 0 {
+        return Err(refused(Reading::Exact, name, bytes));
+    }
+    match in_colours(printing.colours, printed.bytes) {
         Ok(out) => Ok(out),
         Err(_) => Err(Failure::OutOfMemory),
     }
@@ -141,7 +161,7 @@ fn add(out: &mut Vec<u8>, more: Vec<u8>) -> Result<(), AllocError> {
     out.try_extend_from_slice(more.as_slice())
 }
 
-impl Maker for Making {
+impl Maker for Making<'_> {
     fn make(&self, pods: Vec<u8>) -> Result<Vec<u8>, AllocError> {
         match make(*self, "", pods) {
             Ok(made) => Ok(made),
@@ -158,7 +178,7 @@ pub(crate) struct Worked<'a> {
 
 /// What is made of each of the inputs of these names, whose refused pods are left out or kept, one behind another.
 pub(crate) fn make_what_is_read<'a, R: Read, S: Files>(
-    making: Making,
+    making: Making<'_>,
     manner: Manner,
     names: &[&'a str],
     input: &mut R,
@@ -178,7 +198,7 @@ pub(crate) fn make_what_is_read<'a, R: Read, S: Files>(
 
 /// Adds what is made of these bytes, which are those of the input of this name, and what is said of its refused pods.
 fn work_on<'a>(
-    making: Making,
+    making: Making<'_>,
     manner: Manner,
     name: &'a str,
     bytes: &[u8],

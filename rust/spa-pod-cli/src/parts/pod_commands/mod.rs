@@ -8,6 +8,8 @@ pub mod files;
 mod making;
 pub mod misuse;
 mod pairs;
+mod plain;
+mod reading;
 mod refusing;
 pub mod request;
 pub mod run;

@@ -3,58 +3,64 @@
 
 use spa_pod::shims::prelude::*;
 use crate::parts::pod_commands::answer::Failure;
-use crate::parts::pod_commands::files::{Files, read_named};
+use crate::parts::pod_commands::files::Files;
+use crate::parts::pod_commands::reading::read_pods;
 use crate::parts::pod_commands::refusing::either_refused;
 use crate::parts::spa_meet_commands::lists::of_lists;
 use crate::parts::spa_meet_commands::pair::{Work, of_pair};
 use crate::parts::spa_meet_commands::progress::Progress;
+use crate::parts::spa_recordings::reading::Reading;
 use crate::parts::spa_text_commands::comparing::differences;
 use std::io::Read;
 
-/// The lines of text that differ of the pods of two inputs: none where these say the same values.
+/// The lines of text that differ of the pods as which two inputs are read: none where these say the same values.
 pub(crate) fn compare<'a, R: Read, S: Files>(
+    reading: Reading,
     ours: &'a str,
     theirs: &'a str,
     input: &mut R,
     files: &S,
 ) -> Result<Vec<u8>, Failure<'a>> {
-    let (first, second) = match read_both(ours, theirs, input, files) {
+    let (first, second) = match read_both(reading, ours, theirs, input, files) {
         Ok(both) => both,
         Err(why) => return Err(why),
     };
     match differences(first.as_slice(), second.as_slice()) {
         Ok(lines) => Ok(lines),
+        // What is read leniently is refused for lack of memory alone.
         Err(_) => Err(either_refused(ours, theirs, first.as_slice(), second.as_slice())),
     }
 }
 
-/// The encoding of the object on which the two agree that an input consists of.
+/// The encoding of the object on which the two agree as which an input is read.
 pub(crate) fn agree<'a, R: Read, S: Files>(
     work: Work,
+    reading: Reading,
     name: &'a str,
     input: &mut R,
     files: &S,
 ) -> Result<Vec<u8>, Failure<'a>> {
-    let bytes = match read_named(name, input, files) {
-        Ok(bytes) => bytes,
+    let pods = match read_pods(reading, name, input, files) {
+        Ok(pods) => pods,
         Err(why) => return Err(why),
     };
-    match of_pair(work, bytes.as_slice()) {
+    match of_pair(work, pods.as_slice()) {
         Ok(met) => Ok(met),
         Err(why) => Err(Failure::Pair(name, why)),
     }
 }
 
-/// The encoding of the object on which the first pair of two lists agrees.
+/// The encoding of the object on which the first pair agrees of two lists, as which two inputs are read.
 pub(crate) fn agree_of_lists<'a, R: Read, S: Files, P: Progress>(
     work: Work,
+    reading: Reading,
     ours: &'a str,
     theirs: &'a str,
     input: &mut R,
     files: &S,
     progress: &mut P,
 ) -> Result<Vec<u8>, Failure<'a>> {
-    let (first, second) = match read_both(ours, theirs, input, files) {
+    let (first, second) = match read_both(reading, ours, theirs, input, files) {
         Ok(both) => both,
         Err(why) => return Err(why),
     };
@@ -64,18 +70,19 @@ pub(crate) fn agree_of_lists<'a, R: Read, S: Files, P: Progress>(
     }
 }
 
-/// All bytes of two inputs.
+/// The pods as which two inputs are read.
 fn read_both<'a, R: Read, S: Files>(
+    reading: Reading,
     ours: &'a str,
     theirs: &'a str,
     input: &mut R,
     files: &S,
 ) -> Result<(Vec<u8>, Vec<u8>), Failure<'a>> {
-    let first = match read_named(ours, input, files) {
-        Ok(bytes) => bytes,
+    let first = match read_pods(reading, ours, input, files) {
+        Ok(pods) => pods,
         Err(why) => return Err(why),
     };
-    match read_named(theirs, input, files) {
+    match read_pods(reading, theirs, input, files) {
         Ok(second) => Ok((first, second)),
         Err(why) => Err(why),
     }

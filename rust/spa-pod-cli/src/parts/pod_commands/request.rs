@@ -11,7 +11,7 @@ use crate::shims::clap::{ArgMatches, Error};
 use crate::parts::spa_meet_commands::pair::Work;
 use crate::parts::spa_recordings::going_on::Refused;
 use crate::parts::spa_recordings::reading::Reading;
-use crate::parts::spa_text_commands::key_names::is_key_name;
+use crate::parts::spa_text_commands::key_names::are_key_names;
 use crate::parts::spa_text_commands::printing::Layout;
 use crate::parts::spa_text_commands::selection::{Form, Printout, Selection};
 use spa_pod::parts::spa_text_read::Strictness;
@@ -33,7 +33,7 @@ pub struct Printing<'a> {
 
 /// What is made of each input.
 #[derive(Clone, Copy)]
-pub enum Making {
+pub enum Making<'a> {
     /// The texts of its pods, as JSON in this style.
     Json(Style),
     /// The pods of its texts, which are read so.
@@ -42,6 +42,8 @@ pub enum Making {
     Rewrite,
     /// Its pods, of which objects are fixated.
     Fixate,
+    /// This is printed of its pods.
+    Print(Printing<'a>),
     /// Nothing: it has to consist of pods.
     Check,
 }
@@ -78,18 +80,18 @@ pub enum Streaming<'a> {
 /// What is done.
 #[derive(Clone, Copy)]
 pub enum Word<'a> {
-    /// This is printed of pods, refused ones too: as they come, or where a file is written, all of it at the end.
-    /// `--lenient` and `--keep-going` don't go with it.
+    /// This is printed of pods, refused ones too: as they come, or where a file is written, all of it at the end. Of inputs that are read leniently
+    /// it is printed at the end, too. `--keep-going` doesn't go with it.
     Print(Printing<'a>, Manner),
     /// This is made of each input, which is read so.
-    Make(Making, Manner),
+    Make(Making<'a>, Manner),
     /// This is written of each input as it comes, which is read so. `--lenient`, `--keep-going`, `--keep-refused` and
     /// `-o` don't go with it.
     Stream(Streaming<'a>, Manner),
-    /// Two inputs are compared.
-    Diff,
-    /// The object is sought on which two of one input agree, or the first pair of two lists.
-    Agree(Work),
+    /// Two inputs, which are read so, are compared.
+    Diff(Reading),
+    /// The object is sought on which two of one input agree, or the first pair of two lists, of inputs that are read so.
+    Agree(Work, Reading),
 }
 
 /// What the words ask for.
@@ -142,15 +144,15 @@ fn word_of<'a>(
     strictness: Strictness,
 ) -> Option<Word<'a>> {
     match name {
-        "show" => Some(shown(options, streams)),
+        "show" => Some(shown(options, manner.reading, streams)),
         "json" => Some(as_json(options, manner, streams)),
         "read" => Some(Word::Make(Making::Read(strictness), PLAIN)),
         "rewrite" => Some(rewriting(manner, streams)),
         "fixate" => Some(Word::Make(Making::Fixate, manner)),
         "check" => Some(Word::Make(Making::Check, manner)),
-        "diff" => Some(Word::Diff),
-        "meet" => Some(Word::Agree(Work::Negotiate)),
-        "filter" => Some(Word::Agree(Work::Filter)),
+        "diff" => Some(Word::Diff(manner.reading)),
+        "meet" => Some(Word::Agree(Work::Negotiate, manner.reading)),
+        "filter" => Some(Word::Agree(Work::Filter, manner.reading)),
         _ => None,
     }
 }
@@ -211,7 +213,12 @@ fn options_of<'a>(given: &ArgMatches<'a>, screen: Screen) -> Result<Options<'a>,
         layout: layout_of(given),
         colours,
         hex: is_set(given, "hex"),
-        selection: Selection { nth, key },
+        selection: Selection {
+            nth,
+            key,
+            type_: None,
+            id: None,
+        },
     })
 }
 
@@ -233,7 +240,7 @@ fn key_of<'a>(name: Option<&'a str>) -> Result<Option<&'a str>, Misuse<'a>> {
     let Some(key) = name else {
         return Ok(None);
     };
-    if is_key_name(key) {
+    if are_key_names(key) {
         return Ok(Some(key));
     }
     Err(Misuse::Key(key, similar_key(key)))
@@ -255,18 +262,19 @@ fn writes_pods(word: Word<'_>) -> bool {
         Word::Print(_, _) => false,
         Word::Make(making, _) => makes_pods(making),
         Word::Stream(streaming, _) => streams_pods(streaming),
-        Word::Diff => false,
-        Word::Agree(_) => true,
+        Word::Diff(_) => false,
+        Word::Agree(_, _) => true,
     }
 }
 
 /// Whether this is made of pods.
-fn makes_pods(making: Making) -> bool {
+fn makes_pods(making: Making<'_>) -> bool {
     match making {
         Making::Json(_) => false,
         Making::Read(_) => true,
         Making::Rewrite => true,
         Making::Fixate => true,
+        Making::Print(_) => false,
         Making::Check => false,
     }
 }
@@ -320,18 +328,23 @@ fn number_of<'a>(text: Option<&'a str>) -> Result<Option<usize>, Misuse<'a>> {
     }
 }
 
-/// The word `show` with these options, with `--stream` or without it.
-fn shown<'a>(options: Options<'a>, streams: bool) -> Word<'a> {
+/// The word `show` with these options, of inputs that are read so, with `--stream` or without it.
+fn shown<'a>(options: Options<'a>, reading: Reading, streams: bool) -> Word<'a> {
     let form = if options.hex {
         Form::LinesAndBytes
     } else {
         Form::Lines
     };
     let printing = options.printing(form);
+    // Refused pods are shown, too.
+    let manner = Manner {
+        reading,
+        fate: Fate::Stops,
+    };
     if streams {
-        Word::Stream(Streaming::Print(printing), PLAIN)
+        Word::Stream(Streaming::Print(printing), manner)
     } else {
-        Word::Print(printing, PLAIN)
+        Word::Print(printing, manner)
     }
 }
 
@@ -371,7 +384,7 @@ fn rewriting<'a>(manner: Manner, streams: bool) -> Word<'a> {
     }
 }
 
-/// Texts, and pods that are shown, are never read leniently, nor passed over.
+/// Texts are never read leniently, nor passed over.
 const PLAIN: Manner = Manner {
     reading: Reading::Exact,
     fate: Fate::Stops,

@@ -23,8 +23,8 @@ use std::io::{self, Read, Write};
 
 /// Does what the words ask for, the program's own name not among them.
 ///
-/// The words are settled before anything is read. But for `show`, `--stream`, and `json` with `--nth`, `--key` or `--hex`, nothing is written before all
-/// inputs are read and accepted; a file that is to be written is written at the end, by all words. Where the device is a terminal, `show` and `json`
+/// The words are settled before anything is read. But for `--stream`, and without `--lenient` for `show`, and for `json` with `--nth`, `--key` or
+/// `--hex`, nothing is written before all inputs are read and accepted; a file that is to be written is written at the end, by all words. Where the device is a terminal, `show` and `json`
 /// print in colours, unless `NO_COLOR` or `--color` says other, and no pods are written, unless `-o -` asks for it. A search among two lists tells how
 /// far it is.
 pub fn run<'a, R: Read, S: Files, P: Progress, W: Write>(
@@ -74,14 +74,18 @@ fn do_work<'a, R: Read, S: Files, P: Progress, W: Write>(
                 streaming, manner, names, target, input, files, device,
             )
         }
-        Word::Diff => diff(names, target, input, files, device),
-        Word::Agree(work) => seek(work, names, target, input, files, progress, device),
+        Word::Diff(reading) => diff(reading, names, target, input, files, device),
+        Word::Agree(work, reading) => {
+            seek(
+                work, reading, names, target, input, files, progress, device,
+            )
+        }
     }
 }
 
 /// Makes this of the inputs of these names.
 fn make<'a, R: Read, S: Files, W: Write>(
-    making: Making,
+    making: Making<'_>,
     manner: Manner,
     names: &[&'a str],
     target: Option<&'a str>,
@@ -109,7 +113,7 @@ fn make<'a, R: Read, S: Files, W: Write>(
 
 /// Whether pods are read exactly and rewritten to the standard output, and each of these names is a regular file's.
 fn may_read_twice<S: Files>(
-    making: Making,
+    making: Making<'_>,
     reading: Reading,
     names: &[&str],
     target: Option<&str>,
@@ -171,7 +175,7 @@ fn emptied<'a, S: Files>(names: &[&'a str], files: &S) -> Option<&'a str> {
 
 /// Works on what is read of the inputs of these names, and answers which pods of them are refused.
 fn go_on<'a, R: Read, S: Files, W: Write>(
-    making: Making,
+    making: Making<'_>,
     manner: recordings::Manner,
     names: &[&'a str],
     target: Option<&'a str>,
@@ -281,7 +285,7 @@ fn shown<'a>(refused: usize, key: Option<&'a str>, is_written: bool) -> Answer<'
     Answer::Missing(name)
 }
 
-/// Prints this of the inputs of these names, where pods are read exactly and refused whole.
+/// Prints this of the inputs of these names, where no refused pod is to be left out.
 fn print<'a, R: Read, S: Files, W: Write>(
     printing: Printing<'a>,
     manner: Manner,
@@ -291,10 +295,71 @@ fn print<'a, R: Read, S: Files, W: Write>(
     files: &mut S,
     device: W,
 ) -> (Answer<'a>, W) {
-    if let Some(other) = excluded_in(manner, None) {
-        return (Answer::Misused(Misuse::WithPart(other)), device);
+    match manner.fate {
+        Fate::Stops => {
+            print_read(
+                printing,
+                manner.reading,
+                names,
+                target,
+                input,
+                files,
+                device,
+            )
+        }
+        Fate::GoesOn(refused) => (
+            Answer::Misused(Misuse::WithPart(option_of(refused))),
+            device,
+        ),
     }
-    print_inputs(printing, names, target, input, files, device)
+}
+
+/// The option that is given for this to become of refused pods.
+fn option_of(refused: Refused) -> Excluded {
+    match refused {
+        Refused::LeftOut => Excluded::KeepGoing,
+        Refused::Kept => Excluded::KeepRefused,
+    }
+}
+
+/// Prints this of the inputs of these names, which are read so.
+fn print_read<'a, R: Read, S: Files, W: Write>(
+    printing: Printing<'a>,
+    reading: Reading,
+    names: &[&'a str],
+    target: Option<&'a str>,
+    input: &mut R,
+    files: &mut S,
+    device: W,
+) -> (Answer<'a>, W) {
+    match reading {
+        Reading::Exact => print_inputs(printing, names, target, input, files, device),
+        Reading::Lenient => print_leniently(printing, names, target, input, files, device),
+    }
+}
+
+/// Prints this of the values that the inputs of these names convey, once all are read.
+fn print_leniently<'a, R: Read, S: Files, W: Write>(
+    printing: Printing<'a>,
+    names: &[&'a str],
+    target: Option<&'a str>,
+    input: &mut R,
+    files: &mut S,
+    device: W,
+) -> (Answer<'a>, W) {
+    match make_all(
+        Making::Print(printing),
+        Reading::Lenient,
+        names,
+        input,
+        files,
+    ) {
+        Ok(made) => {
+            let done = shown(0, printing.printout.selection.key, !made.is_empty());
+            answered(files, target, device, Ok(made), done)
+        }
+        Err(why) => (Answer::Refused(why), device),
+    }
 }
 
 /// Prints this of the inputs of these names: as they come, or where a file is written, all of it at the end.
@@ -349,8 +414,9 @@ fn print_to_file<'a, R: Read, S: Files, W: Write>(
     }
 }
 
-/// Compares the two inputs of these names.
+/// Compares the two inputs of these names, which are read so.
 fn diff<'a, R: Read, S: Files, W: Write>(
+    reading: Reading,
     names: &[&'a str],
     target: Option<&'a str>,
     input: &mut R,
@@ -360,7 +426,7 @@ fn diff<'a, R: Read, S: Files, W: Write>(
     let [ours, theirs] = names else {
         return (Answer::Misused(misuse_of(names)), device);
     };
-    let lines = match compare(*ours, *theirs, input, files) {
+    let lines = match compare(reading, *ours, *theirs, input, files) {
         Ok(lines) => lines,
         Err(why) => return (Answer::Refused(why), device),
     };
@@ -370,9 +436,10 @@ fn diff<'a, R: Read, S: Files, W: Write>(
     answered(files, target, device, Ok(lines), Answer::Differs)
 }
 
-/// Seeks the object on which two of the inputs of these names agree.
+/// Seeks the object on which two of the inputs of these names, which are read so, agree.
 fn seek<'a, R: Read, S: Files, P: Progress, W: Write>(
     work: Work,
+    reading: Reading,
     names: &[&'a str],
     target: Option<&'a str>,
     input: &mut R,
@@ -382,11 +449,11 @@ fn seek<'a, R: Read, S: Files, P: Progress, W: Write>(
 ) -> (Answer<'a>, W) {
     match names {
         [name] => {
-            let made = agree(work, *name, input, files);
+            let made = agree(work, reading, *name, input, files);
             answered(files, target, device, made, Answer::Done)
         }
         [ours, theirs] => {
-            let made = agree_of_lists(work, *ours, *theirs, input, files, progress);
+            let made = agree_of_lists(work, reading, *ours, *theirs, input, files, progress);
             answered(files, target, device, made, Answer::Done)
         }
         _ => (Answer::Misused(misuse_of(names)), device),

@@ -2,5 +2,6 @@
 //! What is made of recordings: pods one after another, read exactly or leniently, of which some may be refused.
 mod blocks;
 pub mod going_on;
+pub mod plausible;
 pub mod reading;
 pub mod streaming;

@@ -8,6 +8,7 @@ use crate::parts::spa_refusals::names::{TypeName, type_name};
 use spa_pod::parts::spa_bytes::{HEADER_LEN, extent_of, u32_at};
 use spa_pod::parts::spa_fixed_sized::DeserializeError;
 use spa_pod::parts::spa_lenient::rewrite_all_leniently;
+use crate::parts::spa_recordings::plausible::next_plausible;
 use crate::parts::spa_recordings::reading::Reading;
 use spa_pod::parts::spa_rewrite::accept_all;
 use spa_pod::shims::memory::AllocError;
@@ -43,6 +44,8 @@ pub struct Cut {
     pub takes: usize,
     /// How many of them are there.
     pub there: usize,
+    /// The byte of the input where behind its header the next pod plausibly begins, if one does.
+    pub next: Option<usize>,
 }
 
 /// The refusal of the first pod of the input that isn't read; None where all of it is read.
@@ -104,12 +107,12 @@ pub fn refusal_of(
         inner_type: type_name(inner.pod),
         kind: inner.error.kind(),
         words,
-        cut: cut_of(pod),
+        cut: cut_of(place, pod),
     })
 }
 
-/// What is there of the pod at the front, where it isn't whole.
-fn cut_of(pod: &[u8]) -> Option<Cut> {
+/// What is there of the pod at the front, which begins at this byte, where it isn't whole.
+fn cut_of(place: usize, pod: &[u8]) -> Option<Cut> {
     let takes = if pod.len() < HEADER_LEN {
         HEADER_LEN
     } else {
@@ -119,9 +122,18 @@ fn cut_of(pod: &[u8]) -> Option<Cut> {
         return Some(Cut {
             takes,
             there: pod.len(),
+            next: next_of(place, pod),
         });
     }
     None
+}
+
+/// The byte where behind the header of the pod at this byte the next one plausibly begins, if one does.
+fn next_of(place: usize, pod: &[u8]) -> Option<usize> {
+    match next_plausible(pod, HEADER_LEN) {
+        Some(bytes) => place.checked_add(bytes),
+        None => None,
+    }
 }
 
 /// How much of a pod is there, where it isn't whole.
@@ -131,7 +143,23 @@ struct There(Option<Cut>);
 impl fmt::Display for There {
     fn fmt(&self, f: &mut fmt::Formatter<'_>) -> fmt::Result {
         match self.0 {
-            Some(cut) => write!(f, ": {} of {} are there", cut.there, cut.takes),
+            Some(cut) => {
+                let next = Next(cut.next);
+                write!(f, ": {} of {} are there{next}", cut.there, cut.takes)
+            }
+            None => Ok(()),
+        }
+    }
+}
+
+/// Where the next pod plausibly begins, if one does.
+#[derive(Clone, Copy)]
+struct Next(Option<usize>);
+
+impl fmt::Display for Next {
+    fn fmt(&self, f: &mut fmt::Formatter<'_>) -> fmt::Result {
+        match self.0 {
+            Some(at) => write!(f, ", and a pod may begin at byte {at}"),
             None => Ok(()),
         }
     }

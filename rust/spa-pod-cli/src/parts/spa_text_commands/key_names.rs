@@ -6,8 +6,18 @@ use spa_pod::shims::numerals::Buffer;
 use spa_pod::parts::spa_names::{Table, keys_of, types};
 use spa_pod::parts::spa_utils::SpaTypes;
 
+/// Whether each of these names, which stand between commas, is that of a key.
+pub fn are_key_names(names: &str) -> bool {
+    for name in names.split(',') {
+        if !is_key_name(name) {
+            return false;
+        }
+    }
+    true
+}
+
 /// Whether a key of objects of some type has this name, or this is a key's number.
-pub fn is_key_name(name: &str) -> bool {
+pub(crate) fn is_key_name(name: &str) -> bool {
     if is_number(name) {
         return true;
     }

@@ -3,7 +3,7 @@
 
 use spa_pod::shims::prelude::*;
 use crate::parts::spa_text_commands::dump::{add_hex, add_rows};
-use crate::parts::spa_text_commands::inner_values::add_values;
+use crate::parts::spa_text_commands::inner_values::add_found;
 use crate::parts::spa_text_commands::inside::{Inside, Item, Label};
 use crate::parts::spa_text_commands::lines::{put_indent, put_label, put_refusal, put_rest, put_value};
 use crate::parts::spa_text_commands::message::{head_of, put_head};
@@ -42,18 +42,18 @@ pub(crate) fn add_selected(
     if !printout.selection.has_pod(count) {
         return Ok(0);
     }
-    match printout.selection.key {
-        Some(name) => add_values(page, printout.form, name, pod, count, place),
-        None => add_part(
-            page,
-            printout.form,
-            pod,
-            Table::Nothing,
-            count,
-            place,
-            pod,
-        ),
+    if printout.selection.looks_inside() {
+        return add_found(page, printout, pod, count, place);
     }
+    add_part(
+        page,
+        printout.form,
+        pod,
+        Table::Nothing,
+        count,
+        place,
+        pod,
+    )
 }
 
 /// Adds what is printed of a pod, which so many pods and bytes of the input stand before, where ids have these names and which is in this top-level

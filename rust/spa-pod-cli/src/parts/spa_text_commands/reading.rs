@@ -6,7 +6,8 @@ use crate::parts::spa_text_commands::answer::Failure;
 use crate::parts::spa_text_commands::extent::{position_behind, split_text};
 use crate::parts::spa_text_commands::strings::behind_string;
 use spa_pod::parts::spa_sink::GenError;
-use spa_pod::parts::spa_text::{Cause, Misfit, Strictness, TextReader};
+use spa_pod::parts::spa_text::{Cause, Misfit, Strictness};
+use spa_pod::parts::spa_text_forms::FreeReader;
 use spa_pod::parts::spa_value::Held;
 use spa_pod::parts::spa_write::write_sized;
 
@@ -25,7 +26,7 @@ enum Unread {
 
 /// The pods of the values of which the bytes are texts, among blank lines; read strictly, of no value with another type than the one that belongs under a key.
 pub fn read_all(strictness: Strictness, bytes: &[u8]) -> Result<Vec<u8>, Failure> {
-    let mut reader = TextReader::new();
+    let mut reader = FreeReader::new();
     let mut pods = Vec::new();
     let mut left = bytes;
     while !left.is_empty() {
@@ -112,7 +113,7 @@ fn failure_at(why: Unread, text: &[u8], first: usize) -> Failure {
 
 /// Adds the pod of the value of which these bytes are a text; of a blank line nothing.
 fn add_text(
-    reader: &mut TextReader,
+    reader: &mut FreeReader,
     strictness: Strictness,
     bytes: &[u8],
     pods: &mut Vec<u8>,
@@ -135,7 +136,7 @@ fn is_blank(text: &[u8]) -> bool {
 
 /// Adds the pod of the value of which these bytes are a text.
 fn add_pod(
-    reader: &mut TextReader,
+    reader: &mut FreeReader,
     strictness: Strictness,
     bytes: &[u8],
     pods: &mut Vec<u8>,
@@ -147,7 +148,7 @@ fn add_pod(
             return Err(unread_at("Text", words, error.valid_up_to()));
         }
     };
-    let value = match reader.read_with(text, strictness) {
+    let value = match reader.read(text, strictness) {
         Ok(value) => Held::from(value),
         Err(error) => {
             let Some(kind) = kind_of(error.cause) else {

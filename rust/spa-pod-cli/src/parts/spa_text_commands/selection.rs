@@ -30,8 +30,13 @@ pub enum Form {
 pub struct Selection<'a> {
     /// The number of the only top-level pod that is printed, the first being 1; without one, each is.
     pub nth: Option<usize>,
-    /// The name of the properties whose values are printed, of objects at any depth; without one, the pods themselves are.
+    /// The names, between commas, of the keys whose values are printed, of objects at any depth. Without them objects themselves are printed where a
+    /// type or an id is asked for, and else the pods.
     pub key: Option<&'a str>,
+    /// The names, between commas, of the types of those objects; without them, they are of any type.
+    pub type_: Option<&'a str>,
+    /// The names of their ids.
+    pub id: Option<&'a str>,
 }
 
 impl Selection<'_> {
@@ -42,18 +47,41 @@ impl Selection<'_> {
             None => true,
         }
     }
+
+    /// Whether not the top-level pods themselves are printed, but what is inside them.
+    pub(crate) fn looks_inside(&self) -> bool {
+        self.key.is_some() || (self.type_.is_some() || self.id.is_some())
+    }
 }
 
-/// Whether a key of this table has this name, or is this number.
-pub(crate) fn is_named(keys: Table, key: u32, name: &str) -> bool {
-    let is_end = match path_of(keys, key) {
+/// Whether a number of this table has one of the names that are asked for, if some are.
+pub(crate) fn is_asked(names: Option<&str>, table: Table, number: u32) -> bool {
+    match names {
+        Some(names) => is_among(table, number, names),
+        None => true,
+    }
+}
+
+/// Whether a number of this table has one of these names, which stand between commas.
+pub(crate) fn is_among(table: Table, number: u32, names: &str) -> bool {
+    for name in names.split(',') {
+        if is_named(table, number, name) {
+            return true;
+        }
+    }
+    false
+}
+
+/// Whether a number of this table has this name, or these digits.
+pub(crate) fn is_named(table: Table, number: u32, name: &str) -> bool {
+    let is_end = match path_of(table, number) {
         Some(path) => is_end_of(path, name),
         None => false,
     };
-    is_end || Buffer::new().format(key) == name
+    is_end || Buffer::new().format(number) == name
 }
 
-/// Whether a name is the whole of PipeWire's name for a key, or an end of it behind a colon.
+/// Whether a name is the whole of PipeWire's name for a number, or an end of it behind a colon.
 fn is_end_of(path: &str, name: &str) -> bool {
     let path = path.as_bytes();
     let name = name.as_bytes();

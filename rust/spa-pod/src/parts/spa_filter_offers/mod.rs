@@ -11,5 +11,5 @@ pub use element::Element;
 pub(crate) use kept::index_of_all;
 pub(crate) use meeting::{meet, meet_only};
 pub use numbers::Numbers;
-pub(crate) use offer::{admits, default_of, is_among, offer_of};
-pub use offer::{Offer, is_same};
+pub(crate) use offer::{admits, default_of, offer_of};
+pub use offer::{Offer, is_among, is_same};

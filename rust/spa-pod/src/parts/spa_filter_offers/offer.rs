@@ -67,7 +67,7 @@ pub fn is_same<T: Element>(x: &T, y: &T) -> bool {
 
 /// Whether an element is one of these, by a linear search.
 #[must_use]
-pub(crate) fn is_among<T: Element>(x: &T, elements: &[T]) -> bool {
+pub fn is_among<T: Element>(x: &T, elements: &[T]) -> bool {
     for element in elements {
         if is_same(x, element) {
             return true;

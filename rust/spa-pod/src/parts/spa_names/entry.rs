@@ -29,5 +29,5 @@ impl Expected {
 /// them has no name in clauses, so these are tuples.
 pub(crate) type Entry = (u32, &'static str, usize, usize);
 
-/// A name of a table, and its number.
+/// A further name of a number, and the number.
 pub(crate) type Naming = (&'static str, u32);

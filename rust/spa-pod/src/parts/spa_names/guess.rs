@@ -11,12 +11,12 @@ const OF_LAST: u64 = 0x85ebca6b;
 /// What the length of a name is multiplied by.
 const OF_LENGTH: u64 = 0xc2b2ae35;
 
-/// What the number of names of a table is multiplied by.
+/// What the number of entries of a table is multiplied by.
 const OF_COUNT: u64 = 0x27d4eb2f;
 
-/// Where a table of so many names is likely to have this one: the index among the names, and that among the entries. Nothing is proved of
-/// these numbers: the caller compares what stands there, so a wrong guess costs time alone.
-pub(crate) fn guess_of(name: &str, count: usize) -> (usize, usize) {
+/// The index at which a table of so many entries is likely to have this name. Nothing is proved of it: the caller compares what stands there, so a
+/// wrong guess costs time alone.
+pub(crate) fn guess_of(name: &str, count: usize) -> usize {
     let hash = hash_of(name.as_bytes(), count);
     let displacement = match DISPLACEMENTS.get((hash >> 56) as usize) {
         Some(displacement) => *displacement as u64,
@@ -24,12 +24,12 @@ pub(crate) fn guess_of(name: &str, count: usize) -> (usize, usize) {
     };
     let slot = ((hash >> 40) ^ (displacement * 4)) as usize;
     match GUESSES.get(slot % GUESSES.len()) {
-        Some(guess) => (guess.0 as usize, guess.1 as usize),
-        None => (0, 0),
+        Some(guess) => *guess as usize,
+        None => 0,
     }
 }
 
-/// A number whose highest bits are made of the first and last four bytes of a name, of its length, and of how many names its table has.
+/// A number whose highest bits are made of the first and last four bytes of a name, of its length, and of how many entries its table has.
 fn hash_of(name: &[u8], count: usize) -> u64 {
     let words = match (name.first_chunk::<4>(), name.last_chunk::<4>()) {
         (Some(first), Some(last)) => {

@@ -6,7 +6,6 @@ use crate::parts::spa_write::count::{
     INNER_LEVELS, is_beyond, is_nested, is_small, may_be_deep, members_nest_within, only_struct,
     properties_nest_within,
 };
-use crate::parts::spa_write::known::writable_len;
 use crate::parts::spa_write::largest::{largest_member, largest_property};
 use crate::parts::spa_write::leaf::put_leaf;
 use crate::parts::spa_write::nested::write_by_loop;
@@ -123,7 +122,10 @@ fn put_value<S: PodSink>(sink: &mut S, value: &Value, known: Option<u64>) -> Res
 fn len_of(value: &Value, known: Option<u64>) -> u64 {
     match known {
         Some(len) => len,
-        None => writable_len(value),
+        None => match encoded_len(value) {
+            Ok(len) => len,
+            Err(_) => unreachable!(),
+        },
     }
 }
 

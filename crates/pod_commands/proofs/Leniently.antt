@@ -1,0 +1,32 @@
+-- What is printed of inputs that are read leniently.
+use Rattle.std.proofs.Common.{◌∙◌, inl, inr, refl, sym, subst, List, ℕ, Option}
+use Rattle.std.specs.Borrow.{Bor}
+use Rattle.spa_recordings.specs.declared.reading.Reading.TheVariants.{Lenient}
+use Rattle.pod_commands.specs.Answers.{AreUnmade, IsOutcome, IsPrintedLeniently, Outlet, outlet}
+use Rattle.pod_commands.specs.Inputs.{AreMade}
+use Rattle.pod_commands.specs.Making.{MakesAll}
+use Rattle.pod_commands.specs.Sending.{IsSent}
+use Rattle.pod_commands.specs.declared.answer.Answer.{Answer}
+use Rattle.pod_commands.specs.declared.answer.Answer.TheVariants.{Refused}
+use Rattle.pod_commands.specs.declared.answer.Failure.{Failure}
+use Rattle.pod_commands.specs.declared.request.Making.TheVariants.{Print}
+use Rattle.pod_commands.specs.declared.request.Printing.{Printing}
+use Rattle.pod_commands.proofs.Running.{untouched}
+
+-- all was printed and sent, or that couldn't be written
+pub all_printed : (printing : Printing) (remaining : Option (List ℕ)) (names : List (Bor (List ℕ))) (o : Outlet) (made : List ℕ) (given answer : Answer) →
+    AreMade (MakesAll Lenient (Print printing)) remaining o.before names made 0 → IsOutcome printing.printout.selection.key 0 given →
+    IsSent made given answer o → IsPrintedLeniently printing answer remaining names o
+all_printed printing remaining names o made given answer m (inl e) (inl k) =
+    subst (λ a. IsPrintedLeniently printing a remaining names o) (sym (k.0 ∙ e.1)) (made, m, k.1)
+all_printed printing remaining names o made given answer m (inr (inl e)) (inl k) = absurd (e.0 refl)
+all_printed printing remaining names o made given answer m (inr (inr e)) (inl k) =
+    subst (λ a. IsPrintedLeniently printing a remaining names o) (sym (k.0 ∙ e.3)) (e.2, (made, m, k.1))
+all_printed printing remaining names o made given answer m e (inr k) =
+    subst (λ a. IsPrintedLeniently printing a remaining names o) (sym k.1) (inr (k.2, (made, m, k.3)))
+
+-- not all inputs are read
+pub none_printed : (printing : Printing) (target : Option (Bor (List ℕ))) (remaining : Option (List ℕ)) (holds : List ℕ → Option (List ℕ))
+    (names : List (Bor (List ℕ))) (old : Option (List ℕ)) (why : Failure) → AreUnmade Lenient (Print printing) remaining holds names why →
+    IsPrintedLeniently printing (Refused why) remaining names (outlet target old old holds holds)
+none_printed printing target remaining holds names old why h = inl (h, untouched target old holds)

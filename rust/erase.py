@@ -202,6 +202,10 @@ def name_calls(text, place):
     text = re.sub(r'(?<![\w:])str::from_utf8\(', 'core::str::from_utf8(', text)
     if place.package != TESTS:
         text = text.replace('.as_chunks::<N>()', '.in_chunks::<N>()').replace('&[[u8; N]]', "Chunks<'_, N>")
+        # The bodies of a side of `spa_filter` are such chunks, too.
+        text = text.replace("enum Side<'a, T, B>", "enum Side<'a, T, const N: usize>").replace("&'a [B]", "Chunks<'a, N>")
+        text = text.replace("Side<'_, T, [u8; N]>", "Side<'_, T, N>")
+        text = text.replace('Side::Values(_, values) => is_one(x, values)', 'Side::Values(_, values) => is_one(x, *values)')
     # Copies that may be refused.
     text = re.sub(r'\bClone for (?=\w)', 'TryClone for ', text)
     text = re.sub(r'fn clone\(&self\)', 'fn try_clone(&self)', text)

@@ -115,7 +115,7 @@ plain_is k v b x e h s =
     let same : v ≡ fixed x = y.2 ∙ ap (λ z. fixed z) says in
     record { same = same; alone = (plain_tree v (subst IsPlain (sym same) tt)).alone }
 
-and_false : (b c : Bool) → c ≡ false → (b && c) ≡ false
+pub and_false : (b c : Bool) → c ≡ false → (b && c) ≡ false
 and_false true c e = e
 and_false false c e = refl
 

@@ -1,21 +1,23 @@
 -- Enums, by their borrowed bodies.
-use Rattle.std.proofs.Common.{◌≡◌, ℕ, ◌≤◌, List, [], ◌∷◌, length, map, drop, refl, sym, ap, ◌∙◌, subst, arith, length-drop, Some, None}
+use Rattle.std.proofs.Common.{◌≡◌, ◌↔◌, false, ℕ, ◌≤◌, List, [], ◌∷◌, length, map, drop, refl, sym, ap, ◌∙◌, subst, arith, length-drop, Some, None}
 use Rattle.std.specs.Prelude.{slice_get}
 use Rattle.std.specs.List.{Contains}
 use Rattle.spa_format.specs.Words.{word_at}
 use Rattle.spa_format.specs.Kind.{Kind, Fixed, content, body_size, type_number}
-use Rattle.spa_format.specs.Tree.{Tree, choice, enum_choice, choice_type}
+use Rattle.spa_format.specs.Tree.{Tree, choice, enum_choice, choice_type, fixed, type_of}
 use Rattle.spa_format.specs.Pod.{AreElements, IsArray, IsBody}
-use Rattle.spa_format.specs.Writable.{IsTooLarge}
 use Rattle.spa_format.proofs.Unique.{same_body}
-use Rattle.spa_filter_offers.specs.Admits.{HasCommon, IsMeeting}
-use Rattle.spa_filter_offers.specs.Offers.{IsDefault, IsOffer, IsKept}
-use Rattle.spa_filter.specs.CommonPods.{AreEnumValues, HasBody, IsAppended, IsCommonAppended, IsCommonRefused, IsCommonTooLarge, IsUnwritten}
+use Rattle.spa_fixed_sized.specs.Choices.{choice_enum_tree}
+use Rattle.spa_utils.specs.declared.choice.ChoiceEnum.{ChoiceEnum}
+use Rattle.spa_filter_offers.specs.Admits.{AreSayable, IsMeeting, IsSupported, is_bounded, is_flags}
+use Rattle.spa_filter_offers.specs.Offers.{IsDefault, IsKept, IsOffer, IsOfferOf, MeetsIn, OfferAdmits, default_of}
+use Rattle.spa_filter_offers.specs.declared.offer.Offer.{Offer}
+use Rattle.spa_filter.specs.CommonPods.{AreBoth, AreEnumValues, HasBody, IsCommonAppended, IsCommonRefused, IsCommonTooLarge, IsMetAppended, IsMetRefused, IsUnwritten}
 use Rattle.spa_filter.specs.declared.refused.Refused.{Refused}
 use Rattle.spa_filter.specs.declared.refused.Refused.TheVariants.{Apart, TooLarge, OutOfMemory}
-use Rattle.spa_filter.proofs.CommonPods.{appended_over, none_over}
+use Rattle.spa_filter.proofs.CommonPods.{and_false, appended_over, choice_typed, none_over}
 use Rattle.spa_filter_offers.proofs.Contents.{Contains-first, not_among}
-use Rattle.spa_filter_offers.proofs.Meetings.{MeetsIn-among}
+use Rattle.spa_filter_offers.proofs.Meetings.{IsOffer-content, MeetsIn-among}
 use Rattle.spa_filter_offers.proofs.Offering.{only_by}
 use Rattle.spa_filter.proofs.Outcomes.{IsMeeting-offers, ValuesMeet-offers}
 
@@ -61,54 +63,111 @@ enum_offer : (flags : ℕ) (k : Kind) (d : Fixed) (vs : List Fixed) → IsOffer 
 enum_offer flags k d vs =
     record { each = λ x. (λ h. h, λ h. h); only = λ t h. only_by enum_choice flags k d vs t h; default_is = refl }
 
--- two Enums, and what is sought of both
-module _ (k : Kind) (v w : Tree) (d e : Fixed) (values others : List (List ℕ)) (a b : List ℕ) (kept : List Fixed) (p : AreEnumValues k d values a)
-    (q : AreEnumValues k e others b) (s : IsKept (Contains (map (content k) others)) (map (content k) values) kept) (h : HasBody v choice_type a)
-    (i : HasBody w choice_type b) where
-  first : IsOffer (choice enum_choice p.flags k d p.others) (Contains (map (content k) values)) d
-  first = subst (λ xs. IsOffer (choice enum_choice p.flags k d p.others) (Contains xs) d) (sym p.contents) (enum_offer p.flags k d p.others)
+-- the choice of a body, which admits exactly the elements of which P holds, and has the default d
+pub record IsSideOf (P : Fixed → Type 0) (d : Fixed) (body : List ℕ) : Type 0 where
+  pub tree : Tree
+  pub its_type : type_of tree ≡ choice_type
+  pub its_body : IsBody tree body
+  pub supported : IsSupported tree
+  pub offers : IsOffer tree P d
 
-  second : IsOffer (choice enum_choice q.flags k e q.others) (Contains (map (content k) others)) e
-  second = subst (λ xs. IsOffer (choice enum_choice q.flags k e q.others) (Contains xs) e) (sym q.contents) (enum_offer q.flags k e q.others)
+-- that of an Enum,
+pub enum_side : (k : Kind) (d : Fixed) (values : List (List ℕ)) (body : List ℕ) → AreEnumValues k d values body →
+    IsSideOf (Contains (map (content k) values)) d body
+enum_side k d values body p =
+    let t = choice enum_choice p.flags k d p.others in
+    record {
+      tree = t;
+      its_type = refl;
+      its_body = p.its_body;
+      supported = tt;
+      offers = subst (λ xs. IsOffer t (Contains xs) d) (sym p.contents) (enum_offer p.flags k d p.others);
+    }
 
-  -- an Enum of the values that they share
-  module _ (x : Fixed) (m : IsDefault (Contains (map (content k) values)) (Contains (map (content k) others)) d e x) where
-    meeting : IsMeeting (choice enum_choice p.flags k d p.others) (choice enum_choice q.flags k e q.others) (choice enum_choice 0 k x kept)
-    meeting =
-        IsMeeting-offers (choice enum_choice p.flags k d p.others) (choice enum_choice q.flags k e q.others) (Contains (map (content k) values))
-        (Contains (map (content k) others)) d e first second (choice enum_choice 0 k x kept)
-        (MeetsIn-among (Contains (map (content k) values)) (Contains (map (content k) others)) d e k kept s.each x m)
+-- beside which any choice is sayable, in either order,
+pub enum_first : (k : Kind) (d : Fixed) (values : List (List ℕ)) (body : List ℕ) (p : AreEnumValues k d values body) (u : Tree) →
+    AreSayable (enum_side k d values body p).tree u
+unfolding enum_side
+enum_first k d values body p u = (refl, refl)
 
-    pub appended_enum : (n : ℕ) (old new : List ℕ) → n ≡ 0 → IsAppended (choice enum_choice n k x kept) old new → IsCommonAppended v w old new
-    appended_enum n old new z put =
-        appended_over v w (choice enum_choice p.flags k d p.others) (choice enum_choice q.flags k e q.others) (choice enum_choice 0 k x kept) a b old new h i refl refl
-        p.its_body q.its_body (tt, tt, (refl, refl)) meeting (subst (λ f. IsAppended (choice enum_choice f k x kept) old new) z put)
+pub enum_second : (k : Kind) (d : Fixed) (values : List (List ℕ)) (body : List ℕ) (p : AreEnumValues k d values body) (u : Tree) →
+    AreSayable u (enum_side k d values body p).tree
+unfolding enum_side
+enum_second k d values body p u = (and_false (is_flags u) false refl, and_false (is_bounded u) false refl)
 
-    pub refused_enum : (n : ℕ) (why : Refused) → n ≡ 0 → IsUnwritten (choice enum_choice n k x kept) why → IsCommonRefused v w why
-    refused_enum n Apart z r = absurd r
-    refused_enum n TooLarge z r =
-        let one : choice enum_choice p.flags k d p.others ≡ v = same_body (choice enum_choice p.flags k d p.others) v a (sym h.its_type) p.its_body h.content in
-        let two : choice enum_choice q.flags k e q.others ≡ w = same_body (choice enum_choice q.flags k e q.others) w b (sym i.its_type) q.its_body i.content in
-        let too : IsCommonTooLarge (choice enum_choice p.flags k d p.others) (choice enum_choice q.flags k e q.others) =
-        record {
-          value = choice enum_choice 0 k x kept;
-          supported = (tt, tt, (refl, refl));
-          meeting = meeting;
-          large = subst (λ f. IsTooLarge (choice enum_choice f k x kept)) z r;
-        } in
-        subst (λ t. IsCommonTooLarge t w) one (subst (IsCommonTooLarge (choice enum_choice p.flags k d p.others)) two too)
-    refused_enum n OutOfMemory z r = tt
+-- and one that was read
+pub read_side : {T : Type 0} (k : Kind) (f : T → Fixed) (n : ℕ) (e : ChoiceEnum T) (offer : Offer T) (body : List ℕ) →
+    IsBody (choice_enum_tree k f n e) body → IsSupported (choice_enum_tree k f n e) → IsOfferOf f (choice_enum_tree k f n e) offer →
+    IsSideOf (OfferAdmits f offer) (default_of f offer) body
+read_side k f n e offer body h s o =
+    record { tree = choice_enum_tree k f n e; its_type = choice_typed k f n e; its_body = h; supported = s; offers = o }
 
-  -- none that they share
-  pub none_shared : kept ≡ [] → ¬ (HasCommon v w)
-  none_shared z r =
-      let one : choice enum_choice p.flags k d p.others ≡ v = same_body (choice enum_choice p.flags k d p.others) v a (sym h.its_type) p.its_body h.content in
-      let two : choice enum_choice q.flags k e q.others ≡ w = same_body (choice enum_choice q.flags k e q.others) w b (sym i.its_type) q.its_body i.content in
-      let none : (y : Fixed) → ¬ (Contains (map (content k) values) y × Contains (map (content k) others) y) =
-      λ y c. not_among y (subst (λ ys. Contains ys y) z ((s.each y).1 c)) in
-      none_over v w (choice enum_choice p.flags k d p.others) (choice enum_choice q.flags k e q.others) one two
-      (ValuesMeet-offers (choice enum_choice p.flags k d p.others) (choice enum_choice q.flags k e q.others) (Contains (map (content k) values))
-      (Contains (map (content k) others)) d e first second None none) r
+-- what two choices filter to, by what both admit
+module _ (P Q : Fixed → Type 0) (d e : Fixed) (v w : Tree) (a b : List ℕ) (p : IsSideOf P d a) (q : IsSideOf Q e b) (s : AreSayable p.tree q.tree)
+    (h : HasBody v choice_type a) (i : HasBody w choice_type b) where
+  ours : p.tree ≡ v
+  ours = same_body p.tree v a (p.its_type ∙ sym h.its_type) p.its_body h.content
+
+  theirs : q.tree ≡ w
+  theirs = same_body q.tree w b (q.its_type ∙ sym i.its_type) q.its_body i.content
+
+  meeting : (y : Tree) → MeetsIn P Q d e y → IsMeeting p.tree q.tree y
+  meeting y m = IsMeeting-offers p.tree q.tree P Q d e p.offers q.offers y m
+
+  pub appended_sides : (old new : List ℕ) → IsMetAppended P Q d e old new → IsCommonAppended v w old new
+  appended_sides old new m =
+      appended_over v w p.tree q.tree m.value a b old new h i p.its_type q.its_type p.its_body q.its_body (p.supported, q.supported, s)
+      (meeting m.value m.meets) m.appended
+
+  pub refused_sides : (why : Refused) → IsMetRefused P Q d e why → IsCommonRefused v w why
+  refused_sides Apart r =
+      λ t k. none_over v w p.tree q.tree ours theirs (ValuesMeet-offers p.tree q.tree P Q d e p.offers q.offers None r) k
+  refused_sides TooLarge r =
+      let too : IsCommonTooLarge p.tree q.tree =
+      record { value = r.0; supported = (p.supported, q.supported, s); meeting = meeting r.0 r.1; large = r.2 } in
+      subst (λ t. IsCommonTooLarge t w) ours (subst (IsCommonTooLarge p.tree) theirs too)
+  refused_sides OutOfMemory r = tt
+
+-- an Enum and another choice admit nothing both, where none of the Enum's values are kept
+module _ (P Q R : Fixed → Type 0) (d e : Fixed) (all kept : List Fixed) (s : IsKept R all kept)
+    (both : AreBoth (Contains all) R P Q) where
+  pub each_kept : (x : Fixed) → Contains kept x ↔ (P x × Q x)
+  each_kept x = (λ h. (both.each x).0 ((s.each x).0 h), λ h. (s.each x).1 ((both.each x).1 h))
+
+  pub none_kept : kept ≡ [] → (x : Fixed) → ¬ (P x × Q x)
+  none_kept z x c = not_among x (subst (λ ys. Contains ys x) z ((each_kept x).1 c))
+
+  -- an Enum of those that are
+  pub meets_enum : (k : Kind) (x : Fixed) → IsDefault P Q d e x → MeetsIn P Q d e (choice enum_choice 0 k x kept)
+  meets_enum k x m = MeetsIn-among P Q d e k kept each_kept x m
+
+-- the element that both admit alone
+pub meets_only : (P Q : Fixed → Type 0) (d e x : Fixed) → IsDefault P Q d e x → ((c : Fixed) → P c × Q c → c ≡ x) → MeetsIn P Q d e (fixed x)
+meets_only P Q d e x m alone =
+    let o = IsOffer-content x in
+    record {
+      default = x;
+      is_default = m;
+      offers = record {
+        each = λ c. (λ h. subst (λ y. P y × Q y) (sym ((o.each c).0 h)) m.admitted, λ h. (o.each c).1 (alone c h));
+        only = o.only;
+        default_is = refl;
+      };
+      no_flags = refl;
+    }
+
+-- where one of the two admits its default alone
+pub alone_first : (P Q : Fixed → Type 0) (d e x : Fixed) → IsDefault P Q d e x → ((c : Fixed) → P c → c ≡ d) → (c : Fixed) → P c × Q c → c ≡ x
+alone_first P Q d e x m alone c h = alone c h.0 ∙ sym (alone x m.admitted.0)
+
+pub alone_second : (P Q : Fixed → Type 0) (d e x : Fixed) → IsDefault P Q d e x → ((c : Fixed) → Q c → c ≡ e) → (c : Fixed) → P c × Q c → c ≡ x
+alone_second P Q d e x m alone c h = alone c h.1 ∙ sym (alone x m.admitted.1)
+
+-- why such a value isn't written
+pub unwritten_met : (P Q : Fixed → Type 0) (d e : Fixed) (y : Tree) → MeetsIn P Q d e y → (why : Refused) → IsUnwritten y why → IsMetRefused P Q d e why
+unwritten_met P Q d e y m Apart r = absurd r
+unwritten_met P Q d e y m TooLarge r = (y, m, r)
+unwritten_met P Q d e y m OutOfMemory r = tt
 
 -- a list without a first element
 pub empty_first : {A : Type 0} (xs : List A) → None ≡ slice_get xs 0 → xs ≡ []

@@ -1,15 +1,18 @@
 -- The value to which two filter, from their pods to its pod.
-use Rattle.std.specs.Prelude.{⊤, ◌≡◌, ◌≢◌, ℕ, List, [], ◌∷◌, ◌++◌, map}
+use Rattle.std.specs.Prelude.{⊤, ◌≡◌, ◌≢◌, ◌↔◌, ℕ, Bool, Contains, IsTrue, List, [], ◌∷◌, ◌++◌, map}
 use Rattle.spa_format.specs.Words.{word_at}
 use Rattle.spa_format.specs.Kind.{Kind, Fixed, content}
 use Rattle.spa_format.specs.Tree.{Tree, choice, choice_type, enum_choice, range_choice, type_of}
 use Rattle.spa_format.specs.Pod.{IsBody}
 use Rattle.spa_format.specs.Writable.{IsTooLarge}
 use Rattle.spa_filter_offers.specs.Admits.{Admits, AreSupported, HasCommon, IsMeeting, IsPlain, IsSupported}
+use Rattle.spa_filter_offers.specs.Offers.{MeetsIn, OfferAdmits, default_of}
 use Rattle.spa_keyed_objects.specs.CanonicalPods.{IsCanonicalPod}
 use Rattle.spa_filter.specs.Refusals.{IsValueRefusal}
 use Rattle.spa_filter.specs.declared.error.FilterError.{FilterError}
 use Rattle.spa_filter.specs.declared.error.FilterError.TheVariants as error
+use Rattle.spa_filter.specs.declared.enums.Side.{Side}
+use Rattle.spa_filter.specs.declared.enums.Side.TheVariants.{Values, Offered}
 use Rattle.spa_filter.specs.declared.refused.Refused.{Refused}
 use Rattle.spa_filter.specs.declared.refused.Refused.TheVariants.{Apart, TooLarge, OutOfMemory}
 
@@ -43,6 +46,40 @@ pub record AreEnumValues (k : Kind) (default : Fixed) (values : List (List ℕ))
   pub others : List Fixed
   pub contents : map (content k) values ≡ default ∷ others
   pub its_body : IsBody (choice enum_choice flags k default others) body
+
+-- the body is that of an Enum, and the element is one of its values, or isn't
+pub record IsValueOf (k : Kind) (x : Fixed) (body : List ℕ) (is : Bool) : Type 0 where
+  pub default : Fixed
+  pub values : List (List ℕ)
+  pub are_values : AreEnumValues k default values body
+  pub is_one : IsTrue is ↔ Contains (map (content k) values) x
+
+-- one choice of a pair admits the element x, where `f` gives the element of a value of the type
+abbrev pub SideAdmits : {T : Type 0} → Kind → (T → Fixed) → Side T (List ℕ) → Fixed → Type 0
+SideAdmits k f (Values default values) x = Contains (map (content k) values.now) x
+SideAdmits k f (Offered offer) x = OfferAdmits f offer x
+
+-- its default
+abbrev pub side_default : {T : Type 0} → (T → Fixed) → Side T (List ℕ) → Fixed
+side_default f (Values default values) = f default
+side_default f (Offered offer) = default_of f offer
+
+-- both of the facts L and R hold of exactly the elements of which both P and Q hold
+pub record AreBoth (L R P Q : Fixed → Type 0) : Type 0 where
+  pub each : (x : Fixed) → (L x × R x) ↔ (P x × Q x)
+
+-- the canonical pod was appended of a value that admits exactly the elements of which both facts hold, with the first of the defaults d and e that
+-- it may have
+pub record IsMetAppended (P Q : Fixed → Type 0) (d e : Fixed) (old new : List ℕ) : Type 0 where
+  pub value : Tree
+  pub meets : MeetsIn P Q d e value
+  pub appended : IsAppended value old new
+
+-- why no pod of such a value was appended
+abbrev pub IsMetRefused : (P Q : Fixed → Type 0) → (d e : Fixed) → Refused → Type 0
+IsMetRefused P Q d e Apart = (x : Fixed) → ¬ (P x × Q x)
+IsMetRefused P Q d e TooLarge = (value : Tree) × MeetsIn P Q d e value × IsTooLarge value
+IsMetRefused P Q d e OutOfMemory = ⊤
 
 -- the Range with this body has this default and these bounds
 pub record IsRangeBody (k : Kind) (default low high : Fixed) (body : List ℕ) : Type 0 where

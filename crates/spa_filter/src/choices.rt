@@ -1,9 +1,9 @@
 //! Reads two choices over one type from the borrowed bodies of their pods, and writes what they filter to.
-ghost use Rattle.std.specs.Prelude.{◌≡◌, IfErr, IfOk, OnOk};
+ghost use Rattle.std.specs.Prelude.{◌≡◌, IfErr, IfOk, OnOk, map};
 ghost use Rattle.spa_fixed_sized.specs.Choices.{choice_tree};
 ghost use Rattle.spa_format.specs.Kind.{Fixed, kind_of};
 ghost use Rattle.spa_format.specs.Pod.{IsBody};
-ghost use Rattle.spa_format.specs.Tree.{Tree, choice_type, fixed};
+ghost use Rattle.spa_format.specs.Tree.{Tree, choice, choice_type, enum_choice, fixed};
 ghost use Rattle.spa_format.specs.Words.{word_at};
 ghost use Rattle.spa_value.specs.View.{view};
 ghost use Rattle.spa_filter_offers.specs.Admits.{Admits, choice_flags_of};
@@ -13,7 +13,7 @@ use crate::refused::Refused;
 use crate::values::are_meetable;
 use spa_bytes::{HEADER_LEN, SECOND_WORD, u32_at};
 use spa_filter_offers::{Element, meet, offer_of};
-use spa_fixed_sized::{put_choice, put_fixed, read_choice};
+use spa_fixed_sized::{put_choice, put_enum, put_fixed, read_choice};
 use spa_sink::GenError;
 use spa_utils::Choice;
 use spa_value::Value;
@@ -102,8 +102,26 @@ pub(crate) fn put_choice_of<T: Element>(
     }
 }
 
+/// Appends the canonical pod of an Enum without flags. Refused as `TooLarge` and as `OutOfMemory`.
+pub(crate) fn put_enum_of<T: Element>(
+    out: &mut Vec<u8>,
+    default: &T,
+    alternatives: &[T],
+) -> Result<(), Refused>
+    ensures appended { OnOk result (IsAppended (choice enum_choice 0 T.kind (T.fixed default.now)
+        (map T.fixed alternatives.now)) out.old.items out.new.items) }
+    ensures cause { IfErr result (IsUnwritten (choice enum_choice 0 T.kind (T.fixed default.now)
+        (map T.fixed alternatives.now))) }
+{
+    match put_enum(out, default, alternatives) {
+        Ok(()) => Ok(()),
+        Err(GenError::TooLarge) => Err(Refused::TooLarge),
+        Err(_) => Err(Refused::OutOfMemory),
+    }
+}
+
 /// Appends the canonical pod of an element. Refused only as `OutOfMemory`.
-fn put_element<T: Element>(out: &mut Vec<u8>, x: &T) -> Result<(), Refused>
+pub(crate) fn put_element<T: Element>(out: &mut Vec<u8>, x: &T) -> Result<(), Refused>
     ensures appended { OnOk result (IsAppended (fixed (T.fixed x.now)) out.old.items out.new.items) }
     ensures cause { IfErr result (IsUnwritten (fixed (T.fixed x.now))) }
 {

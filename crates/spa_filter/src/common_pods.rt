@@ -7,7 +7,7 @@ ghost use Rattle.spa_keyed_objects.specs.CanonicalPods.{IsCanonicalPod};
 ghost use Rattle.spa_filter.specs.declared.refused.Refused.TheVariants.{OutOfMemory};
 
 use crate::choices::{VALUES_AT, choice_over, put_read};
-use crate::enums::{is_short_enum, put_shared};
+use crate::enums::{MOST, is_enum, is_short_enum, is_value_of, put_enum_first, put_enum_second};
 use crate::error::FilterError;
 use crate::ranges::{is_range, put_ranges};
 use crate::refused::Refused;
@@ -115,21 +115,27 @@ fn is_offered(alloc: Global, type_: u32, body: &[u8], choice: &[u8]) -> Result<(
         → IsOfferRefused v w e) }
 {
     match type_ {
-        BOOL => is_offered_over::<bool>(alloc, body, choice),
-        ID => is_offered_over::<Id>(alloc, body, choice),
-        INT => is_offered_over::<i32>(alloc, body, choice),
-        LONG => is_offered_over::<i64>(alloc, body, choice),
-        FLOAT => is_offered_over::<Float32>(alloc, body, choice),
-        DOUBLE => is_offered_over::<Float64>(alloc, body, choice),
-        RECTANGLE => is_offered_over::<Rectangle>(alloc, body, choice),
-        FRACTION => is_offered_over::<Fraction>(alloc, body, choice),
-        FD => is_offered_over::<Fd>(alloc, body, choice),
+        BOOL => is_offered_over::<bool, ONE_WORD>(alloc, body, choice),
+        ID => is_offered_over::<Id, ONE_WORD>(alloc, body, choice),
+        INT => is_offered_over::<i32, ONE_WORD>(alloc, body, choice),
+        LONG => is_offered_over::<i64, TWO_WORDS>(alloc, body, choice),
+        FLOAT => is_offered_over::<Float32, ONE_WORD>(alloc, body, choice),
+        DOUBLE => is_offered_over::<Float64, TWO_WORDS>(alloc, body, choice),
+        RECTANGLE => is_offered_over::<Rectangle, TWO_WORDS>(alloc, body, choice),
+        FRACTION => is_offered_over::<Fraction, TWO_WORDS>(alloc, body, choice),
+        FD => is_offered_over::<Fd, TWO_WORDS>(alloc, body, choice),
         _ => Err(Refused::Apart),
     }
 }
 
-/// Checks that the element of the type `T` with this body is one that the choice of the other body admits, with the refusals of `is_offered`.
-fn is_offered_over<T: Element>(alloc: Global, body: &[u8], choice: &[u8]) -> Result<(), Refused>
+/// Checks that the element of the type `T`, whose bodies have `N` bytes, with this body is one that the choice of the other body admits, with the
+/// refusals of `is_offered`.
+fn is_offered_over<T: Element, const N: usize>(
+    alloc: Global,
+    body: &[u8],
+    choice: &[u8],
+) -> Result<(), Refused>
+    requires { T.SIZE ≡ N }
     ensures offered { OnOk result ((v w : Tree) → HasBody v T.TYPE body.now → HasBody w choice_type choice.now
         → IsOffered v w) }
     ensures cause { IfErr result (λ e. (v w : Tree) → HasBody v T.TYPE body.now → HasBody w choice_type choice.now
@@ -138,11 +144,18 @@ fn is_offered_over<T: Element>(alloc: Global, body: &[u8], choice: &[u8]) -> Res
     if body.len() != T::SIZE {
         return Err(Refused::Apart);
     }
+    let x = T::of_body(body);
+    if let Some(is_value) = is_value_of::<T, N>(&x, choice) {
+        if is_value {
+            return Ok(());
+        }
+        return Err(Refused::Apart);
+    }
     let choice = choice_over::<T>(alloc, choice)?;
     if !is_shape_supported(&choice) {
         return Err(Refused::Apart);
     }
-    if !admits(&offer_of(&choice.1), &T::of_body(body)) {
+    if !admits(&offer_of(&choice.1), &x) {
         return Err(Refused::Apart);
     }
     Ok(())
@@ -159,26 +172,42 @@ fn put_choices(alloc: Global, out: &mut Vec<u8>, a: &[u8], b: &[u8]) -> Result<(
         return Err(Refused::Apart);
     }
     match u32_at(a, HEADER_LEN + SECOND_WORD) {
-        BOOL => put_over::<bool, ONE_WORD>(alloc, out, a, b),
-        ID => put_over::<Id, ONE_WORD>(alloc, out, a, b),
-        INT => put_over::<i32, ONE_WORD>(alloc, out, a, b),
-        LONG => put_over::<i64, TWO_WORDS>(alloc, out, a, b),
-        FLOAT => put_over::<Float32, ONE_WORD>(alloc, out, a, b),
-        DOUBLE => put_over::<Float64, TWO_WORDS>(alloc, out, a, b),
-        RECTANGLE => put_over::<Rectangle, TWO_WORDS>(alloc, out, a, b),
-        FRACTION => put_over::<Fraction, TWO_WORDS>(alloc, out, a, b),
-        FD => put_over::<Fd, TWO_WORDS>(alloc, out, a, b),
+        BOOL => put_over::<bool, ONE_WORD>(alloc, out, a, b, &mut [false; MOST]),
+        ID => put_over::<Id, ONE_WORD>(alloc, out, a, b, &mut [Id(0); MOST]),
+        INT => put_over::<i32, ONE_WORD>(alloc, out, a, b, &mut [0; MOST]),
+        LONG => put_over::<i64, TWO_WORDS>(alloc, out, a, b, &mut [0; MOST]),
+        FLOAT => put_over::<Float32, ONE_WORD>(alloc, out, a, b, &mut [Float32(0); MOST]),
+        DOUBLE => put_over::<Float64, TWO_WORDS>(alloc, out, a, b, &mut [Float64(0); MOST]),
+        RECTANGLE => put_over::<Rectangle, TWO_WORDS>(
+            alloc,
+            out,
+            a,
+            b,
+            &mut [Rectangle {
+                width: 0,
+                height: 0,
+            }; MOST],
+        ),
+        FRACTION => put_over::<Fraction, TWO_WORDS>(
+            alloc,
+            out,
+            a,
+            b,
+            &mut [Fraction { num: 0, denom: 0 }; MOST],
+        ),
+        FD => put_over::<Fd, TWO_WORDS>(alloc, out, a, b, &mut [Fd(0); MOST]),
         _ => Err(Refused::Apart),
     }
 }
 
 /// Appends the canonical pod of the value to which the choices of two bodies filter, the first of which is over the type `T`, whose bodies have
-/// `N` bytes.
+/// `N` bytes. In `room` values are kept that both admit.
 fn put_over<T: Element, const N: usize>(
     alloc: Global,
     out: &mut Vec<u8>,
     a: &[u8],
     b: &[u8],
+    room: &mut [T],
 ) -> Result<(), Refused>
     requires size { T.SIZE ≡ N }
     requires over { word_at a.now 12 ≡ T.TYPE }
@@ -187,8 +216,11 @@ fn put_over<T: Element, const N: usize>(
     ensures cause { IfErr result (λ e. (v w : Tree) → HasBody v choice_type a.now → HasBody w choice_type b.now
         → IsCommonRefused v w e) }
 {
-    if is_short_enum(a) && is_short_enum(b) {
-        return put_shared::<T, N>(alloc, out, a, b);
+    if is_short_enum(a) {
+        return put_enum_first::<T, N>(alloc, out, a, b, room);
+    }
+    if is_short_enum(b) && !is_enum(a) {
+        return put_enum_second::<T, N>(alloc, out, a, b, room);
     }
     if is_range(a) && is_range(b) {
         return put_ranges::<T>(alloc, out, a, b);

@@ -7,7 +7,7 @@ ghost use Rattle.spa_format.specs.Kind.{IsFixedBody};
 ghost use Rattle.spa_format.specs.Pod.{AreElements, IsBody};
 ghost use Rattle.spa_sink.specs.Writing.{Begun, RefusesPiece};
 ghost use Rattle.spa_format.specs.Encoding.{encoded_body, encoding_of, fixed_bodies, encoded_pod};
-ghost use Rattle.spa_format.specs.Tree.{choice_type, enum_choice, none_choice, range_choice, step_choice};
+ghost use Rattle.spa_format.specs.Tree.{choice, choice_type, enum_choice, none_choice, range_choice, step_choice};
 ghost use Rattle.spa_format.specs.Typed.{AreOf, IsTyped};
 ghost use Rattle.spa_format.specs.Words.{size_limit, word_at};
 
@@ -272,4 +272,26 @@ pub fn put_choice<T: ChoiceElement, S: PodSink>(
             flags: listed,
         } => { put_values(sink, FLAGS_SHAPE, flags, &[default], listed.as_slice()) }
     }
+}
+
+/// Appends the encoding of an Enum without flags, of this default and these alternatives, with the refusals of `put_choice`.
+pub fn put_enum<T: ChoiceElement, S: PodSink>(
+    sink: &mut S,
+    default: &T,
+    alternatives: &[T],
+) -> Result<(), GenError>
+    ensures ok { OnOk result (S.appends sink.old (encoding_of (choice enum_choice 0 T.kind (T.fixed default.now)
+        (map T.fixed alternatives.now))) sink.new) }
+    ensures typed { OnOk result (IsTyped (choice enum_choice 0 T.kind (T.fixed default.now) (map T.fixed alternatives.now))) }
+    ensures fits { OnOk result (length (encoded_body (choice enum_choice 0 T.kind (T.fixed default.now)
+        (map T.fixed alternatives.now))) < size_limit) }
+    ensures begun { OnErr result (Begun S.appends sink.old
+        (encoding_of (choice enum_choice 0 T.kind (T.fixed default.now) (map T.fixed alternatives.now))) sink.new) }
+    ensures refused { IfErr result (RefusesPiece ⊥
+        (size_limit ≤ length (encoded_body (choice enum_choice 0 T.kind (T.fixed default.now)
+        (map T.fixed alternatives.now))))
+        (λ e. S.refuses sink.old (length (encoding_of (choice enum_choice 0 T.kind (T.fixed default.now)
+        (map T.fixed alternatives.now)))) sink.new e) sink.old sink.new) }
+{
+    put_values(sink, ENUM_SHAPE, 0, &[default], alternatives)
 }

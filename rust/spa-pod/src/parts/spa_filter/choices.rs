@@ -6,7 +6,7 @@ use crate::parts::spa_filter::refused::Refused;
 use crate::parts::spa_filter::values::are_meetable;
 use crate::parts::spa_bytes::{HEADER_LEN, SECOND_WORD, u32_at};
 use crate::parts::spa_filter_offers::{Element, meet, offer_of};
-use crate::parts::spa_fixed_sized::{put_choice, put_fixed, read_choice};
+use crate::parts::spa_fixed_sized::{put_choice, put_enum, put_fixed, read_choice};
 use crate::parts::spa_sink::GenError;
 use crate::parts::spa_utils::Choice;
 use crate::parts::spa_value::Value;
@@ -75,8 +75,21 @@ pub(crate) fn put_choice_of<T: Element>(
     }
 }
 
+/// Appends the canonical pod of an Enum without flags. Refused as `TooLarge` and as `OutOfMemory`.
+pub(crate) fn put_enum_of<T: Element>(
+    out: &mut Vec<u8>,
+    default: &T,
+    alternatives: &[T],
+) -> Result<(), Refused> {
+    match put_enum(out, default, alternatives) {
+        Ok(()) => Ok(()),
+        Err(GenError::TooLarge) => Err(Refused::TooLarge),
+        Err(_) => Err(Refused::OutOfMemory),
+    }
+}
+
 /// Appends the canonical pod of an element. Refused only as `OutOfMemory`.
-fn put_element<T: Element>(out: &mut Vec<u8>, x: &T) -> Result<(), Refused> {
+pub(crate) fn put_element<T: Element>(out: &mut Vec<u8>, x: &T) -> Result<(), Refused> {
     match put_fixed(out, x) {
         Ok(()) => Ok(()),
         Err(_) => Err(Refused::OutOfMemory),

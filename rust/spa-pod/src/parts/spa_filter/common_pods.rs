@@ -3,7 +3,7 @@
 
 use crate::shims::prelude::*;
 use crate::parts::spa_filter::choices::{VALUES_AT, choice_over, put_read};
-use crate::parts::spa_filter::enums::{is_short_enum, put_shared};
+use crate::parts::spa_filter::enums::{MOST, is_enum, is_short_enum, is_value_of, put_enum_first, put_enum_second};
 use crate::parts::spa_filter::error::FilterError;
 use crate::parts::spa_filter::ranges::{is_range, put_ranges};
 use crate::parts::spa_filter::refused::Refused;
@@ -87,29 +87,40 @@ fn put_pod(out: &mut Vec<u8>, pod: &[u8]) -> Result<(), Refused> {
 /// where the choice is over another type or unsupported.
 fn is_offered(type_: u32, body: &[u8], choice: &[u8]) -> Result<(), Refused> {
     match type_ {
-        BOOL => is_offered_over::<bool>(body, choice),
-        ID => is_offered_over::<Id>(body, choice),
-        INT => is_offered_over::<i32>(body, choice),
-        LONG => is_offered_over::<i64>(body, choice),
-        FLOAT => is_offered_over::<Float32>(body, choice),
-        DOUBLE => is_offered_over::<Float64>(body, choice),
-        RECTANGLE => is_offered_over::<Rectangle>(body, choice),
-        FRACTION => is_offered_over::<Fraction>(body, choice),
-        FD => is_offered_over::<Fd>(body, choice),
+        BOOL => is_offered_over::<bool, ONE_WORD>(body, choice),
+        ID => is_offered_over::<Id, ONE_WORD>(body, choice),
+        INT => is_offered_over::<i32, ONE_WORD>(body, choice),
+        LONG => is_offered_over::<i64, TWO_WORDS>(body, choice),
+        FLOAT => is_offered_over::<Float32, ONE_WORD>(body, choice),
+        DOUBLE => is_offered_over::<Float64, TWO_WORDS>(body, choice),
+        RECTANGLE => is_offered_over::<Rectangle, TWO_WORDS>(body, choice),
+        FRACTION => is_offered_over::<Fraction, TWO_WORDS>(body, choice),
+        FD => is_offered_over::<Fd, TWO_WORDS>(body, choice),
         _ => Err(Refused::Apart),
     }
 }
 
-/// Checks that the element of the type `T` with this body is one that the choice of the other body admits, with the refusals of `is_offered`.
-fn is_offered_over<T: Element>(body: &[u8], choice: &[u8]) -> Result<(), Refused> {
+/// Checks that the element of the type `T`, whose bodies have `N` bytes, with this body is one that the choice of the other body admits, with the
+/// refusals of `is_offered`.
+fn is_offered_over<T: Element, const N: usize>(
+    body: &[u8],
+    choice: &[u8],
+) -> Result<(), Refused> {
     if body.len() != T::SIZE {
+        return Err(Refused::Apart);
+    }
+    let x = T::of_body(body);
+    if let Some(is_value) = is_value_of::<T, N>(&x, choice) {
+        if is_value {
+            return Ok(());
+        }
         return Err(Refused::Apart);
     }
     let choice = choice_over::<T>(choice)?;
     if !is_shape_supported(&choice) {
         return Err(Refused::Apart);
     }
-    if !admits(&offer_of(&choice.1), &T::of_body(body)) {
+    if !admits(&offer_of(&choice.1), &x) {
         return Err(Refused::Apart);
     }
     Ok(())
@@ -121,28 +132,45 @@ fn put_choices(out: &mut Vec<u8>, a: &[u8], b: &[u8]) -> Result<(), Refused> {
         return Err(Refused::Apart);
     }
     match u32_at(a, HEADER_LEN + SECOND_WORD) {
-        BOOL => put_over::<bool, ONE_WORD>(out, a, b),
-        ID => put_over::<Id, ONE_WORD>(out, a, b),
-        INT => put_over::<i32, ONE_WORD>(out, a, b),
-        LONG => put_over::<i64, TWO_WORDS>(out, a, b),
-        FLOAT => put_over::<Float32, ONE_WORD>(out, a, b),
-        DOUBLE => put_over::<Float64, TWO_WORDS>(out, a, b),
-        RECTANGLE => put_over::<Rectangle, TWO_WORDS>(out, a, b),
-        FRACTION => put_over::<Fraction, TWO_WORDS>(out, a, b),
-        FD => put_over::<Fd, TWO_WORDS>(out, a, b),
+        BOOL => put_over::<bool, ONE_WORD>(out, a, b, &mut [false; MOST]),
+        ID => put_over::<Id, ONE_WORD>(out, a, b, &mut [Id(0); MOST]),
+        INT => put_over::<i32, ONE_WORD>(out, a, b, &mut [0; MOST]),
+        LONG => put_over::<i64, TWO_WORDS>(out, a, b, &mut [0; MOST]),
+        FLOAT => put_over::<Float32, ONE_WORD>(out, a, b, &mut [Float32(0); MOST]),
+        DOUBLE => put_over::<Float64, TWO_WORDS>(out, a, b, &mut [Float64(0); MOST]),
+        RECTANGLE => put_over::<Rectangle, TWO_WORDS>(
+            out,
+            a,
+            b,
+            &mut [Rectangle {
+                width: 0,
+                height: 0,
+            }; MOST],
+        ),
+        FRACTION => put_over::<Fraction, TWO_WORDS>(
+            out,
+            a,
+            b,
+            &mut [Fraction { num: 0, denom: 0 }; MOST],
+        ),
+        FD => put_over::<Fd, TWO_WORDS>(out, a, b, &mut [Fd(0); MOST]),
         _ => Err(Refused::Apart),
     }
 }
 
 /// Appends the canonical pod of the value to which the choices of two bodies filter, the first of which is over the type `T`, whose bodies have
-/// `N` bytes.
+/// `N` bytes. In `room` values are kept that both admit.
 fn put_over<T: Element, const N: usize>(
     out: &mut Vec<u8>,
     a: &[u8],
     b: &[u8],
+    room: &mut [T],
 ) -> Result<(), Refused> {
-    if is_short_enum(a) && is_short_enum(b) {
-        return put_shared::<T, N>(out, a, b);
+    if is_short_enum(a) {
+        return put_enum_first::<T, N>(out, a, b, room);
+    }
+    if is_short_enum(b) && !is_enum(a) {
+        return put_enum_second::<T, N>(out, a, b, room);
     }
     if is_range(a) && is_range(b) {
         return put_ranges::<T>(out, a, b);

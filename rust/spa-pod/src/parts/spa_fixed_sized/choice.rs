@@ -203,3 +203,12 @@ pub fn put_choice<T: ChoiceElement, S: PodSink>(
         } => { put_values(sink, FLAGS_SHAPE, flags, &[default], listed.as_slice()) }
     }
 }
+
+/// Appends the encoding of an Enum without flags, of this default and these alternatives, with the refusals of `put_choice`.
+pub(crate) fn put_enum<T: ChoiceElement, S: PodSink>(
+    sink: &mut S,
+    default: &T,
+    alternatives: &[T],
+) -> Result<(), GenError> {
+    put_values(sink, ENUM_SHAPE, 0, &[default], alternatives)
+}

@@ -4,7 +4,6 @@ use Rattle.std.specs.Io.KnownBytes.{Appends}
 use Rattle.std.specs.Prelude.{IfErr, IfOk, Result}
 use Rattle.spa_recordings.specs.Streaming.{BeginsBlock, IsNotMade, WritesMade}
 use Rattle.spa_recordings.specs.declared.streaming.NotMade.{NotMade}
-use Rattle.spa_recordings.specs.declared.streaming.NotMade.TheVariants as not_made
 use Rattle.spa_text_commands.specs.Answers.{ShowsAll}
 use Rattle.spa_text_commands.specs.Texts.{Prints}
 use Rattle.spa_text_commands.specs.declared.showing.Printed.{Printed}

@@ -1,8 +1,9 @@
 -- What is printed of inputs that are read leniently.
-use Rattle.std.proofs.Common.{◌∙◌, inl, inr, refl, sym, subst, List, ℕ, Option}
+use Rattle.std.proofs.Common.{◌≡◌, ◌∙◌, inl, inr, refl, sym, subst, List, ℕ, Option}
 use Rattle.std.specs.Borrow.{Bor}
 use Rattle.spa_recordings.specs.declared.reading.Reading.TheVariants.{Lenient}
-use Rattle.pod_commands.specs.Answers.{AreUnmade, IsOutcome, IsPrintedLeniently, Outlet, outlet}
+use Rattle.spa_text_commands.specs.declared.selection.Selection.{Selection}
+use Rattle.pod_commands.specs.Answers.{AreUnmade, IsOutcome, IsPrintedLeniently, Outlet, outlet, sought_in}
 use Rattle.pod_commands.specs.Inputs.{AreMade}
 use Rattle.pod_commands.specs.Making.{MakesAll}
 use Rattle.pod_commands.specs.Sending.{IsSent}
@@ -15,14 +16,14 @@ use Rattle.pod_commands.proofs.Running.{untouched}
 
 -- all was printed and sent, or that couldn't be written
 pub all_printed : (printing : Printing) (remaining : Option (List ℕ)) (names : List (Bor (List ℕ))) (o : Outlet) (made : List ℕ) (given answer : Answer) →
-    AreMade (MakesAll Lenient (Print printing)) remaining o.before names made 0 → IsOutcome printing.printout.selection.key 0 given →
+    AreMade (MakesAll Lenient (Print printing)) remaining o.before names made 0 → (sought : Option Selection) → sought ≡ sought_in printing.printout.selection → IsOutcome sought 0 given →
     IsSent made given answer o → IsPrintedLeniently printing answer remaining names o
-all_printed printing remaining names o made given answer m (inl e) (inl k) =
+all_printed printing remaining names o made given answer m sought looks (inl e) (inl k) =
     subst (λ a. IsPrintedLeniently printing a remaining names o) (sym (k.0 ∙ e.1)) (made, m, k.1)
-all_printed printing remaining names o made given answer m (inr (inl e)) (inl k) = absurd (e.0 refl)
-all_printed printing remaining names o made given answer m (inr (inr e)) (inl k) =
-    subst (λ a. IsPrintedLeniently printing a remaining names o) (sym (k.0 ∙ e.3)) (e.2, (made, m, k.1))
-all_printed printing remaining names o made given answer m e (inr k) =
+all_printed printing remaining names o made given answer m sought looks (inr (inl e)) (inl k) = absurd (e.0 refl)
+all_printed printing remaining names o made given answer m sought looks (inr (inr e)) (inl k) =
+    subst (λ a. IsPrintedLeniently printing a remaining names o) (sym (k.0 ∙ e.3)) (sym looks ∙ e.2, (made, m, k.1))
+all_printed printing remaining names o made given answer m sought looks e (inr k) =
     subst (λ a. IsPrintedLeniently printing a remaining names o) (sym k.1) (inr (k.2, (made, m, k.3)))
 
 -- not all inputs are read

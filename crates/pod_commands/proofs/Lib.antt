@@ -1,13 +1,16 @@
 mod Blocks
 mod Checked
 mod Coloured
+mod Joined
 mod Known
 mod Leniently
 mod Listed
 mod Longer
 mod Made
+mod Missing
 mod Requested
 mod Paired
+mod Passed
 mod Running
 mod Streamed
 mod Twice

@@ -11,7 +11,7 @@ use Rattle.spa_fixed_sized.specs.declared.fault.FaultKind.{FaultKind}
 use Rattle.spa_fixed_sized.specs.declared.fault.FaultKind.TheVariants as fault_kind
 use Rattle.spa_format.specs.Faults.{Fault, IsInvalidType, IsWrongSize, LacksValues, Stands, StandsAtFront, at_front, in_key, in_member, in_property}
 use Rattle.spa_format.specs.Faults as fault
-use Rattle.spa_format.specs.Front.{HasFront, IsRefused, front_of}
+use Rattle.spa_format.specs.Front.{HasFront, front_of}
 use Rattle.spa_format.specs.Pod.{AreMembers, IsPod}
 use Rattle.spa_format.specs.Walk.{walk}
 use Rattle.spa_format.specs.Words.{body_of, extent, word_at}
@@ -19,9 +19,14 @@ use Rattle.spa_format.proofs.Refused.{refused_behind_members}
 use Rattle.spa_format.proofs.WordLemmas.{word_at-append}
 use Rattle.spa_bodies.specs.Reading.{Names, NamesFaultKind}
 use Rattle.spa_recordings.specs.Streaming.{EndsAtPod}
-use Rattle.spa_recordings.specs.declared.reading.Reading.TheVariants.{Exact}
+use Rattle.spa_read.specs.Reading.{StandsLeniently, in_body, no_front}
+use Rattle.spa_read.specs.Reading as leniently
+use Rattle.spa_format.specs.Lenient.{Conveys}
+use Rattle.spa_recordings.specs.Reading.{IsNoPod}
+use Rattle.spa_recordings.specs.declared.reading.Reading.{Reading}
+use Rattle.spa_recordings.specs.declared.reading.Reading.TheVariants.{Exact, Lenient}
 use Rattle.spa_refusals.specs.Paths.{HaveRead, HoldsMember, HoldsValue, IsInnermost, LeadsTo, StepsTo, cut_off, further, holds_none, itself, member, members_read, number_of, properties_read, property, short_object, step_limit, type_name, type_number, type_text}
-use Rattle.spa_refusals.specs.Refusals.{IsCutOf, IsFirstRefusal, IsRefusalOf, IsUnreadFor, wanted}
+use Rattle.spa_refusals.specs.Refusals.{IsCutOf, IsFirstRefusal, IsNothing, IsRefusalOf, IsUnreadFor, LeadsBy, StandsBy, wanted}
 use Rattle.spa_refusals.specs.declared.refusal.Cut.{Cut}
 use Rattle.spa_refusals.specs.declared.refusal.Refusal.{Refusal}
 use Rattle.pod_commands.specs.Streaming.{StreamsAs}
@@ -36,13 +41,13 @@ IsSameCause e d = (kind_text e ≡ kind_text d) × (error_text e ≡ error_text 
 
 -- a whole pod, and what follows it
 module _ (pod more : List ℕ) (f : HasFront pod) where
-  size_longer : word_at (pod ++ more) 0 ≡ word_at pod 0
+  pub size_longer : word_at (pod ++ more) 0 ≡ word_at pod 0
   size_longer = let h = f.header in word_at-append pod more 0 (omega (arith, h))
 
   type_longer : word_at (pod ++ more) 4 ≡ word_at pod 4
   type_longer = let h = f.header in word_at-append pod more 4 (omega (arith, h))
 
-  front_longer : HasFront (pod ++ more)
+  pub front_longer : HasFront (pod ++ more)
   front_longer =
       let s = ap extent size_longer in
       let l = length-append pod more in
@@ -82,11 +87,13 @@ module _ (pod more : List ℕ) (f : HasFront pod) where
   cut_longer place None h = wanted_longer
   cut_longer place (Some cut) h = let w = wanted_whole in let l = h.2 in absurd (omega (arith, w, l))
 
-  refused_longer : IsRefused pod → IsRefused (pod ++ more)
-  refused_longer r = λ v h.
-      let same : front_of (pod ++ more) ≡ front_of pod =
-      ap (λ s. take (extent s) (pod ++ more)) size_longer ∙ take-append-le (extent (word_at pod 0)) pod more f.whole in
-      r v (record { there = f; pod = subst (λ p. IsPod p v) same h.pod })
+  pub front_same : front_of (pod ++ more) ≡ front_of pod
+  front_same =
+      ap (λ s. take (extent s) (pod ++ more)) size_longer ∙ take-append-le (extent (word_at pod 0)) pod more f.whole
+
+  nothing_longer : (reading : Reading) → IsNothing reading pod → IsNothing reading (pod ++ more)
+  nothing_longer Exact r = λ v h. r v (record { there = f; pod = subst (λ p. IsPod p v) front_same h.pod })
+  nothing_longer Lenient r = λ v h. r v (record { there = f; conveys = subst (λ p. Conveys p v) front_same h.conveys })
 
   innermost_longer : IsInnermost pod → IsInnermost (pod ++ more)
   innermost_longer (cut_off n) = absurd (n f)
@@ -155,19 +162,40 @@ module _ (pod more : List ℕ) (f : HasFront pod) where
         (subst (λ z. 8 ≤ length z) (sym body_longer) l) (ap (drop 8) body_longer ∙ e) m long s,
   )
 
-  named_longer : (k : FaultKind) (place : List ℕ) → NamesFaultKind (λ fault. Stands fault place pod) k →
-      (at : List ℕ) × NamesFaultKind (λ fault. Stands fault at (pod ++ more)) k
-  named_longer fault_kind.Short place s = stands_longer fault.Short place s
-  named_longer fault_kind.Text place s = stands_longer fault.Text place s
-  named_longer fault_kind.Tag place s = absurd s
+  reads_longer : (type : ℕ) (read : List ℕ) → leniently.ReadsAs (word_at pod 4) (body_of pod) type read →
+      leniently.ReadsAs (word_at (pod ++ more) 4) (body_of (pod ++ more)) type read
+  reads_longer type read h =
+      subst (λ z. leniently.ReadsAs (word_at (pod ++ more) 4) z type read) (sym body_longer)
+      (subst (λ z. leniently.ReadsAs z (body_of pod) type read) (sym type_longer) h)
 
-  same : (e : DeserializeError (Bor (List ℕ))) → IsUnreadFor Exact pod e →
-      Names (λ fault place. Stands fault place (pod ++ more)) e →
-      (d : DeserializeError (Bor (List ℕ))) × IsUnreadFor Exact (pod ++ more) d × IsSameCause e d
-  same e u named = (
+  stands_leniently : (k : Fault) (place : List ℕ) → StandsLeniently k place pod → (at : List ℕ) × StandsLeniently k at (pod ++ more)
+  stands_leniently k place (no_front b e s none) = absurd (none f)
+  stands_leniently k place (in_body b type read e there reads s) =
+      (pod ++ more, in_body (pod ++ more) type read refl front_longer (reads_longer type read reads) s)
+  stands_leniently k place (leniently.in_member b read vs first left there reads e m some s) =
+      (place, leniently.in_member (pod ++ more) read vs first left front_longer (reads_longer _ read reads) e m some s)
+  stands_leniently k place (leniently.in_key b read ps first there reads l e m some short is) =
+      (place, leniently.in_key (pod ++ more) read ps first front_longer (reads_longer _ read reads) l e m some short is)
+  stands_leniently k place (leniently.in_property b read ps first left there reads l e m long s) =
+      (place, leniently.in_property (pod ++ more) read ps first left front_longer (reads_longer _ read reads) l e m long s)
+
+  stands_by : (reading : Reading) (k : Fault) (place : List ℕ) → StandsBy reading k place pod → (at : List ℕ) × StandsBy reading k at (pod ++ more)
+  stands_by Exact k place s = stands_longer k place s
+  stands_by Lenient k place s = stands_leniently k place s
+
+  named_longer : (reading : Reading) (k : FaultKind) (place : List ℕ) → NamesFaultKind (λ fault. StandsBy reading fault place pod) k →
+      (at : List ℕ) × NamesFaultKind (λ fault. StandsBy reading fault at (pod ++ more)) k
+  named_longer reading fault_kind.Short place s = stands_by reading fault.Short place s
+  named_longer reading fault_kind.Text place s = stands_by reading fault.Text place s
+  named_longer reading fault_kind.Tag place s = absurd s
+
+  same : (reading : Reading) (e : DeserializeError (Bor (List ℕ))) → IsUnreadFor reading pod e →
+      Names (λ fault place. StandsBy reading fault place (pod ++ more)) e →
+      (d : DeserializeError (Bor (List ℕ))) × IsUnreadFor reading (pod ++ more) d × IsSameCause e d
+  same reading e u named = (
     e,
     record {
-      nothing = refused_longer u.nothing;
+      nothing = nothing_longer reading u.nothing;
       fault = u.fault;
       named = named;
       short_first = λ none. absurd (none front_longer);
@@ -175,44 +203,70 @@ module _ (pod more : List ℕ) (f : HasFront pod) where
     (refl, refl),
   )
 
-  unread_longer : (e : DeserializeError (Bor (List ℕ))) → IsUnreadFor Exact pod e →
-      (d : DeserializeError (Bor (List ℕ))) × IsUnreadFor Exact (pod ++ more) d × IsSameCause e d
-  unread_longer (error.Nom x) u =
-      let n = named_longer x.kind x.input.now u.named in
+  unread_longer : (reading : Reading) (e : DeserializeError (Bor (List ℕ))) → IsUnreadFor reading pod e →
+      (d : DeserializeError (Bor (List ℕ))) × IsUnreadFor reading (pod ++ more) d × IsSameCause e d
+  unread_longer reading (error.Nom x) u =
+      let n = named_longer reading x.kind x.input.now u.named in
       let at : Bor (List ℕ) = record { ref_ptr = x.input.ref_ptr; now = n.0 } in (
         error.Nom (record { input = at; kind = x.kind }),
         record {
-          nothing = refused_longer u.nothing;
+          nothing = nothing_longer reading u.nothing;
           fault = tt;
           named = n.1;
           short_first = λ none. absurd (none front_longer);
         },
         (refl, refl),
       )
-  unread_longer error.InvalidType u = same error.InvalidType u (stands_longer fault.InvalidType u.named.0 u.named.1)
-  unread_longer error.InvalidChoiceType u =
-      same error.InvalidChoiceType u (stands_longer fault.InvalidChoiceType u.named.0 u.named.1)
-  unread_longer error.MissingChoiceValues u =
-      same error.MissingChoiceValues u (stands_longer fault.MissingChoiceValues u.named.0 u.named.1)
-  unread_longer error.WrongSize u = same error.WrongSize u (stands_longer fault.WrongSize u.named.0 u.named.1)
-  unread_longer error.OutOfMemory u = absurd u.fault
-  unread_longer (error.PropertyWrongKey k) u = absurd u.named
-  unread_longer error.UnsupportedType u = absurd u.named
-  unread_longer error.PropertyMissing u = absurd u.named
-  unread_longer error.UnreadMembers u = absurd u.named
-  unread_longer error.NoElementLeft u = absurd u.named
-  unread_longer error.FailedReader u = absurd u.named
+  unread_longer reading error.InvalidType u =
+      same reading error.InvalidType u (stands_by reading fault.InvalidType u.named.0 u.named.1)
+  unread_longer reading error.InvalidChoiceType u =
+      same reading error.InvalidChoiceType u (stands_by reading fault.InvalidChoiceType u.named.0 u.named.1)
+  unread_longer reading error.MissingChoiceValues u =
+      same reading error.MissingChoiceValues u (stands_by reading fault.MissingChoiceValues u.named.0 u.named.1)
+  unread_longer reading error.WrongSize u =
+      same reading error.WrongSize u (stands_by reading fault.WrongSize u.named.0 u.named.1)
+  unread_longer reading error.OutOfMemory u = absurd u.fault
+  unread_longer reading (error.PropertyWrongKey k) u = absurd u.named
+  unread_longer reading error.UnsupportedType u = absurd u.named
+  unread_longer reading error.PropertyMissing u = absurd u.named
+  unread_longer reading error.UnreadMembers u = absurd u.named
+  unread_longer reading error.NoElementLeft u = absurd u.named
+  unread_longer reading error.FailedReader u = absurd u.named
 
-  refusal_longer : (r : Refusal) → IsRefusalOf Exact pod r → IsRefusalOf Exact (pod ++ more) r
-  refusal_longer r h =
-      elim (leads_longer h.path.steps (string_bytes r.path) h.inner h.path.leads) [
+  -- no pod is read at its front, whatever follows it, for a reason of the same name
+  pub no_pod_longer : (reading : Reading) (kind : List ℕ) → IsNoPod reading pod kind → IsNoPod reading (pod ++ more) kind
+  no_pod_longer Exact kind h =
+      let u = unread_longer Exact h.1.0 (record { nothing = h.0; fault = h.1.1; named = h.1.2; short_first = λ none. absurd (none f) }) in
+      (u.1.nothing, (u.0, u.1.fault, u.1.named, h.1.3 ∙ u.2.0))
+  no_pod_longer Lenient kind h =
+      let u = unread_longer Lenient h.1.0 (record { nothing = h.0; fault = h.1.1; named = h.1.2; short_first = λ none. absurd (none f) }) in
+      (u.1.nothing, (u.0, u.1.fault, u.1.named, h.1.3 ∙ u.2.0))
+
+  -- the path leads to the pod itself, or to the same one inside
+  leads_by : (reading : Reading) (path inner : List ℕ) → LeadsBy reading pod path inner →
+      ((inner ≡ pod) × LeadsBy reading (pod ++ more) path (pod ++ more)) ⊎ LeadsBy reading (pod ++ more) path inner
+  leads_by Exact path inner h =
+      elim (leads_longer h.steps path inner h.leads) [
+        | inl l ↦ inl (l.0, record { steps = h.steps; leads = l.1; ends = ends h.steps inner l.0 h.ends })
+        | inr l ↦ inr (record { steps = h.steps; leads = l; ends = h.ends })
+      ]
+    where
+      ends : (steps : ℕ) (inner : List ℕ) → inner ≡ pod → ((steps ≡ step_limit) ⊎ IsInnermost inner) →
+          (steps ≡ step_limit) ⊎ IsInnermost (pod ++ more)
+      ends steps inner is (inl e) = inl e
+      ends steps inner is (inr i) = inr (innermost_longer (subst IsInnermost is i))
+  leads_by Lenient path inner h = inl (h.1, (h.0, refl))
+
+  pub refusal_longer : (reading : Reading) (r : Refusal) → IsRefusalOf reading pod r → IsRefusalOf reading (pod ++ more) r
+  refusal_longer reading r h =
+      elim (leads_by reading (string_bytes r.path) h.inner h.path) [
         | inl l ↦
-            let u = unread_longer h.cause (subst (λ z. IsUnreadFor Exact z h.cause) l.0 h.its) in
+            let u = unread_longer reading h.cause (subst (λ z. IsUnreadFor reading z h.cause) l.0 h.its) in
             record {
               type = h.type ∙ sym name_longer;
-              nothing = refused_longer h.nothing;
+              nothing = nothing_longer reading h.nothing;
               inner = pod ++ more;
-              path = record { steps = h.path.steps; leads = l.1; ends = ends h.path.steps h.inner l.0 h.path.ends };
+              path = l.1;
               inner_type = h.inner_type ∙ ap type_name l.0 ∙ sym name_longer;
               cause = u.0;
               its = u.1;
@@ -224,9 +278,9 @@ module _ (pod more : List ℕ) (f : HasFront pod) where
         | inr l ↦
             record {
               type = h.type ∙ sym name_longer;
-              nothing = refused_longer h.nothing;
+              nothing = nothing_longer reading h.nothing;
               inner = h.inner;
-              path = record { steps = h.path.steps; leads = l; ends = h.path.ends };
+              path = l;
               inner_type = h.inner_type;
               cause = h.cause;
               its = h.its;
@@ -236,17 +290,12 @@ module _ (pod more : List ℕ) (f : HasFront pod) where
               cut = cut_longer r.place r.cut h.cut;
             }
       ]
-    where
-      ends : (steps : ℕ) (inner : List ℕ) → inner ≡ pod → ((steps ≡ step_limit) ⊎ IsInnermost inner) →
-          (steps ≡ step_limit) ⊎ IsInnermost (pod ++ more)
-      ends steps inner is (inl e) = inl e
-      ends steps inner is (inr i) = inr (innermost_longer (subst IsInnermost is i))
 
 -- what is said of a pod, of which at least the whole was read, or all that is left
 refusal_ahead : (left read unread : List ℕ) (r : Refusal) → left ≡ read ++ unread →
     ((HasFront read × ⊤) ⊎ (¬ (HasFront read) × (unread ≡ []))) → IsRefusalOf Exact read r → IsRefusalOf Exact left r
 refusal_ahead left read unread r e (inl w) h =
-    subst (λ z. IsRefusalOf Exact z r) (sym e) (refusal_longer read unread w.0 r h)
+    subst (λ z. IsRefusalOf Exact z r) (sym e) (refusal_longer read unread w.0 Exact r h)
 refusal_ahead left read unread r e (inr w) h =
     subst (λ z. IsRefusalOf Exact z r) (sym (e ∙ ap (λ z. read ++ z) w.1 ∙ append-nil read)) h
 

@@ -1,8 +1,8 @@
 -- What a parse found, as a request.
-use Rattle.std.proofs.Common.{◌≡◌, ◌∙◌, ◌∷◌, ◌++◌, [], inl, inr, ap, ap₂, refl, sym, subst, arith, length, List, Option, Some, None, true, true≢false}
+use Rattle.std.proofs.Common.{◌≡◌, ◌∙◌, ◌∷◌, ◌++◌, [], inl, inr, ap, ap₂, refl, sym, subst, arith, length, Bool, codes, List, Option, Some, None, true, true≢false}
 use Rattle.std.specs.Prelude.{Box, is_some, map, option_map, unwrap_or}
 use Rattle.std.specs.Borrow.{Bor}
-use Rattle.std.specs.Prelude.{Result, Ok, Err, IfErr}
+use Rattle.std.specs.Prelude.{Result, Ok, Err, IfErr, IfOk}
 use Rattle.std.specs.Result.{IsErrAnd}
 use Rattle.std.specs.Box.{box_value}
 use Rattle.clap.specs.Faults.{fault_of, is_simple_and_free}
@@ -12,12 +12,19 @@ use Rattle.clap.specs.declared.error.kind.ErrorKind.TheVariants.{OutOfMemory}
 use Rattle.clap.specs.Matches.{subcommand_name_of}
 use Rattle.clap.specs.Simple.{App, HasMatchesOf, is_simple, subcommand_of, subcommand_rows}
 use Rattle.clap.specs.Walk.{Row, Text}
+use Rattle.clap.specs.Words.{first_of}
 use Rattle.clap.specs.declared.error.Error.{Error}
 use Rattle.clap.specs.declared.parser.matches.ArgMatches.{ArgMatches}
 use Rattle.clap.specs.declared.parser.matches.ArgMatches.TheViews.{out-ArgMatches, out-SubCommand}
 use Rattle.clap.specs.declared.parser.matches.SubCommand.{SubCommand}
 use Rattle.pod_commands.specs.Program.{program}
-use Rattle.pod_commands.specs.Requests.{or_input}
+use Rattle.pod_commands.specs.Requests.{AreRead, AreTextsIn, AreUnread, HasNoTexts, HasTexts, ReadsAs, is_given, name_of, or_input}
+use Rattle.pod_commands.specs.declared.misuse.Misuse.{Misuse}
+use Rattle.pod_commands.specs.declared.request.Making.TheVariants.{Json, Read, Rewrite, Fixate, Check}
+use Rattle.pod_commands.specs.declared.request.Making.TheVariants as Making
+use Rattle.pod_commands.specs.declared.request.Texts.{Texts}
+use Rattle.pod_commands.specs.declared.request.Word.{Word}
+use Rattle.pod_commands.specs.declared.request.Word.TheVariants.{Print, Make, Stream, Diff, Agree}
 
 value_or : {X : Type 0} → X → Option X → X
 value_or x None = x
@@ -92,3 +99,38 @@ pushed old new x none e = ap (map (λ v. v.now)) (e ∙ ap (λ l. l ++ (x ∷ []
 pub among : (kinds : Kinds) (error : Error) → HasKind kinds error → ¬ (kind_of error ≡ OutOfMemory) → IsAmong (kind_of error) kinds
 among kinds error (inl e) some = absurd (some e)
 among kinds error (inr a) some = a
+
+-- the word reads texts so
+pub has_texts : (rows : List Row) (name : Text) (word : Word) (texts : Texts) → name ≡ name_of word → ReadsAs texts word →
+    (name ≡ codes "read" → AreTextsIn rows texts) → HasTexts rows word
+has_texts rows name (Make (Read its) manner) texts e r h = subst (AreTextsIn rows) (sym r) (h e)
+has_texts rows name (Make (Json style) manner) texts e r h = tt
+has_texts rows name (Make Rewrite manner) texts e r h = tt
+has_texts rows name (Make Fixate manner) texts e r h = tt
+has_texts rows name (Make Making.Settle manner) texts e r h = tt
+has_texts rows name (Make (Making.Print printing) manner) texts e r h = tt
+has_texts rows name (Make Check manner) texts e r h = tt
+has_texts rows name (Print printing manner) texts e r h = tt
+has_texts rows name (Stream streaming manner) texts e r h = tt
+has_texts rows name (Diff reading) texts e r h = tt
+has_texts rows name (Agree work reading) texts e r h = tt
+
+-- options are those that the rows have
+module _ (rows : List Row) (hex loose dump : Bool) (type id : Option Text) (x : hex ≡ is_given (codes "from-hex") rows)
+    (l : loose ≡ is_given (codes "loose") rows) (d : dump ≡ is_given (codes "pw-dump") rows)
+    (t : type ≡ first_of (codes "type") rows) (i : id ≡ first_of (codes "id") rows) where
+  pub texts_given : (name : Text) (r : Result Texts Misuse) → IfOk r (AreRead hex loose dump type id) → IfOk r (λ texts. name ≡ codes "read" → AreTextsIn rows texts)
+  texts_given name (Ok texts) h =
+      λ e. subst (λ b. AreRead b (is_given (codes "loose") rows) (is_given (codes "pw-dump") rows) (first_of (codes "type") rows) (first_of (codes "id") rows) texts) x
+      (subst (λ b. AreRead hex b (is_given (codes "pw-dump") rows) (first_of (codes "type") rows) (first_of (codes "id") rows) texts) l
+      (subst (λ b. AreRead hex loose b (first_of (codes "type") rows) (first_of (codes "id") rows) texts) d
+      (subst (λ o. AreRead hex loose dump o (first_of (codes "id") rows) texts) t (subst (λ o. AreRead hex loose dump type o texts) i h))))
+  texts_given name (Err why) h = tt
+
+  pub texts_wrong : (r : Result Texts Misuse) → IfErr r (AreUnread hex loose dump type id) → IfErr r (HasNoTexts rows)
+  texts_wrong (Ok texts) h = tt
+  texts_wrong (Err why) h =
+      subst (λ b. AreUnread b (is_given (codes "loose") rows) (is_given (codes "pw-dump") rows) (first_of (codes "type") rows) (first_of (codes "id") rows) why) x
+      (subst (λ b. AreUnread hex b (is_given (codes "pw-dump") rows) (first_of (codes "type") rows) (first_of (codes "id") rows) why) l
+      (subst (λ b. AreUnread hex loose b (first_of (codes "type") rows) (first_of (codes "id") rows) why) d
+      (subst (λ o. AreUnread hex loose dump o (first_of (codes "id") rows) why) t (subst (λ o. AreUnread hex loose dump type o why) i h))))

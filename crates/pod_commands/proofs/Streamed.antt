@@ -8,19 +8,23 @@ use Rattle.spa_recordings.specs.declared.reading.Reading.{Reading}
 use Rattle.spa_recordings.specs.Streaming.{EndsAtPod, MakesFirst, Stops, Streams}
 use Rattle.spa_recordings.specs.declared.streaming.Stop.{Stop}
 use Rattle.spa_recordings.specs.declared.streaming.Stop.TheVariants as stop
-use Rattle.pod_commands.specs.Answers.{Gets, Gives, IsExcluded, IsPlain, IsPrinted, IsShown, IsShownIn, IsStreamed, IsOutcome, IsUnread, IsWrittenAs, Outlet, looked_for, outlet}
+use Rattle.spa_text_commands.specs.declared.selection.Selection.{Selection}
+use Rattle.pod_commands.specs.Answers.{Gets, Gives, IsExcluded, IsShownIn, IsStreamed, IsExact, IsPassed, IsStreamedBy, IsStreamedInPart, IsOutcome, IsUnread, IsWrittenAs, Outlet, looked_for, outlet}
 use Rattle.pod_commands.specs.Inputs.{AreMade, IsKnown, IsOpened, content_of, left_behind}
 use Rattle.pod_commands.specs.Sending.{IsSent}
 use Rattle.pod_commands.specs.StreamLaws.{nothing_written}
-use Rattle.pod_commands.specs.Streaming.{EndsIn, HasNoPod, IsBroken, IsBrokenAt, IsFailureOf, IsRefusedAs, IsWritten, MayRefuse, StreamsAs}
+use Rattle.pod_commands.specs.Streaming.{EndsIn, HasNoPod, IsBroken, IsBrokenAt, IsFailureOf, IsRefusedAs, IsWritten, MayRefuse, StreamsAs, made_as}
 use Rattle.pod_commands.specs.declared.request.Printing.{Printing}
 use Rattle.pod_commands.specs.declared.answer.Failure.{Failure}
 use Rattle.pod_commands.specs.declared.answer.Failure.TheVariants.{Pods, Texts, Pair, Lists, OutOfMemory, Unread, Unwritten}
 use Rattle.pod_commands.specs.declared.answer.Answer.{Answer}
-use Rattle.pod_commands.specs.declared.answer.Answer.TheVariants.{Shown, Misused, Refused}
+use Rattle.pod_commands.specs.declared.answer.Answer.TheVariants.{Misused, Refused}
 use Rattle.pod_commands.specs.declared.misuse.Excluded.{Excluded}
 use Rattle.pod_commands.specs.declared.misuse.Misuse.TheVariants.{WithStream, WithPart}
 use Rattle.pod_commands.specs.declared.request.Fate.{Fate}
+use Rattle.pod_commands.specs.declared.request.Fate.TheVariants.{Stops as StopsThere, GoesOn}
+use Rattle.pod_commands.specs.declared.request.Making.{Making}
+use Rattle.spa_recordings.specs.declared.going_on.Refused.{Refused as OfRefused}
 use Rattle.pod_commands.specs.declared.request.Streaming.{Streaming}
 use Rattle.pod_commands.specs.declared.request.Streaming.TheVariants as streaming
 use Rattle.pod_commands.proofs.Made.{MadeSoFar}
@@ -153,7 +157,7 @@ no_pod s content old new stop.WriteFailed h = tt
 no_pod s content old new (stop.Pod number place read) h = h.ends.ahead.no_pod
 
 -- what is known of a file's bytes is known of the file
-all_of : (content remaining : Option (List ℕ)) (input : List ℕ) → IsOpened content remaining → IsAllOf remaining input → IsAllOf content input
+pub all_of : (content remaining : Option (List ℕ)) (input : List ℕ) → IsOpened content remaining → IsAllOf remaining input → IsAllOf content input
 all_of None remaining input o all = tt
 all_of (Some xs) remaining input o all = subst (λ r. IsAllOf r input) o all
 
@@ -185,22 +189,22 @@ file_broken s name content remaining old new (Err why) o b = broken_file s name 
 
 -- all was written as it came
 pub written_as : (s : Streaming) (remaining : Option (List ℕ)) (names : List (Bor (List ℕ))) (o : Outlet) (refused : ℕ) (answer : Answer) →
-    (key : Option (Bor (List ℕ))) → key ≡ looked_for s → IsOutcome key refused answer →
+    (sought : Option Selection) → sought ≡ looked_for s → IsOutcome sought refused answer →
     Gives (λ out. AreMade (StreamsAs s) remaining o.before names out refused) o → IsWrittenAs s answer remaining names o
-written_as s remaining names o refused answer key looks (inl e) w =
+written_as s remaining names o refused answer sought looks (inl e) w =
     subst (λ a. IsWrittenAs s a remaining names o) (sym e.1) (subst (λ n. Gives (λ out. AreMade (StreamsAs s) remaining o.before names out n) o) e.0 w)
-written_as s remaining names o refused answer key looks (inr (inl e)) w = subst (λ a. IsWrittenAs s a remaining names o) (sym e.1) (e.0, w)
-written_as s remaining names o refused answer key looks (inr (inr e)) w =
+written_as s remaining names o refused answer sought looks (inr (inl e)) w = subst (λ a. IsWrittenAs s a remaining names o) (sym e.1) (e.0, w)
+written_as s remaining names o refused answer sought looks (inr (inr e)) w =
     subst (λ a. IsWrittenAs s a remaining names o) (sym e.3)
     (sym looks ∙ e.2, subst (λ n. Gives (λ out. AreMade (StreamsAs s) remaining o.before names out n) o) e.1 w)
 
 pub all_written : (s : Streaming) (target : Option (Bor (List ℕ))) (remaining : Option (List ℕ)) (holds : List ℕ → Option (List ℕ))
     (names : List (Bor (List ℕ))) (old new : Option (List ℕ)) (refused : ℕ) (answer : Answer) → target ≡ None →
-    (key : Option (Bor (List ℕ))) → key ≡ looked_for s → IsOutcome key refused answer →
+    (sought : Option Selection) → sought ≡ looked_for s → IsOutcome sought refused answer →
     ((out : List ℕ) × AreMade (StreamsAs s) remaining holds names out refused × Appends old new out) →
     IsWrittenAs s answer remaining names (outlet target old new holds holds)
-all_written s target remaining holds names old new refused answer none key looks is w =
-    written_as s remaining names (outlet target old new holds holds) refused answer key looks is
+all_written s target remaining holds names old new refused answer none sought looks is w =
+    written_as s remaining names (outlet target old new holds holds) refused answer sought looks is
     (w.0, w.1, subst (λ t. Gets t (outlet t old new holds holds) w.0) (sym none) (w.2, λ name. refl))
 
 pub part_written : (s : Streaming) (target : Option (Bor (List ℕ))) (remaining : Option (List ℕ)) (holds : List ℕ → Option (List ℕ))
@@ -208,37 +212,58 @@ pub part_written : (s : Streaming) (target : Option (Bor (List ℕ))) (remaining
     IsWrittenAs s (Refused why) remaining names (outlet target old new holds holds)
 part_written s target remaining holds names old new why b = (b, λ name. refl)
 
--- other options are misuse
+-- an option that `--stream` excludes is misuse
 pub misused : (s : Streaming) (reading : Reading) (fate : Fate) (target : Option (Bor (List ℕ))) (remaining : Option (List ℕ))
     (holds : List ℕ → Option (List ℕ)) (names : List (Bor (List ℕ))) (old : Option (List ℕ)) (other : Excluded) →
     IsExcluded reading fate target other → IsStreamed s reading fate (Misused (WithStream other)) remaining names (outlet target old old holds holds)
 misused s reading fate target remaining holds names old other e = inr (other, e, (refl, untouched target old holds))
 
--- without them it is done
+-- without one it is done
 pub streamed : (s : Streaming) (reading : Reading) (fate : Fate) (target : Option (Bor (List ℕ))) (answer : Answer) (remaining : Option (List ℕ))
-    (names : List (Bor (List ℕ))) (old new : Option (List ℕ)) (before after : List ℕ → Option (List ℕ)) → IsPlain reading fate target →
-    IsWrittenAs s answer remaining names (outlet target old new before after) →
+    (names : List (Bor (List ℕ))) (old new : Option (List ℕ)) (before after : List ℕ → Option (List ℕ)) → target ≡ None →
+    IsStreamedBy s reading fate answer remaining names (outlet target old new before after) →
     IsStreamed s reading fate answer remaining names (outlet target old new before after)
-streamed s reading fate target answer remaining names old new before after p w = inl (p, w)
+streamed s reading fate target answer remaining names old new before after t w = inl (t, w)
+
+-- where refused pods are refused, inputs are read exactly
+pub stopped_by : (s : Streaming) (reading : Reading) (fate : Fate) (answer : Answer) (remaining : Option (List ℕ)) (names : List (Bor (List ℕ))) (o : Outlet) →
+    fate ≡ StopsThere → IsExact reading fate → IsWrittenAs s answer remaining names o → IsStreamedBy s reading fate answer remaining names o
+stopped_by s reading fate answer remaining names o e plain w =
+    subst (λ z. IsStreamedBy s reading z answer remaining names o) (sym e) (subst (IsExact reading) e plain, w)
+
+-- else pods are worked on, or the options exclude each other
+pub passed_by : (s : Streaming) (reading : Reading) (fate : Fate) (refused : OfRefused) (making : Making) (answer : Answer) (remaining : Option (List ℕ))
+    (names : List (Bor (List ℕ))) (o : Outlet) → fate ≡ GoesOn refused → Some making ≡ made_as s →
+    IsStreamedInPart reading refused making answer remaining names o → IsStreamedBy s reading fate answer remaining names o
+passed_by s reading fate refused making answer remaining names o e m w =
+    subst (λ z. IsStreamedBy s reading z answer remaining names o) (sym e) (subst (λ z. IsPassed z reading refused answer remaining names o) m w)
+
+pub parts_by : (s : Streaming) (reading : Reading) (fate : Fate) (refused : OfRefused) (target : Option (Bor (List ℕ))) (remaining : Option (List ℕ))
+    (holds : List ℕ → Option (List ℕ)) (names : List (Bor (List ℕ))) (old : Option (List ℕ)) → fate ≡ GoesOn refused → None ≡ made_as s →
+    IsStreamedBy s reading fate (Misused (WithPart refused)) remaining names (outlet target old old holds holds)
+parts_by s reading fate refused target remaining holds names old e m =
+    subst (λ z. IsStreamedBy s reading z (Misused (WithPart refused)) remaining names (outlet target old old holds holds)) (sym e)
+    (subst (λ z. IsPassed z reading refused (Misused (WithPart refused)) remaining names (outlet target old old holds holds)) m
+    (refl, untouched target old holds))
 
 -- ---- Lines that go to a file
 
 -- the lines of all went to the file, or that couldn't be written
 pub shown_in : (printing : Printing) (remaining : Option (List ℕ)) (names : List (Bor (List ℕ))) (o : Outlet) (lines out : List ℕ) (refused : ℕ) (given answer : Answer) →
-    (key : Option (Bor (List ℕ))) → key ≡ looked_for (streaming.Print printing) → IsOutcome key refused given →
+    (sought : Option Selection) → sought ≡ looked_for (streaming.Print printing) → IsOutcome sought refused given →
     AreMade (StreamsAs (streaming.Print printing)) remaining o.before names out refused → Appends (Some []) (Some lines) out → IsSent lines given answer o →
     IsShownIn printing answer remaining names o
-shown_in printing remaining names o lines out refused given answer key looks (inl e) made is (inl k) =
+shown_in printing remaining names o lines out refused given answer sought looks (inl e) made is (inl k) =
     subst (λ a. IsShownIn printing a remaining names o) (sym (k.0 ∙ e.1))
     (out, subst (AreMade (StreamsAs (streaming.Print printing)) remaining o.before names out) e.0 made, subst (Gets o.target o) is k.1)
-shown_in printing remaining names o lines out refused given answer key looks (inr (inl e)) made is (inl k) =
+shown_in printing remaining names o lines out refused given answer sought looks (inr (inl e)) made is (inl k) =
     subst (λ a. IsShownIn printing a remaining names o) (sym (k.0 ∙ e.1)) (e.0, (out, made, subst (Gets o.target o) is k.1))
-shown_in printing remaining names o lines out refused given answer key looks (inr (inr e)) made is (inl k) =
+shown_in printing remaining names o lines out refused given answer sought looks (inr (inr e)) made is (inl k) =
     subst (λ a. IsShownIn printing a remaining names o) (sym (k.0 ∙ e.3)) (
       sym looks ∙ e.2,
       (out, subst (AreMade (StreamsAs (streaming.Print printing)) remaining o.before names out) e.1 made, subst (Gets o.target o) is k.1),
     )
-shown_in printing remaining names o lines out refused given answer key looks e made is (inr k) =
+shown_in printing remaining names o lines out refused given answer sought looks e made is (inr k) =
     subst (λ a. IsShownIn printing a remaining names o) (sym k.1) (inr (k.2, (lines, (refused, subst (λ z. AreMade (StreamsAs (streaming.Print printing)) remaining o.before names z refused) (sym is) made), k.3)))
 
 -- not all inputs are shown

@@ -14,13 +14,14 @@ use Rattle.clap.specs.declared.error.kind.ErrorKind.TheVariants as kind
 use Rattle.spa_device.specs.Whole.{IsAllOf}
 use Rattle.spa_recordings.specs.declared.going_on.Refused.{Refused as OfRefused}
 use Rattle.spa_recordings.specs.declared.reading.Reading.{Reading}
-use Rattle.spa_recordings.specs.declared.going_on.Refused.TheVariants.{LeftOut, Kept}
 use Rattle.spa_recordings.specs.declared.reading.Reading.TheVariants.{Exact, Lenient}
 use Rattle.spa_refusals.specs.Refusals.{refusal_text}
 use Rattle.spa_refusals.specs.declared.several.NamedRefusal.{NamedRefusal}
 use Rattle.spa_text_read.specs.Letters.{shown_text}
 use Rattle.spa_text_commands.specs.Answers as text
 use Rattle.spa_text_commands.specs.Differences.{Differ, SayTheSame}
+use Rattle.spa_text_commands.specs.Selection.{looks_inside}
+use Rattle.spa_text_commands.specs.declared.selection.Selection.{Selection}
 use Rattle.spa_meet_commands.specs.Answers as meet
 use Rattle.spa_meet_commands.specs.Lists.{AreListsRefused, ListsGive}
 use Rattle.spa_meet_commands.specs.declared.answer.Failure.{Failure as MeetFailure}
@@ -29,7 +30,7 @@ use Rattle.pod_commands.specs.Inputs.{AreMade, OfOne, OfTwo, StopsAt, left_behin
 use Rattle.pod_commands.specs.Making.{AreNoPods, IsNotRead, MakesAll, RefusesBy}
 use Rattle.pod_commands.specs.Program.{program}
 use Rattle.pod_commands.specs.Requests.{Asks, AsksNothing, dash, file_of, fills_terminal}
-use Rattle.pod_commands.specs.Streaming.{EndsIn, IsBroken, StreamsAs}
+use Rattle.pod_commands.specs.Streaming.{EndsIn, IsBroken, IsBrokenInPart, StreamsAs, made_as}
 use Rattle.pod_commands.specs.Working.{AreWorked}
 use Rattle.pod_commands.specs.declared.answer.Answer.{Answer}
 use Rattle.pod_commands.specs.declared.answer.Answer.TheVariants.{Done, Differs, Passed, Shown, Missing, Refused, Misused, Said}
@@ -92,7 +93,7 @@ OnAnswer Differs IfDone IfDiffers IfRefused = IfDiffers
 OnAnswer (Refused why) IfDone IfDiffers IfRefused = IfRefused why
 OnAnswer (Passed pods) IfDone IfDiffers IfRefused = ⊥
 OnAnswer (Shown refused) IfDone IfDiffers IfRefused = ⊥
-OnAnswer (Missing name) IfDone IfDiffers IfRefused = ⊥
+OnAnswer (Missing selection) IfDone IfDiffers IfRefused = ⊥
 OnAnswer (Misused misuse) IfDone IfDiffers IfRefused = ⊥
 OnAnswer (Said error) IfDone IfDiffers IfRefused = ⊥
 
@@ -156,15 +157,9 @@ AreTwoApart work reading remaining holds n m why =
     ⊎ ((x : Bor (List ℕ)) × (y : Bor (List ℕ)) × (e : MeetFailure) × (why ≡ Lists x y e) × (x.now ≡ n) × (y.now ≡ m)
     × OfTwo reading remaining holds n m (AreListsRefused work e))
 
--- pods that are read exactly and refused whole, and no file that is written
-abbrev pub IsPlain : Reading → Fate → Option (Bor (List ℕ)) → Type 0
-IsPlain reading fate target = (reading ≡ Exact) × (fate ≡ Stops) × (target ≡ None)
-
 -- `--stream` excludes this option, which is given
 abbrev pub IsExcluded : Reading → Fate → Option (Bor (List ℕ)) → Excluded → Type 0
-IsExcluded reading fate target excluded.Lenient = reading ≡ Lenient
-IsExcluded reading fate target excluded.KeepGoing = fate ≡ GoesOn LeftOut
-IsExcluded reading fate target excluded.KeepRefused = fate ≡ GoesOn Kept
+IsExcluded reading fate target excluded.Lenient = (reading ≡ Lenient) × (fate ≡ Stops)
 IsExcluded reading fate target excluded.Output = ¬ (target ≡ None)
 
 -- what is wrong with another number of inputs than a word takes
@@ -244,34 +239,58 @@ IsMadeBy reading (GoesOn refused) making answer remaining names o = IsMadeInPart
 
 -- what it says of work that is written as inputs come: all was written, of which no pod is refused, or so many of those that are shown; or what was
 -- made till the work ended
--- the name of the keys under which values are looked for
-abbrev pub looked_for : Streaming → Option (Bor (List ℕ))
+-- what is looked for inside pods, if something is
+abbrev pub sought_in : Selection → Option Selection
+sought_in selection = if looks_inside selection then Some selection else None
+
+abbrev pub looked_for : Streaming → Option Selection
 looked_for (streaming.Json style) = None
 looked_for streaming.Rewrite = None
-looked_for (streaming.Print printing) = printing.printout.selection.key
+looked_for (streaming.Print printing) = sought_in printing.printout.selection
 looked_for streaming.Check = None
 
 abbrev pub IsWrittenAs : Streaming → Answer → (remaining : Option (List ℕ)) → List (Bor (List ℕ)) → Outlet → Type 0
 IsWrittenAs streaming Done remaining names o = Gives (λ out. AreMade (StreamsAs streaming) remaining o.before names out 0) o
 IsWrittenAs streaming (Shown refused) remaining names o =
     (refused ≢ 0) × Gives (λ out. AreMade (StreamsAs streaming) remaining o.before names out refused) o
-IsWrittenAs streaming (Missing name) remaining names o =
-    (looked_for streaming ≡ Some name) × Gives (λ out. AreMade (StreamsAs streaming) remaining o.before names out 0) o
+IsWrittenAs streaming (Missing selection) remaining names o =
+    (looked_for streaming ≡ Some selection) × Gives (λ out. AreMade (StreamsAs streaming) remaining o.before names out 0) o
 IsWrittenAs streaming (Refused why) remaining names o = IsBroken streaming remaining o.before names o.old o.new why × KeepsFiles o
 IsWrittenAs streaming _ remaining names o = ⊥
 
--- The answer where all is printed, and so many of the printed pods are refused: where none is and a key was looked for, it may be that no value was
--- found. Only private clauses cite it.
-abbrev pub IsOutcome : Option (Bor (List ℕ)) → ℕ → Answer → Type 0
-IsOutcome key refused answer =
+-- The answer where all is printed, and so many of the printed pods are refused: where none is and something was looked for, it may be that this
+-- wasn't found. Only private clauses cite it.
+abbrev pub IsOutcome : Option Selection → ℕ → Answer → Type 0
+IsOutcome sought refused answer =
     ((refused ≡ 0) × (answer ≡ Done)) ⊎ ((refused ≢ 0) × (answer ≡ Shown refused))
-    ⊎ ((name : Bor (List ℕ)) × (refused ≡ 0) × (key ≡ Some name) × (answer ≡ Missing name))
+    ⊎ ((selection : Selection) × (refused ≡ 0) × (sought ≡ Some selection) × (answer ≡ Missing selection))
 
--- what it says of that where other options may be given: one of these, or a file to write, is misuse
+-- what it says of work on inputs as they come that goes on behind refused pods: what it says without `--stream`, but that where the work ends before an
+-- input does, what was made till then was written
+abbrev pub IsStreamedInPart : Reading → OfRefused → Making → Answer → (remaining : Option (List ℕ)) → List (Bor (List ℕ)) → Outlet → Type 0
+IsStreamedInPart reading refused making (Refused why) remaining names o =
+    IsBrokenInPart reading refused making remaining o.before names o.old o.new why × KeepsFiles o
+IsStreamedInPart reading refused making answer remaining names o = IsMadeInPart reading refused making answer remaining names o
+
+-- what it says of that where refused pods are left out or kept, which is misuse where parts of inputs are printed
+abbrev pub IsPassed : Option Making → Reading → OfRefused → Answer → (remaining : Option (List ℕ)) → List (Bor (List ℕ)) → Outlet → Type 0
+IsPassed None reading refused answer remaining names o = IsMisuse (WithPart refused) answer o
+IsPassed (Some making) reading refused answer remaining names o = IsStreamedInPart reading refused making answer remaining names o
+
+abbrev pub IsStreamedBy : Streaming → Reading → Fate → Answer → (remaining : Option (List ℕ)) → List (Bor (List ℕ)) → Outlet → Type 0
+IsStreamedBy streaming reading Stops answer remaining names o = (reading ≡ Exact) × IsWrittenAs streaming answer remaining names o
+IsStreamedBy streaming reading (GoesOn refused) answer remaining names o = IsPassed (made_as streaming) reading refused answer remaining names o
+
+-- what it says of that where other options may be given: one that `--stream` excludes is misuse
 abbrev pub IsStreamed : Streaming → Reading → Fate → Answer → (remaining : Option (List ℕ)) → List (Bor (List ℕ)) → Outlet → Type 0
 IsStreamed streaming reading fate answer remaining names o =
-    (IsPlain reading fate o.target × IsWrittenAs streaming answer remaining names o)
+    ((o.target ≡ None) × IsStreamedBy streaming reading fate answer remaining names o)
     ⊎ ((other : Excluded) × IsExcluded reading fate o.target other × IsMisuse (WithStream other) answer o)
+
+-- input that comes is read leniently only where refused pods are left out or kept; only private clauses cite it
+abbrev pub IsExact : Reading → Fate → Type 0
+IsExact reading Stops = reading ≡ Exact
+IsExact reading (GoesOn refused) = ⊤
 
 -- why not all inputs are printed in a file: the work stops at one of them, or memory for what is printed ran out
 abbrev pub AreUnshown : Printing → (remaining : Option (List ℕ)) → (holds : List ℕ → Option (List ℕ)) → List (Bor (List ℕ)) → Failure → Type 0
@@ -284,8 +303,8 @@ abbrev pub IsShownIn : Printing → Answer → (remaining : Option (List ℕ)) �
 IsShownIn printing Done remaining names o = Gives (λ out. AreMade (StreamsAs (streaming.Print printing)) remaining o.before names out 0) o
 IsShownIn printing (Shown refused) remaining names o =
     (refused ≢ 0) × Gives (λ out. AreMade (StreamsAs (streaming.Print printing)) remaining o.before names out refused) o
-IsShownIn printing (Missing name) remaining names o =
-    (printing.printout.selection.key ≡ Some name) × Gives (λ out. AreMade (StreamsAs (streaming.Print printing)) remaining o.before names out 0) o
+IsShownIn printing (Missing selection) remaining names o =
+    (sought_in printing.printout.selection ≡ Some selection) × Gives (λ out. AreMade (StreamsAs (streaming.Print printing)) remaining o.before names out 0) o
 IsShownIn printing (Refused why) remaining names o =
     Refuses (λ out. (refused : ℕ) × AreMade (StreamsAs (streaming.Print printing)) remaining o.before names out refused)
     (AreUnshown printing remaining o.before names) o why
@@ -296,10 +315,10 @@ abbrev pub IsShown : Printing → Option (Bor (List ℕ)) → Answer → (remain
 IsShown printing None answer remaining names o = IsWrittenAs (streaming.Print printing) answer remaining names o
 IsShown printing (Some name) answer remaining names o = IsShownIn printing answer remaining names o
 
--- inputs are read leniently, and printed as pods of which none is refused; where no value is under the key, it may say so
+-- inputs are read leniently, and printed as pods of which none is refused; where nothing that is looked for is there, it may say so
 abbrev pub IsPrintedLeniently : Printing → Answer → (remaining : Option (List ℕ)) → List (Bor (List ℕ)) → Outlet → Type 0
-IsPrintedLeniently printing (Missing name) remaining names o =
-    (printing.printout.selection.key ≡ Some name) × Gives (λ out. AreMade (MakesAll Lenient (making.Print printing)) remaining o.before names out 0) o
+IsPrintedLeniently printing (Missing selection) remaining names o =
+    (sought_in printing.printout.selection ≡ Some selection) × Gives (λ out. AreMade (MakesAll Lenient (making.Print printing)) remaining o.before names out 0) o
 IsPrintedLeniently printing answer remaining names o = IsMadeWhole Lenient (making.Print printing) answer remaining names o
 
 -- what it says of inputs that are read so and printed
@@ -307,15 +326,10 @@ abbrev pub IsPrintedAs : Reading → Printing → Answer → (remaining : Option
 IsPrintedAs Exact printing answer remaining names o = IsShown printing o.target answer remaining names o
 IsPrintedAs Lenient printing answer remaining names o = IsPrintedLeniently printing answer remaining names o
 
--- the option by which this becomes of refused pods
-abbrev pub option_of : OfRefused → Excluded
-option_of LeftOut = excluded.KeepGoing
-option_of Kept = excluded.KeepRefused
-
 -- what it says of that where another option may be given: with one for refused pods it is misuse
 abbrev pub IsPrinted : Printing → Reading → Fate → Answer → (remaining : Option (List ℕ)) → List (Bor (List ℕ)) → Outlet → Type 0
 IsPrinted printing reading Stops answer remaining names o = IsPrintedAs reading printing answer remaining names o
-IsPrinted printing reading (GoesOn refused) answer remaining names o = IsMisuse (WithPart (option_of refused)) answer o
+IsPrinted printing reading (GoesOn refused) answer remaining names o = IsMisuse (WithPart refused) answer o
 
 -- what it says of a word's work on inputs of these names, where this is left of the standard input
 abbrev pub IsDone : Word → Answer → (remaining : Option (List ℕ)) → List (Bor (List ℕ)) → Outlet → Type 0
@@ -354,7 +368,7 @@ status_of Done = 0
 status_of Differs = 1
 status_of (Passed pods) = 1
 status_of (Shown refused) = 1
-status_of (Missing name) = 1
+status_of (Missing selection) = 1
 status_of (Refused why) = 1
 status_of (Misused why) = 2
 status_of (Said error) = status_of_kind (kind_of error)
@@ -390,9 +404,21 @@ lines_of_pods (pod ∷ pods) = line_of_pod pod ++ lines_of_pods pods
 abbrev pub count_line : ℕ → List ℕ
 count_line n = codes "pod: refused pods: " ++ (decimal n ++ 10 ∷ [])
 
--- the line that is written where no value is under a key of this name
-abbrev pub missing_line : List ℕ → List ℕ
-missing_line name = codes "pod: no value has the key '" ++ (name ++ (codes "'" ++ 10 ∷ []))
+-- what is said of the objects that are looked for, by the names of their types and their ids
+abbrev pub objects_text : (type id : Option (Bor (List ℕ))) → List ℕ
+objects_text (Some type) (Some id) = codes "the type '" ++ (type.now ++ (codes "' and the id '" ++ (id.now ++ codes "'")))
+objects_text (Some type) None = codes "the type '" ++ (type.now ++ codes "'")
+objects_text None (Some id) = codes "the id '" ++ (id.now ++ codes "'")
+objects_text None None = []
+
+-- the line that is written where what is looked for isn't there
+abbrev pub missing_text : (key type id : Option (Bor (List ℕ))) → List ℕ
+missing_text (Some key) None None = codes "value has the key '" ++ (key.now ++ codes "'")
+missing_text (Some key) type id = codes "value has the key '" ++ (key.now ++ (codes "' in an object with " ++ objects_text type id))
+missing_text None type id = codes "object has " ++ objects_text type id
+
+abbrev pub missing_line : Selection → List ℕ
+missing_line s = codes "pod: no " ++ (missing_text s.key s.type_ s.id ++ 10 ∷ [])
 
 -- the line that is written of a refusal
 abbrev pub line_of : Failure → List ℕ

@@ -4,6 +4,7 @@ pub mod Colours
 pub mod Inputs
 pub mod Making
 pub mod Misuses
+pub mod Passing
 pub mod Program
 pub mod Requests
 pub mod Sending

@@ -2,25 +2,38 @@
 use Rattle.std.specs.Prelude.{⊤, ◌≡◌, ℕ, List, []}
 use Rattle.spa_format.specs.Pod.{AreMembers}
 use Rattle.spa_format.specs.Tree.{Trees}
+use Rattle.spa_meet_commands.specs.Settling.{SettlesAll}
 use Rattle.spa_pod_commands.specs.Answers.{Fixates, Rewrites}
 use Rattle.spa_recordings.specs.GoingOn.{MakesOf}
 use Rattle.spa_recordings.specs.declared.reading.Reading.{Reading}
 use Rattle.spa_recordings.specs.declared.reading.Reading.TheVariants.{Exact, Lenient}
 use Rattle.spa_refusals.specs.Refusals.{IsFirstRefusal}
+use Rattle.spa_text_commands.specs.Hexadecimal.{ReadsHexadecimal, RefusesHexadecimal}
 use Rattle.spa_text_commands.specs.Texts.{ReadsTexts, RefusesTexts}
-use Rattle.spa_text_read.specs.declared.fitting.Strictness.{Strictness}
+use Rattle.spa_text_forms.specs.declared.form.Form.{Form}
+use Rattle.spa_text_forms.specs.declared.form.Form.TheVariants as form
 use Rattle.pod_commands.specs.Colours.{PrintsIn, ShowsIn}
 use Rattle.pod_commands.specs.declared.request.Making.{Making}
-use Rattle.pod_commands.specs.declared.request.Making.TheVariants.{Json, Read, Rewrite, Fixate, Print, Check}
+use Rattle.pod_commands.specs.declared.request.Making.TheVariants.{Json, Read, Rewrite, Fixate, Settle, Print, Check}
+use Rattle.pod_commands.specs.declared.request.Texts.{Texts as OfTexts}
+use Rattle.pod_commands.specs.declared.request.Texts.TheVariants.{Named, Dump, Hex}
 use Rattle.pod_commands.specs.declared.answer.Failure.{Failure}
-use Rattle.pod_commands.specs.declared.answer.Failure.TheVariants.{Pods, Texts, OutOfMemory}
+use Rattle.pod_commands.specs.declared.answer.Failure.TheVariants.{Pods, OutOfMemory}
+use Rattle.pod_commands.specs.declared.answer.Failure.TheVariants as failure
+
+-- the pods of the texts of an input, read so, or the bytes that it has in hexadecimal
+abbrev pub Reads : OfTexts → (input out : List ℕ) → Type 0
+Reads (Named strictness) input out = ReadsTexts (form.Named strictness) input out
+Reads (Dump type id) input out = ReadsTexts (form.Dump type id) input out
+Reads Hex input out = ReadsHexadecimal input out
 
 -- what is made of an input; of one that is checked nothing
 abbrev pub Makes : Making → (input out : List ℕ) → Type 0
 Makes (Json style) input out = PrintsIn style input out
-Makes (Read strictness) input out = ReadsTexts strictness input out
+Makes (Read texts) input out = Reads texts input out
 Makes Rewrite input out = Rewrites input out
 Makes Fixate input out = Fixates input out
+Makes Settle input out = SettlesAll input out
 Makes (Print printing) input out = ShowsIn printing 0 0 input out 0
 Makes Check input out = (out ≡ []) × ((vs : Trees) × AreMembers vs input)
 
@@ -40,16 +53,27 @@ IsNotRead Exact name input why = ⊥
 IsNotRead Lenient name input why = AreNoPods Lenient name input why
 
 -- an input of this name, read so, has to consist of texts, and is refused so
-abbrev pub AreNoTexts : Strictness → (name input : List ℕ) → Failure → Type 0
-AreNoTexts strictness name input (Texts n why) = (n.now ≡ name) × RefusesTexts strictness input why
-AreNoTexts strictness name input _ = ⊥
+abbrev pub AreNoTexts : Form → (name input : List ℕ) → Failure → Type 0
+AreNoTexts f name input (failure.Texts n why) = (n.now ≡ name) × RefusesTexts f input why
+AreNoTexts f name input _ = ⊥
+
+-- an input of this name has to be written in hexadecimal, and is refused so
+abbrev pub IsNoHexadecimal : (name input : List ℕ) → Failure → Type 0
+IsNoHexadecimal name input (failure.Texts n why) = (n.now ≡ name) × RefusesHexadecimal input why
+IsNoHexadecimal name input _ = ⊥
+
+abbrev pub AreUnread : OfTexts → (name input : List ℕ) → Failure → Type 0
+AreUnread (Named strictness) name input why = AreNoTexts (form.Named strictness) name input why
+AreUnread (Dump type id) name input why = AreNoTexts (form.Dump type id) name input why
+AreUnread Hex name input why = IsNoHexadecimal name input why
 
 -- what an input of this name is refused for
 abbrev pub RefusesIn : Making → (name input : List ℕ) → Failure → Type 0
 RefusesIn (Json style) name input why = AreNoPods Exact name input why
-RefusesIn (Read strictness) name input why = AreNoTexts strictness name input why
+RefusesIn (Read texts) name input why = AreUnread texts name input why
 RefusesIn Rewrite name input why = AreNoPods Exact name input why
 RefusesIn Fixate name input why = AreNoPods Exact name input why
+RefusesIn Settle name input why = AreNoPods Exact name input why
 RefusesIn (Print printing) name input why = AreNoPods Exact name input why
 RefusesIn Check name input why = AreNoPods Exact name input why
 

@@ -1,44 +1,67 @@
 -- What is said of a wrong command line.
 use Rattle.std.specs.Prelude.{ℕ, List, [], ◌∷◌, ◌++◌, Option, None, Some, codes}
 use Rattle.std.specs.Borrow.{Bor}
+use Rattle.spa_recordings.specs.declared.going_on.Refused.{Refused}
+use Rattle.spa_recordings.specs.declared.going_on.Refused.TheVariants.{LeftOut, Kept}
+use Rattle.spa_text_commands.specs.declared.naming.Named.{Named}
+use Rattle.spa_text_commands.specs.declared.naming.Named.TheVariants.{Types, Ids, Keys}
 use Rattle.spa_text_read.specs.Letters.{shown_text}
 use Rattle.pod_commands.specs.declared.misuse.Excluded.{Excluded}
-use Rattle.pod_commands.specs.declared.misuse.Excluded.TheVariants.{Lenient, KeepGoing, KeepRefused, Output}
+use Rattle.pod_commands.specs.declared.misuse.Excluded.TheVariants.{Lenient, Output}
 use Rattle.pod_commands.specs.declared.misuse.Misuse.{Misuse}
-use Rattle.pod_commands.specs.declared.misuse.Misuse.TheVariants.{NoWord, Nth, Color, Key, TooFew, TooMany, ToTerminal, WithStream, WithPart}
+use Rattle.pod_commands.specs.declared.misuse.Misuse.TheVariants.{NoWord, Nth, Color, Name, TooFew, TooMany, ToTerminal, WithStream, WithPart, Read}
+use Rattle.pod_commands.specs.declared.misuse.OfRead.{OfRead}
+use Rattle.pod_commands.specs.declared.misuse.OfRead.TheVariants.{TypeName, IdName, DumpAlone, HexDump, WithoutDump, LooseDump}
 
 abbrev pub excluded_text : Excluded → List ℕ
 excluded_text Lenient = codes "--lenient"
-excluded_text KeepGoing = codes "--keep-going"
-excluded_text KeepRefused = codes "--keep-refused"
 excluded_text Output = codes "--output"
 
 -- why `--stream` excludes it
 abbrev pub stream_reason : Excluded → List ℕ
-stream_reason Lenient = codes "an input is held whole for that"
-stream_reason KeepGoing = codes "the list of refused pods grows with the input"
-stream_reason KeepRefused = codes "the list of refused pods grows with the input"
+stream_reason Lenient = codes "an input is held whole for that, but by rewrite and json with --keep-going"
 stream_reason Output = codes "it writes as input comes, and a file is written at the end"
+
+-- what has a name, which is also the option for it
+abbrev pub word_of : Named → List ℕ
+word_of Types = codes "type"
+word_of Ids = codes "id"
+word_of Keys = codes "key"
+
+-- the option by which this becomes of refused pods
+abbrev pub option_of : Refused → List ℕ
+option_of LeftOut = codes "--keep-going"
+option_of Kept = codes "--keep-refused"
 
 -- a name that is nearly the one that was given
 abbrev pub similar_text : Option (Bor (List ℕ)) → List ℕ
 similar_text None = []
 similar_text (Some name) = codes "; one has '" ++ (name.now ++ codes "'")
 
+-- what is said of wrong options of `read`
+abbrev pub read_text : OfRead → List ℕ
+read_text (TypeName value) = codes "--type: no type has the name or number '" ++ (shown_text value.now ++ codes "'")
+read_text (IdName value) = codes "--id: no id of the type has the name or number '" ++ (shown_text value.now ++ codes "'")
+read_text DumpAlone = codes "--pw-dump needs --type and --id, which pw-dump doesn't print"
+read_text WithoutDump = codes "read takes --type and --id only with --pw-dump: other texts have both"
+read_text HexDump = codes "--pw-dump can't be used with --from-hex: what pw-dump prints is JSON"
+read_text LooseDump = codes "--pw-dump can't be used with --loose: the tables say what a list is"
+
 abbrev pub misuse_text : Misuse → List ℕ
 misuse_text NoWord = codes "there is no command"
 misuse_text (Nth value) = codes "--nth takes a number from 1 on, not '" ++ (shown_text value.now ++ codes "'")
 misuse_text (Color value) = codes "--color takes auto, always or never, not '" ++ (shown_text value.now ++ codes "'")
-misuse_text (Key value similar) =
-    codes "--key: no key has the name or number '" ++ (shown_text value.now ++ (codes "'" ++ similar_text similar))
+misuse_text (Name named value similar) =
+    codes "--" ++ (word_of named ++ (codes ": no " ++ (word_of named ++ (codes " has the name or number '" ++ (shown_text value.now ++ (codes "'" ++ similar_text similar))))))
+misuse_text (Read why) = read_text why
 misuse_text TooFew = codes "diff takes two FILEs"
 misuse_text (TooMany name) = codes "unexpected FILE '" ++ (shown_text name.now ++ codes "': two are the most")
 misuse_text ToTerminal =
     codes "pods are bytes, and the standard output is a terminal: -o FILE writes a file, -o - writes there all the same"
 misuse_text (WithStream other) = codes "--stream can't be used with " ++ (excluded_text other ++ (codes ": " ++ stream_reason other))
-misuse_text (WithPart other) =
-    codes "--nth, --key and --hex can't be used with "
-    ++ (excluded_text other ++ codes ": they count refused pods, too; 'pod rewrite --keep-going' leaves these out")
+misuse_text (WithPart refused) =
+    codes "--nth, --type, --id, --key and --hex can't be used with "
+    ++ (option_of refused ++ codes ": they count refused pods, too; 'pod rewrite --keep-going' leaves these out")
 
 -- the line that is written of it
 abbrev pub misuse_line : Misuse → List ℕ

@@ -16,7 +16,7 @@ output = record (new_rule (codes "output")) { short = Some 111; long = Some (cod
 abbrev pub flag : Text → Rule
 flag name = record (new_rule name) { long = Some name; action = Some SetTrue }
 
--- an option with one value, such as `--key NAME` and `--color WHEN`
+-- an option with one value, such as `--color WHEN`
 abbrev pub valued : Text → Rule
 valued name = record (new_rule name) { long = Some name; value_names = 1 }
 
@@ -43,10 +43,13 @@ over_pods app = with_rule (reading_pods app) (flag (codes "keep-going"))
 abbrev pub to_pods : Text → App
 to_pods name = with_rule (over_pods (word name)) (flag (codes "keep-refused"))
 
+-- `--type NAME,..`, `--id NAME,..` and `--key NAME,..`
+abbrev pub with_names : App → App
+with_names app = with_rule (with_rule (with_rule app (valued (codes "type"))) (valued (codes "id"))) (valued (codes "key"))
+
 -- `show` and `json` print parts of inputs, and in colours
 abbrev pub with_parts : App → App
-with_parts app =
-    with_rule (with_rule (with_rule (with_rule app nth) (valued (codes "key"))) (flag (codes "hex"))) (valued (codes "color"))
+with_parts app = with_rule (with_rule (with_names (with_rule app nth)) (flag (codes "hex"))) (valued (codes "color"))
 
 abbrev pub show : App
 show = with_rule (with_parts (reading_pods (word (codes "show")))) stream
@@ -59,9 +62,16 @@ json = with_rule (with_parts (with_rule (over_pods (word (codes "json"))) (flag 
 abbrev pub rewrite : App
 rewrite = with_rule (to_pods (codes "rewrite")) stream
 
--- `read` takes `--loose`
+-- `fixate` takes `--settle`
+abbrev pub fixate : App
+fixate = with_rule (to_pods (codes "fixate")) (flag (codes "settle"))
+
+-- `read` takes `--loose`, `--from-hex`, and `--pw-dump` with `--type NAME` and `--id NAME`
+abbrev pub with_params : App → App
+with_params app = with_rule (with_rule (with_rule app (flag (codes "pw-dump"))) (valued (codes "type"))) (valued (codes "id"))
+
 abbrev pub read : App
-read = with_rule (word (codes "read")) (flag (codes "loose"))
+read = with_params (with_rule (with_rule (word (codes "read")) (flag (codes "loose"))) (flag (codes "from-hex")))
 
 -- the program without its words: it wants one, and has a version
 abbrev pub bare : App
@@ -80,7 +90,7 @@ with_json app = with_subcommand (with_subcommand app json.top) read.top
 
 abbrev pub with_writers : App → App
 with_writers app =
-    with_subcommand (with_subcommand (with_subcommand app rewrite.top) (to_pods (codes "fixate")).top)
+    with_subcommand (with_subcommand (with_subcommand app rewrite.top) fixate.top)
     (over_pods (word (codes "check"))).top
 
 abbrev pub with_pairs : App → App

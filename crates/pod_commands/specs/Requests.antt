@@ -8,14 +8,16 @@ use Rattle.clap.specs.Words.{Row, Text, all_of, first_of, subcommand_of}
 use Rattle.clap.specs.Faults.{fault_of}
 use Rattle.pod_commands.specs.Program.{program}
 use Rattle.pod_commands.specs.declared.misuse.Misuse.{Misuse}
-use Rattle.pod_commands.specs.declared.misuse.Misuse.TheVariants.{NoWord, Nth, Color, Key}
+use Rattle.pod_commands.specs.declared.misuse.Misuse.TheVariants.{NoWord, Nth, Color, Name}
+use Rattle.pod_commands.specs.declared.misuse.Misuse.TheVariants as misuse
+use Rattle.pod_commands.specs.declared.misuse.OfRead.TheVariants as read
 use Rattle.pod_commands.specs.declared.colours.Colours.{Colours}
 use Rattle.pod_commands.specs.declared.colours.Colours.TheVariants.{Off, On}
 use Rattle.pod_commands.specs.declared.request.Fate.{Fate}
 use Rattle.pod_commands.specs.declared.request.Fate.TheVariants.{Stops, GoesOn}
 use Rattle.pod_commands.specs.declared.request.Making.{Making as OfMaking}
 use Rattle.pod_commands.specs.declared.request.Streaming.{Streaming as OfStreaming}
-use Rattle.pod_commands.specs.declared.request.Making.TheVariants.{Json, Read, Rewrite, Fixate, Check}
+use Rattle.pod_commands.specs.declared.request.Making.TheVariants.{Json, Read, Rewrite, Fixate, Settle, Check}
 use Rattle.pod_commands.specs.declared.request.Making.TheVariants as Making
 use Rattle.pod_commands.specs.declared.request.Streaming.TheVariants as Streaming
 use Rattle.pod_commands.specs.declared.request.Word.{Word}
@@ -25,14 +27,23 @@ use Rattle.pod_commands.specs.declared.request.Options.{Options}
 use Rattle.pod_commands.specs.declared.request.Printing.{Printing}
 use Rattle.pod_commands.specs.declared.request.Request.{Request}
 use Rattle.pod_commands.specs.declared.request.Style.{Style}
+use Rattle.pod_commands.specs.declared.request.Texts.{Texts}
+use Rattle.pod_commands.specs.declared.request.Texts.TheVariants.{Named, Dump, Hex}
 use Rattle.pod_commands.specs.declared.screen.Screen.{Screen}
 use Rattle.spa_recordings.specs.declared.going_on.Refused.TheVariants.{LeftOut, Kept}
 use Rattle.spa_recordings.specs.declared.reading.Reading.{Reading}
 use Rattle.spa_recordings.specs.declared.reading.Reading.TheVariants.{Exact, Lenient}
 use Rattle.spa_meet_commands.specs.declared.pair.Work.TheVariants.{Negotiate, Filter}
-use Rattle.spa_text_commands.specs.KeyNames.{HaveKeysNamed}
+use Rattle.spa_text_commands.specs.Naming.{AreNames}
+use Rattle.spa_text_commands.specs.Selection.{looks_inside}
+use Rattle.spa_text_commands.specs.declared.naming.Named.{Named as OfNames}
+use Rattle.spa_text_commands.specs.declared.naming.Named.TheVariants as named
+use Rattle.spa_text_commands.specs.declared.selection.Selection.{Selection}
 use Rattle.spa_text_commands.specs.declared.printing.Layout.{Layout}
 use Rattle.spa_text_commands.specs.declared.printing.Layout.TheVariants.{OneLine, Indented}
+use Rattle.spa_names.specs.declared.table.Table.TheVariants.{Types}
+use Rattle.spa_text_read.specs.Grammar.{key_number}
+use Rattle.spa_text_read.specs.Names.{ids_of}
 use Rattle.spa_text_read.specs.declared.fitting.Strictness.{Strictness}
 use Rattle.spa_text_read.specs.declared.fitting.Strictness.TheVariants.{Plain, Strict}
 use Rattle.spa_text_commands.specs.declared.selection.Form.{Form}
@@ -50,9 +61,10 @@ word_of_form Bytes = codes "json"
 abbrev pub name_of : Word → Text
 name_of (Print printing manner) = word_of_form printing.printout.form
 name_of (Make (Json style) manner) = codes "json"
-name_of (Make (Read strictness) manner) = codes "read"
+name_of (Make (Read texts) manner) = codes "read"
 name_of (Make Rewrite manner) = codes "rewrite"
 name_of (Make Fixate manner) = codes "fixate"
+name_of (Make Settle manner) = codes "fixate"
 name_of (Make (Making.Print printing) manner) = word_of_form printing.printout.form
 name_of (Make Check manner) = codes "check"
 name_of (Stream (Streaming.Json style) manner) = codes "json"
@@ -80,7 +92,7 @@ layout_in rows = layout_by (is_given (codes "pretty") rows)
 
 -- neither a part of an input is asked for nor bytes are
 abbrev pub is_plain : Options → Bool
-is_plain options = not ((options.hex || is_some options.selection.nth) || is_some options.selection.key)
+is_plain options = not ((options.hex || is_some options.selection.nth) || looks_inside options.selection)
 
 -- the form that is asked for, by `show` and by `json`
 abbrev pub HasForm : Options → Form → Type 0
@@ -131,17 +143,26 @@ goes_to_terminal is_terminal (Some name) = false
 abbrev pub takes_colours : Screen → (output : Option Text) → Bool
 takes_colours screen output = goes_to_terminal screen.is_terminal output && not screen.no_color
 
--- names of keys are given, or their numbers, if `--key` is
-abbrev pub IsKey : Option Text → Option Text → Type 0
-IsKey given key = (key ≡ given) × IfSome given HaveKeysNamed
+-- names of types, of ids or of keys are given, or their numbers, if the option is
+abbrev pub AreNamesOf : OfNames → Option Text → Option Text → Type 0
+AreNamesOf kind given names = (names ≡ given) × IfSome given (AreNames kind)
+
+abbrev pub text_of : Option (Bor Text) → Option Text
+text_of given = option_map (λ s. s.now) given
+
+-- what is looked for in which pods
+pub record IsSelected (rows : List Row) (selection : Selection) : Type 0 where
+  pub nth : IsNumber (first_of (codes "nth") rows) selection.nth
+  pub key : AreNamesOf named.Keys (first_of (codes "key") rows) (text_of selection.key)
+  pub type_ : AreNamesOf named.Types (first_of (codes "type") rows) (text_of selection.type_)
+  pub id : AreNamesOf named.Ids (first_of (codes "id") rows) (text_of selection.id)
 
 -- these options are given
 pub record AreGiven (rows : List Row) (screen : Screen) (options : Options) : Type 0 where
   pub layout : options.layout ≡ layout_in rows
   pub colours : AreColours (first_of (codes "color") rows) (takes_colours screen (first_of (codes "output") rows)) options.colours
   pub hex : options.hex ≡ is_given (codes "hex") rows
-  pub nth : IsNumber (first_of (codes "nth") rows) options.selection.nth
-  pub key : IsKey (first_of (codes "key") rows) (option_map (λ s. s.now) options.selection.key)
+  pub selection : IsSelected rows options.selection
 
 -- the N of `--nth` is no number, or one that is too large
 abbrev pub HasNoNumber : Option Text → Misuse → Type 0
@@ -156,18 +177,22 @@ HasUnknownWhen given (Color when) =
     (given ≡ Some when.now) × (when.now ≢ codes "auto") × (when.now ≢ codes "always") × (when.now ≢ codes "never")
 HasUnknownWhen given _ = ⊥
 
--- a NAME of `--key` is none of a key's, and no key's number
-abbrev pub HasUnknownKey : Option Text → Misuse → Type 0
-HasUnknownKey given (Key name similar) = (given ≡ Some name.now) × ¬ (HaveKeysNamed name.now)
-HasUnknownKey given _ = ⊥
+-- a NAME of `--type`, `--id` or `--key` is none of a type's, of an id's or of a key's, and no number of one
+abbrev pub HasUnknownName : OfNames → Option Text → Misuse → Type 0
+HasUnknownName kind given (Name named names similar) = (named ≡ kind) × (given ≡ Some names.now) × ¬ (AreNames kind names.now)
+HasUnknownName kind given _ = ⊥
+
+-- an option for parts of inputs has a value that is none of its own
+abbrev pub HasNoSelection : List Row → Misuse → Type 0
+HasNoSelection rows why =
+    HasNoNumber (first_of (codes "nth") rows) why ⊎ HasUnknownName named.Keys (first_of (codes "key") rows) why
+    ⊎ HasUnknownName named.Types (first_of (codes "type") rows) why ⊎ HasUnknownName named.Ids (first_of (codes "id") rows) why
 
 -- An option has a value that is none of its own. That of `--nth` doesn't come so far: clap refuses it itself, by its
 -- parser. The `ValuesPass` that `try_get_matches_from` ensures is of the options of the program, and no clause is of
 -- those of a word; it is tested.
 abbrev pub HasUnknownValue : List Row → Misuse → Type 0
-HasUnknownValue rows why =
-    HasNoNumber (first_of (codes "nth") rows) why ⊎ HasUnknownWhen (first_of (codes "color") rows) why
-    ⊎ HasUnknownKey (first_of (codes "key") rows) why
+HasUnknownValue rows why = HasNoSelection rows why ⊎ HasUnknownWhen (first_of (codes "color") rows) why
 
 -- how inputs are read: leniently where `--lenient` is given
 abbrev pub reading_by : Bool → Reading
@@ -191,7 +216,7 @@ HasMannerOf reading fate _ manner = (manner.reading ≡ reading) × (manner.fate
 
 -- pods are read so; texts as they are
 abbrev pub HasManner : Reading → Fate → Word → Type 0
-HasManner reading fate (Make (Read strictness) manner) = (manner.reading ≡ Exact) × (manner.fate ≡ Stops)
+HasManner reading fate (Make (Read texts) manner) = (manner.reading ≡ Exact) × (manner.fate ≡ Stops)
 HasManner reading fate (Make making manner) = (manner.reading ≡ reading) × (manner.fate ≡ fate)
 HasManner reading fate (Print printing manner) = HasMannerOf reading fate printing.printout.form manner
 HasManner reading fate (Stream (Streaming.Print printing) manner) = HasMannerOf reading fate printing.printout.form manner
@@ -212,12 +237,64 @@ HasStream streams _ = ⊤
 abbrev pub strictness_by : (is_loose : Bool) → Strictness
 strictness_by is_loose = if is_loose then Plain else Strict
 
-abbrev pub strictness_in : List Row → Strictness
-strictness_in rows = strictness_by (is_given (codes "loose") rows)
+-- params of the type and the id of these names, or numbers
+abbrev pub AreParams : (type id : Text) → Texts → Type 0
+AreParams type id (Dump t i) = (key_number Types type ≡ Some t) × (key_number (ids_of t) id ≡ Some i)
+AreParams type id _ = ⊥
 
-abbrev pub HasStrictness : Strictness → Word → Type 0
-HasStrictness strictness (Make (Read its) manner) = its ≡ strictness
-HasStrictness strictness _ = ⊤
+-- a name is none of a type, or none of an id of the type
+abbrev pub AreNoParams : (type id : Text) → Misuse → Type 0
+AreNoParams type id (misuse.Read (read.TypeName name)) = (name.now ≡ type) × (key_number Types type ≡ None)
+AreNoParams type id (misuse.Read (read.IdName name)) = (name.now ≡ id) × ((t : ℕ) × (key_number Types type ≡ Some t) × (key_number (ids_of t) id ≡ None))
+AreNoParams type id _ = ⊥
+
+-- how texts are read without `--pw-dump`: as bytes in hexadecimal where `--from-hex` is given, and then whether `--loose` is makes no difference
+abbrev pub texts_by : (from_hex is_loose : Bool) → Texts
+texts_by from_hex is_loose = if from_hex then Hex else Named (strictness_by is_loose)
+
+-- how they are read where `--from-hex` is given, or isn't, `--loose` and `--pw-dump`, and `--type` and `--id` have these values
+abbrev pub AreRead : (from_hex is_loose is_dump : Bool) → (type id : Option Text) → Texts → Type 0
+AreRead from_hex is_loose false None None texts = texts ≡ texts_by from_hex is_loose
+AreRead from_hex is_loose false type id texts = ⊥
+AreRead false false true (Some type) (Some id) texts = AreParams type id texts
+AreRead from_hex is_loose true type id texts = ⊥
+
+-- what is wrong with these options of `read`
+abbrev pub AreUnread : (from_hex is_loose is_dump : Bool) → (type id : Option Text) → Misuse → Type 0
+AreUnread from_hex is_loose false None None why = ⊥
+AreUnread from_hex is_loose false type id why = why ≡ misuse.Read read.WithoutDump
+AreUnread true is_loose true type id why = why ≡ misuse.Read read.HexDump
+AreUnread false true true type id why = why ≡ misuse.Read read.LooseDump
+AreUnread false false true (Some type) (Some id) why = AreNoParams type id why
+AreUnread false false true type id why = why ≡ misuse.Read read.DumpAlone
+
+abbrev pub AreTextsIn : List Row → Texts → Type 0
+AreTextsIn rows =
+    AreRead (is_given (codes "from-hex") rows) (is_given (codes "loose") rows) (is_given (codes "pw-dump") rows) (first_of (codes "type") rows)
+    (first_of (codes "id") rows)
+
+abbrev pub HasNoTexts : List Row → Misuse → Type 0
+HasNoTexts rows =
+    AreUnread (is_given (codes "from-hex") rows) (is_given (codes "loose") rows) (is_given (codes "pw-dump") rows) (first_of (codes "type") rows)
+    (first_of (codes "id") rows)
+
+abbrev pub HasTexts : List Row → Word → Type 0
+HasTexts rows (Make (Read texts) manner) = AreTextsIn rows texts
+HasTexts rows _ = ⊤
+
+-- Only private clauses cite it.
+abbrev pub ReadsAs : Texts → Word → Type 0
+ReadsAs texts (Make (Read its) manner) = its ≡ texts
+ReadsAs texts _ = ⊤
+
+-- objects are fixated, and with plain values in place of choices where `--settle` is given
+abbrev pub fixating : (settles : Bool) → OfMaking
+fixating settles = if settles then Settle else Fixate
+
+abbrev pub HasSettle : Bool → Word → Type 0
+HasSettle settles (Make Fixate manner) = settles ≡ false
+HasSettle settles (Make Settle manner) = settles ≡ true
+HasSettle settles _ = ⊤
 
 -- the name that stands for the standard input, also where none is given
 abbrev pub dash : Text
@@ -240,16 +317,18 @@ pub record Asks (words : List (Bor (List ℕ))) (screen : Screen) (request : Req
   pub printout : HasPrintout options request.word
   pub manner : HasManner (reading_in rows) (fate_in rows) request.word
   pub stream : HasStream (is_given (codes "stream") rows) request.word
-  pub strictness : HasStrictness (strictness_in rows) request.word
+  pub read_as : HasTexts rows request.word
+  pub settle : HasSettle (is_given (codes "settle") rows) request.word
   pub names : texts request.names.items ≡ names_in rows
   pub target : option_map (λ s. s.now) request.target ≡ first_of (codes "output") rows
 
 -- a word that writes pods, and no text
 abbrev pub makes_pods : OfMaking → Bool
 makes_pods (Json style) = false
-makes_pods (Read strictness) = true
+makes_pods (Read texts) = true
 makes_pods Rewrite = true
 makes_pods Fixate = true
+makes_pods Settle = true
 makes_pods (Making.Print printing) = false
 makes_pods Check = false
 
@@ -281,12 +360,12 @@ NamesNoWord words =
     (word : Word) (rows : List Row) → subcommand_of program (texts words) ≡ Some (name_of word, rows) → ⊥
 
 -- clap accepts the words, and they name no word of the program's, which clap never does, or an option has a value that is
--- none of its own
+-- none of its own, or options of `read` are wrong
 pub record AsksNothing (words : List (Bor (List ℕ))) (why : Misuse) : Type 0 where
   pub accepted : fault_of program (texts words) ≡ []
   pub nothing : ((why ≡ NoWord) × NamesNoWord words)
       ⊎ ((name : Text) × (rows : List Row) × (subcommand_of program (texts words) ≡ Some (name, rows))
-      × HasUnknownValue rows why)
+      × (HasUnknownValue rows why ⊎ HasNoTexts rows why))
 
 -- All of each input is printed as JSON. Only private clauses cite it.
 abbrev pub IsAllAsJson : Style → Manner → (streams : Bool) → Word → Type 0

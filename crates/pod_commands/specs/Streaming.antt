@@ -1,5 +1,5 @@
 -- What is written of inputs as they come.
-use Rattle.std.specs.Prelude.{◌≡◌, ◌≢◌, ⊤, ℕ, List, [], Option, None, take}
+use Rattle.std.specs.Prelude.{◌≡◌, ◌≢◌, ◌⊎◌, ⊤, ℕ, List, [], ◌++◌, Option, None, Some, take}
 use Rattle.std.specs.Io.KnownBytes.{Appends}
 use Rattle.std.specs.Borrow.{Bor}
 use Rattle.spa_device.specs.Whole.{IsAllOf}
@@ -8,12 +8,22 @@ use Rattle.spa_format.specs.Pod.{AreMembers}
 use Rattle.spa_format.specs.Tree.{Trees}
 use Rattle.spa_recordings.specs.Rewritings.{RewritesAll}
 use Rattle.spa_recordings.specs.Streaming.{EndsAtPod, MakesFirst}
+use Rattle.spa_recordings.specs.Blocks.{AreWhole}
+use Rattle.spa_recordings.specs.GoingOn.{GoesOn}
+use Rattle.spa_recordings.specs.declared.going_on.Refused.{Refused}
+use Rattle.spa_recordings.specs.declared.going_on.RefusedPod.{RefusedPod}
+use Rattle.spa_recordings.specs.declared.reading.Reading.{Reading}
 use Rattle.spa_recordings.specs.declared.reading.Reading.TheVariants.{Exact}
 use Rattle.spa_recordings.specs.declared.streaming.Stop.{Stop}
 use Rattle.spa_recordings.specs.declared.streaming.Stop.TheVariants as stop
 use Rattle.spa_refusals.specs.Refusals.{IsRefusalOf}
 use Rattle.pod_commands.specs.Colours.{PrintsIn, ShowsIn}
 use Rattle.pod_commands.specs.Inputs.{StopsAt}
+use Rattle.spa_refusals.specs.declared.several.NamedRefusal.{NamedRefusal}
+use Rattle.pod_commands.specs.Making.{Makes}
+use Rattle.pod_commands.specs.Working.{WorksOnAll}
+use Rattle.pod_commands.specs.declared.request.Making.{Making}
+use Rattle.pod_commands.specs.declared.request.Making.TheVariants as making
 use Rattle.pod_commands.specs.declared.answer.Failure.{Failure}
 use Rattle.pod_commands.specs.declared.answer.Failure.TheVariants.{Pods, Texts, Pair, Lists, OutOfMemory, Unread, Unwritten}
 use Rattle.pod_commands.specs.declared.request.Streaming.{Streaming}
@@ -62,6 +72,43 @@ abbrev pub IsBroken : Streaming → (remaining : Option (List ℕ)) → (holds :
 IsBroken s remaining holds names old new why =
     (out : List ℕ) × StopsAt (StreamsAs s) (EndsIn s) remaining holds names out why × IsWritten why old new out
 
+-- ---- Behind refused pods
+
+-- what is made of an input as it comes, where that is made of each pod: parts of pods are counted over the input
+abbrev pub made_as : Streaming → Option Making
+made_as (streaming.Json style) = Some (making.Json style)
+made_as streaming.Rewrite = Some making.Rewrite
+made_as (streaming.Print printing) = None
+made_as streaming.Check = Some making.Check
+
+-- this was made of some first whole pods of an input, or of all of it, whose refused pods are left out or kept
+pub record MakesFirstInPart (reading : Reading) (refused : Refused) (making : Making) (name input out : List ℕ) : Type 0 where
+  pub first : List ℕ
+  pub left : List ℕ
+  pub parts : input ≡ first ++ left
+  pub whole : AreWhole first ⊎ (left ≡ [])
+  pub pods : List RefusedPod
+  pub made : GoesOn name reading refused (Makes making) 0 first out pods
+
+-- why the work on an input of this name ends before that does, and what was made of it till then
+abbrev pub EndsInPart : Reading → Refused → Making → (name input out : List ℕ) → Failure → Type 0
+EndsInPart reading refused making name input out (Unread n words) = MakesFirstInPart reading refused making name input out
+EndsInPart reading refused making name input out OutOfMemory = MakesFirstInPart reading refused making name input out
+EndsInPart reading refused making name input out (Unwritten target) = (target ≡ None) × MakesFirstInPart reading refused making name input out
+EndsInPart reading refused making name input out _ = ⊥
+
+-- all of an input was worked on
+abbrev pub MakesInPart : Reading → Refused → Making → (input out : List ℕ) → Type 0
+MakesInPart reading refused making input out = (name : List ℕ) × (pods : List RefusedPod) × GoesOn name reading refused (Makes making) 0 input out pods
+
+-- why the work on several inputs ends in one of them, and what was written: what was made of those before it, and of its first pods
+abbrev pub IsBrokenInPart : Reading → Refused → Making → (remaining : Option (List ℕ)) → (holds : List ℕ → Option (List ℕ)) → List (Bor (List ℕ)) →
+    (old new : Option (List ℕ)) → Failure → Type 0
+IsBrokenInPart reading refused making remaining holds names old new why =
+    (out : List ℕ)
+    × StopsAt (λ input made n. MakesInPart reading refused making input made) (EndsInPart reading refused making) remaining holds names out why
+    × IsWritten why old new out
+
 -- ---- Only private clauses cite these.
 
 -- why the work on an input of this name ends before that does, and what was written of it
@@ -85,3 +132,27 @@ IsFailureOf name stop.OutOfMemory why = why ≡ OutOfMemory
 IsFailureOf name stop.ReadFailed why = (n : Bor (List ℕ)) × (words : Bor (List ℕ)) × (n.now ≡ name.now) × (why ≡ Unread n words)
 IsFailureOf name stop.WriteFailed why = why ≡ Unwritten None
 IsFailureOf name (stop.Pod number place read) why = IsRefusedAs name.now number place read.items why
+
+-- what is made of pods is what is made of each
+abbrev pub IsMadeOfEach : Making → Type 0
+IsMadeOfEach (making.Json style) = ⊤
+IsMadeOfEach (making.Read strictness) = ⊥
+IsMadeOfEach making.Rewrite = ⊤
+IsMadeOfEach making.Fixate = ⊥
+IsMadeOfEach making.Settle = ⊥
+IsMadeOfEach (making.Print printing) = ⊥
+IsMadeOfEach making.Check = ⊤
+
+-- what is made of an input of this name was written, and what is said of its refused pods was added
+pub record PassesOver (reading : Reading) (refused : Refused) (making : Making) (name : List ℕ) (content old new : Option (List ℕ))
+    (olds news : List NamedRefusal) : Type 0 where
+  pub input : List ℕ
+  pub its : IsAllOf content input
+  pub out : List ℕ
+  pub works : WorksOnAll reading refused making name input out olds news
+  pub written : Appends old new out
+
+-- why the work on it ends before that does, and what was written of it
+abbrev pub IsBrokenInPartAt : Reading → Refused → Making → (name : List ℕ) → (content old new : Option (List ℕ)) → Failure → Type 0
+IsBrokenInPartAt reading refused making name content old new why =
+    (input : List ℕ) × (out : List ℕ) × IsAllOf content input × EndsInPart reading refused making name input out why × IsWritten why old new out

@@ -6,7 +6,7 @@ use Rattle.spa_recordings.specs.GoingOn.{GoesOn}
 use Rattle.spa_recordings.specs.declared.going_on.Refused.{Refused}
 use Rattle.spa_recordings.specs.declared.going_on.RefusedPod.{RefusedPod}
 use Rattle.spa_recordings.specs.declared.reading.Reading.{Reading}
-use Rattle.spa_refusals.specs.Several.{AreSaid}
+use Rattle.spa_refusals.specs.Several.{AreSaid, AreSaidSo, IsRefusalBehind}
 use Rattle.spa_refusals.specs.declared.several.NamedRefusal.{NamedRefusal}
 use Rattle.pod_commands.specs.Inputs.{content_of, left_behind}
 use Rattle.pod_commands.specs.Making.{Makes}
@@ -22,12 +22,21 @@ AreWorked reading refused making remaining holds (n ∷ ns) out said =
     × AreSaid reading input pods these × (out ≡ first ++ others) × (said ≡ these ++ those)
     × AreWorked reading refused making (left_behind remaining n.now) holds ns others those
 
--- An input of this name was worked on: this was made of it and this said. Only private clauses cite it.
-pub record WorksOn (reading : Reading) (refused : Refused) (making : Making) (name input old new : List ℕ) (olds news : List NamedRefusal) : Type 0 where
-  pub made : List ℕ
+-- ---- Only private clauses cite these.
+
+-- All of an input of this name was worked on: this was made of it, and said of its refused pods.
+pub record WorksOnAll (reading : Reading) (refused : Refused) (making : Making) (name input out : List ℕ) (olds news : List NamedRefusal) : Type 0 where
   pub pods : List RefusedPod
   pub these : List NamedRefusal
-  pub goes_on : GoesOn name reading refused (Makes making) 0 input made pods
+  pub goes_on : GoesOn name reading refused (Makes making) 0 input out pods
   pub said : AreSaid reading input pods these
-  pub written : new ≡ old ++ made
+  pub added : news ≡ olds ++ these
+
+-- A part of an input of this name was worked on, which so many pods and bytes of it stand before: this was made of it, and said of its refused pods.
+pub record WorksOn (reading : Reading) (refused : Refused) (making : Making) (name : List ℕ) (count place : ℕ) (part out : List ℕ)
+    (olds news : List NamedRefusal) : Type 0 where
+  pub pods : List RefusedPod
+  pub these : List NamedRefusal
+  pub goes_on : GoesOn name reading refused (Makes making) place part out pods
+  pub said : AreSaidSo (IsRefusalBehind reading count place part) pods these
   pub added : news ≡ olds ++ these

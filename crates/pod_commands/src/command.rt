@@ -16,9 +16,9 @@ const ABOUT: &str =
 
 /// What stands behind the help of the program.
 const EXAMPLES: &str =
-    "Without a FILE, or where FILE is -, the standard input is read. show, --stream, --nth, --key and --hex write as input is read, unless --lenient is given. Other output is written once all input is accepted, or with --keep-going and --keep-refused once it is read.
+    "Without a FILE, or where FILE is -, the standard input is read. show, --stream, --nth, --type, --id, --key and --hex write as input is read, unless --lenient is given. Other output is written once all input is accepted, or with --keep-going and --keep-refused once it is read.
 
-Status: 0 the work is done; 1 a pod is refused, two inputs differ, no value has the key of --key, or something can't be read or written; 2 the command line is wrong.
+Status: 0 the work is done; 1 a pod is refused, two inputs differ, nothing has the type, id or key that is looked for, or something can't be read or written; 2 the command line is wrong.
 
 Example: cat props.pod route.pod | pod rewrite -o clean.pod
 
@@ -165,7 +165,7 @@ fn stream<'a>(alloc: Global) -> Arg<'a>
     flag(
         alloc,
         "stream",
-        "Writes each block of input before the next is read, in constant memory; what was written before a refused pod stays",
+        "Writes each block of input before the next is read, in constant memory, but for about 100 bytes for each refused pod that --keep-going names; what was written before a refused pod stays",
     )
 }
 
@@ -176,13 +176,8 @@ fn with_parts<'a>(alloc: Global, command: Command<'a>) -> Result<Command<'a>, Al
     ensures local { IfOk result (λ it. (out-Command it).has_globals ≡ false) }
 {
     let with_nth = command.arg(nth(alloc))?;
-    let with_key = with_nth.arg(valued(
-        alloc,
-        "key",
-        "NAME",
-        "Prints only the values that objects have under the keys of these names or numbers, between commas, at any depth of structs and objects",
-    ))?;
-    let with_hex = with_key.arg(flag(
+    let with_names = with_names(alloc, with_nth)?;
+    let with_hex = with_names.arg(flag(
         alloc,
         "hex",
         "Prints bytes in hex: show below the lines of each pod, json as a string for each pod",
@@ -192,6 +187,32 @@ fn with_parts<'a>(alloc: Global, command: Command<'a>) -> Result<Command<'a>, Al
         "color",
         "WHEN",
         "Prints in colours: always, never, or auto, which is where the output is a terminal and NO_COLOR isn't set",
+    ))
+}
+
+/// A word that looks for objects and values inside pods.
+fn with_names<'a>(alloc: Global, command: Command<'a>) -> Result<Command<'a>, AllocError>
+    requires { (out-Command command).has_globals ≡ false }
+    ensures app { IfOk result (λ it. app_of it ≡ spec.with_names (app_of command.entry)) }
+    ensures local { IfOk result (λ it. (out-Command it).has_globals ≡ false) }
+{
+    let with_type = command.arg(valued(
+        alloc,
+        "type",
+        "NAME",
+        "Prints only the objects of the types of these names or numbers, between commas, at any depth of structs and objects",
+    ))?;
+    let with_id = with_type.arg(valued(
+        alloc,
+        "id",
+        "NAME",
+        "Prints only the objects with the ids of these names or numbers, between commas, at any depth",
+    ))?;
+    with_id.arg(valued(
+        alloc,
+        "key",
+        "NAME",
+        "Prints only the values that such objects, or without --type and --id all objects, have under the keys of these names or numbers, between commas",
     ))
 }
 
@@ -223,6 +244,25 @@ fn rewrite<'a>(alloc: Global) -> Result<Command<'a>, AllocError>
         "Example: pod rewrite --keep-going recording.pods -o clean.pods",
     )?;
     plain.arg(stream(alloc))
+}
+
+/// The word `fixate`.
+fn fixate<'a>(alloc: Global) -> Result<Command<'a>, AllocError>
+    ensures app { IfOk result (λ it. app_of it ≡ spec.fixate) }
+    ensures local { IfOk result (λ it. (out-Command it).has_globals ≡ false) }
+{
+    let plain = to_pods(
+        alloc,
+        "fixate",
+        "Sets each choice in a top-level object to its default, unless its property is marked not to be fixated",
+        "Example: pod fixate buffers.pod -o fixed.pod",
+    )?;
+    with_flag(
+        alloc,
+        plain,
+        "settle",
+        "Writes each pod in its canonical encoding, with the plain default in place of each choice that is set to it",
+    )
 }
 
 /// The word `check`.
@@ -267,10 +307,41 @@ fn read<'a>(alloc: Global) -> Result<Command<'a>, AllocError>
         "Reads JSON with names, whose keys come in any order, and writes it as pods",
         "Example: pod read formats.json -o formats.pods",
     )?;
-    plain.arg(flag(
+    let with_loose = plain.arg(flag(
         alloc,
         "loose",
         "Also takes a value whose type isn't the one that PipeWire's tables have for its key",
+    ))?;
+    let with_hex = with_loose.arg(flag(
+        alloc,
+        "from-hex",
+        "Reads bytes in hexadecimal, also rows of xxd, hexdump -Cv and od -v -t x1, and writes these bytes as they are",
+    ))?;
+    with_params(alloc, with_hex)
+}
+
+/// A word that reads what `pw-dump` prints, too.
+fn with_params<'a>(alloc: Global, command: Command<'a>) -> Result<Command<'a>, AllocError>
+    requires { (out-Command command).has_globals ≡ false }
+    ensures app { IfOk result (λ it. app_of it ≡ spec.with_params (app_of command.entry)) }
+    ensures local { IfOk result (λ it. (out-Command it).has_globals ≡ false) }
+{
+    let with_dump = command.arg(flag(
+        alloc,
+        "pw-dump",
+        "Reads what pw-dump prints of params: an object, or a list of them, as .info.params.EnumFormat",
+    ))?;
+    let with_type = with_dump.arg(valued(
+        alloc,
+        "type",
+        "NAME",
+        "With --pw-dump: the type of the objects by its name or number, such as Format",
+    ))?;
+    with_type.arg(valued(
+        alloc,
+        "id",
+        "NAME",
+        "With --pw-dump: the id of the objects by its name or number, such as EnumFormat",
     ))
 }
 
@@ -329,12 +400,7 @@ fn with_writers<'a>(alloc: Global, command: Command<'a>) -> Result<Command<'a>, 
 {
     let one = rewrite(alloc)?;
     let first = command.subcommand(one)?;
-    let fixate = to_pods(
-        alloc,
-        "fixate",
-        "Sets each choice in a top-level object to its default, unless its property is marked not to be fixated",
-        "Example: pod fixate buffers.pod -o fixed.pod",
-    )?;
+    let fixate = fixate(alloc)?;
     let second = first.subcommand(fixate)?;
     let check = check(alloc)?;
     second.subcommand(check)

@@ -9,6 +9,7 @@ pub mod files;
 mod making;
 pub mod misuse;
 mod pairs;
+mod passing;
 mod plain;
 mod reading;
 mod refusing;

@@ -1,12 +1,15 @@
 //! What is made of each input.
-ghost use Rattle.std.specs.Prelude.{◌≡◌, ◌++◌, IfErr, IfOk, OnOk};
+ghost use Rattle.std.specs.Prelude.{◌≡◌, ◌+◌, ◌<◌, ◌^◌, ◌++◌, IfErr, IfOk, OnOk, length};
 ghost use Rattle.pod_commands.specs.Answers.{AreUnmade, IsUnread};
 ghost use Rattle.pod_commands.specs.Colours.{PrintsIn, ShowsIn};
 ghost use Rattle.pod_commands.specs.Inputs.{AreMade};
-ghost use Rattle.pod_commands.specs.Making.{AreNoPods, Makes, MakesAll, RefusesBy, RefusesIn};
+ghost use Rattle.pod_commands.specs.Making.{AreNoPods, AreNoTexts, AreUnread, IsNoHexadecimal, Makes, MakesAll, Reads, RefusesBy, RefusesIn};
 ghost use Rattle.pod_commands.specs.Working.{AreWorked, WorksOn};
+ghost use Rattle.spa_meet_commands.specs.Settling.{SettlesAll};
 ghost use Rattle.spa_pod_commands.specs.Answers.{Fixates, Rewrites};
 ghost use Rattle.spa_recordings.specs.GoingOn.{MakesOf};
+ghost use Rattle.spa_text_commands.specs.Hexadecimal.{ReadsHexadecimal};
+ghost use Rattle.spa_text_commands.specs.Texts.{ReadsTexts};
 ghost use Rattle.spa_recordings.specs.declared.reading.Reading as Reading;
 
 use crate::answer::Failure;
@@ -14,16 +17,20 @@ use crate::colours::in_colours;
 use crate::files::{Files, read_named};
 use crate::reading::read_leniently;
 use crate::refusing::refused;
-use crate::request::{Making, Printing, Style};
+use crate::request::{Making, Printing, Style, Texts};
 use crate::streaming::check_all;
 use spa_in_place::rewrite_in_place;
+use spa_meet_commands::settling::settle_all;
 use spa_pod_commands::making::{check, fixated};
 use spa_recordings::going_on::{Made, Maker, Manner, make_each};
 use spa_recordings::reading::Reading;
 use spa_refusals::{NamedRefusal, add_refusals};
+use spa_text_commands::answer::Failure as TextFailure;
+use spa_text_commands::hexadecimal::read_hexadecimal;
 use spa_text_commands::printing::print_all;
 use spa_text_commands::reading::read_all;
 use spa_text_commands::showing::show_pods;
+use spa_text_forms::Form;
 use std::alloc::{AllocError, Global};
 use std::io::Read;
 
@@ -107,17 +114,59 @@ fn make<'a>(
 {
     match making {
         Making::Json(style) => print(alloc, style, name, bytes.as_slice()),
-        Making::Read(strictness) => match read_all(alloc, strictness, bytes.as_slice()) {
-            Ok(pods) => Ok(pods),
-            Err(why) => Err(Failure::Texts(name, why)),
-        },
+        Making::Read(texts) => read(alloc, texts, name, bytes.as_slice()),
         Making::Rewrite => rewrite(alloc, name, bytes),
         Making::Fixate => fixate(alloc, name, bytes),
+        Making::Settle => settle(alloc, name, bytes.as_slice()),
         Making::Print(printing) => print_parts(alloc, printing, name, bytes.as_slice()),
         Making::Check => match check(alloc, bytes.as_slice()) {
             Ok(()) => Ok(Vec::new(alloc)),
             Err(_) => Err(refused(alloc, Reading::Exact, name, bytes.as_slice())),
         },
+    }
+}
+
+/// The pods of the texts that these bytes are, read so.
+fn read<'a>(
+    alloc: Global,
+    texts: Texts,
+    name: &'a str,
+    bytes: &[u8],
+) -> Result<Vec<u8>, Failure<'a>>
+    ensures made { IfOk result (λ out. Reads texts bytes.now out.items) }
+    ensures refused { IfErr result (AreUnread texts name.entry.now bytes.now) }
+{
+    match texts {
+        Texts::Named(strictness) => read_in(alloc, Form::Named(strictness), name, bytes),
+        Texts::Dump { type_, id } => read_in(alloc, Form::Dump { type_, id }, name, bytes),
+        Texts::Hex => read_hex(alloc, name, bytes),
+    }
+}
+
+/// The bytes that these have in hexadecimal.
+fn read_hex<'a>(alloc: Global, name: &'a str, bytes: &[u8]) -> Result<Vec<u8>, Failure<'a>>
+    ensures made { IfOk result (λ out. ReadsHexadecimal bytes.now out.items) }
+    ensures refused { IfErr result (IsNoHexadecimal name.entry.now bytes.now) }
+{
+    match read_hexadecimal(alloc, bytes) {
+        Ok(read) => Ok(read),
+        Err(why) => Err(Failure::Texts(name, why)),
+    }
+}
+
+/// The pods of the texts in this form.
+fn read_in<'a>(
+    alloc: Global,
+    form: Form,
+    name: &'a str,
+    bytes: &[u8],
+) -> Result<Vec<u8>, Failure<'a>>
+    ensures made { IfOk result (λ out. ReadsTexts form bytes.now out.items) }
+    ensures refused { IfErr result (AreNoTexts form name.entry.now bytes.now) }
+{
+    match read_all(alloc, form, bytes) {
+        Ok(pods) => Ok(pods),
+        Err(why) => Err(Failure::Texts(name, why)),
     }
 }
 
@@ -193,6 +242,20 @@ fn fixate<'a>(alloc: Global, name: &'a str, bytes: Vec<u8>) -> Result<Vec<u8>, F
     }
 }
 
+/// The canonical encodings of the values of the pods that these bytes consist of, objects with plain values in place of choices.
+fn settle<'a>(alloc: Global, name: &'a str, bytes: &[u8]) -> Result<Vec<u8>, Failure<'a>>
+    ensures made { IfOk result (λ out. SettlesAll bytes.now out.items) }
+    ensures refused { IfErr result (AreNoPods Reading.Exact name.entry.now bytes.now) }
+{
+    if check(alloc, bytes).is_err() {
+        return Err(refused(alloc, Reading::Exact, name, bytes));
+    }
+    match settle_all(alloc, bytes) {
+        Ok(pods) => Ok(pods),
+        Err(AllocError) => Err(Failure::OutOfMemory),
+    }
+}
+
 /// Adds these bytes. What is added to nothing isn't copied.
 fn add(out: &mut Vec<u8>, more: Vec<u8>) -> Result<(), AllocError>
     ensures { OnOk result (out.new.items ≡ out.old.items ++ more.items) }
@@ -235,40 +298,47 @@ pub(crate) fn make_what_is_read<'a, R: Read, S: Files>(
         (R.remaining input.old) (S.holds files.now) names.now worked.out.items worked.refused.items) }
     ensures refused { IfErr result IsUnread }
 {
-    let mut worked = Worked {
-        out: Vec::new(alloc),
-        refused: Vec::new(alloc),
-    };
+    let mut out = Vec::new(alloc);
+    let mut refused = Vec::new(alloc);
     for name in names {
         let bytes = read_named(alloc, *name, input, files)?;
-        let more = work_on(alloc, making, manner, *name, bytes.as_slice(), worked)?;
-        worked = more;
+        let made = work_on(
+            alloc,
+            making,
+            manner,
+            *name,
+            0,
+            0,
+            bytes.as_slice(),
+            &mut refused,
+        )?;
+        add(&mut out, made)?;
     }
-    Ok(worked)
+    Ok(Worked { out, refused })
 }
 
-/// Adds what is made of these bytes, which are those of the input of this name, and what is said of its refused pods.
-fn work_on<'a>(
+/// What is made of a part of the input of this name, which so many pods and bytes of it stand before. What is said of its refused pods is added.
+pub(crate) fn work_on<'a>(
     alloc: Global,
     making: Making<'_>,
     manner: Manner,
     name: &'a str,
-    bytes: &[u8],
-    worked: Worked<'a>,
-) -> Result<Worked<'a>, AllocError>
-    ensures { IfOk result (λ more. WorksOn manner.reading manner.refused making.entry name.entry.now bytes.now
-        worked.entry.out.items more.out.items worked.entry.refused.items more.refused.items) }
+    count: usize,
+    place: usize,
+    part: &[u8],
+    said: &mut Vec<NamedRefusal<'a>>,
+) -> Result<Vec<u8>, AllocError>
+    requires few { count + length part.now < 2 ^ 64 }
+    requires within { place + length part.now < 2 ^ 64 }
+    ensures { IfOk result (λ out. WorksOn manner.reading manner.refused making.entry name.entry.now count place part.now
+        out.items said.old.items said.new.items) }
 {
-    let mut said = worked.refused;
     let mut made = Made {
-        out: worked.out,
+        out: Vec::new(alloc),
         refused: Vec::new(alloc),
     };
-    make_each(alloc, &making, manner, name, bytes, &mut made)?;
+    make_each(alloc, &making, manner, name, place, part, &mut made)?;
     let pods = made.refused.as_slice();
-    add_refusals(alloc, manner.reading, bytes, pods, &mut said)?;
-    Ok(Worked {
-        out: made.out,
-        refused: said,
-    })
+    add_refusals(alloc, manner.reading, count, place, part, pods, said)?;
+    Ok(made.out)
 }

@@ -3,19 +3,34 @@ ghost use Rattle.std.specs.Prelude.{◌≡◌};
 ghost use Rattle.pod_commands.specs.Misuses as spec;
 
 use crate::plain::Plain;
+use spa_recordings::going_on::Refused;
+use spa_text_commands::naming::Named;
 use std::fmt;
 
-/// An option that `--stream` excludes, or of which those for parts of inputs exclude `--keep-going` and `--keep-refused`.
+/// An option that `--stream` excludes.
 #[derive(Clone, Copy, Debug)]
 pub enum Excluded {
-    /// `--lenient`
+    /// `--lenient`, unless refused pods are left out or kept.
     Lenient,
-    /// `--keep-going`
-    KeepGoing,
-    /// `--keep-refused`
-    KeepRefused,
     /// `-o`
     Output,
+}
+
+/// What is wrong with the options of `read`.
+#[derive(Clone, Copy, Debug)]
+pub enum OfRead<'a> {
+    /// The value of `--type` is neither the name of a type nor a number.
+    TypeName(&'a str),
+    /// The value of `--id` is neither the name of an id of the type nor a number.
+    IdName(&'a str),
+    /// `--pw-dump` is given without `--type` or without `--id`.
+    DumpAlone,
+    /// `read` is given `--type` or `--id` without `--pw-dump`.
+    WithoutDump,
+    /// `--pw-dump` excludes `--from-hex`.
+    HexDump,
+    /// `--pw-dump` excludes `--loose`.
+    LooseDump,
 }
 
 /// What is wrong with a command line.
@@ -27,8 +42,8 @@ pub enum Misuse<'a> {
     Nth(&'a str),
     /// The value of `--color` isn't `auto`, `always` or `never`.
     Color(&'a str),
-    /// The value of `--key` is neither the name nor the number of a key, and nearly this name of one.
-    Key(&'a str, Option<&'static str>),
+    /// The value of `--type`, `--id` or `--key` names none of these, nor has one such a number, and nearly this name is one's.
+    Name(Named, &'a str, Option<&'static str>),
     /// `diff` has one file.
     TooFew,
     /// This is the third file of a word that takes two at most.
@@ -37,8 +52,10 @@ pub enum Misuse<'a> {
     ToTerminal,
     /// `--stream` excludes this option.
     WithStream(Excluded),
-    /// `--nth`, `--key` and `--hex` exclude this option.
-    WithPart(Excluded),
+    /// `--nth`, `--type`, `--id`, `--key` and `--hex` exclude the option by which this becomes of refused pods.
+    WithPart(Refused),
+    /// Options of `read` are wrong, for this reason.
+    Read(OfRead<'a>),
 }
 
 impl fmt::Display for Excluded {
@@ -50,8 +67,6 @@ impl fmt::Display for Excluded {
     fn fmt<W: fmt::Write>(&self, f: &mut fmt::Formatter<W>) -> fmt::Result {
         match self {
             Excluded::Lenient => f.write_str("--lenient"),
-            Excluded::KeepGoing => f.write_str("--keep-going"),
-            Excluded::KeepRefused => f.write_str("--keep-refused"),
             Excluded::Output => f.write_str("--output"),
         }
     }
@@ -62,10 +77,30 @@ fn stream_reason(excluded: Excluded) -> &'static str
     ensures { result.now ≡ spec.stream_reason excluded }
 {
     match excluded {
-        Excluded::Lenient => "an input is held whole for that",
-        Excluded::KeepGoing => "the list of refused pods grows with the input",
-        Excluded::KeepRefused => "the list of refused pods grows with the input",
+        Excluded::Lenient =>
+            "an input is held whole for that, but by rewrite and json with --keep-going",
         Excluded::Output => "it writes as input comes, and a file is written at the end",
+    }
+}
+
+/// What has a name, which is also the option for it.
+fn word_of(named: Named) -> &'static str
+    ensures { result.now ≡ spec.word_of named }
+{
+    match named {
+        Named::Types => "type",
+        Named::Ids => "id",
+        Named::Keys => "key",
+    }
+}
+
+/// The option by which this becomes of refused pods.
+fn option_of(refused: Refused) -> &'static str
+    ensures { result.now ≡ spec.option_of refused }
+{
+    match refused {
+        Refused::LeftOut => "--keep-going",
+        Refused::Kept => "--keep-refused",
     }
 }
 
@@ -83,6 +118,41 @@ impl fmt::Display for Similar {
         match self.0 {
             Some(name) => write!(f, "; one has '{name}'"),
             None => Ok(()),
+        }
+    }
+}
+
+impl fmt::Display for OfRead<'_> {
+    ghost use Rattle.std.specs.Prelude.{Some};
+    ghost use Rattle.pod_commands.specs.Misuses.{read_text};
+
+    ghost output = { λ why. Some (read_text why) };
+
+    fn fmt<W: fmt::Write>(&self, f: &mut fmt::Formatter<W>) -> fmt::Result {
+        match self {
+            OfRead::TypeName(value) => {
+                let value = Plain(*value);
+                write!(f, "--type: no type has the name or number '{value}'")
+            }
+            OfRead::IdName(value) => {
+                let value = Plain(*value);
+                write!(
+                    f,
+                    "--id: no id of the type has the name or number '{value}'"
+                )
+            }
+            OfRead::DumpAlone => {
+                f.write_str("--pw-dump needs --type and --id, which pw-dump doesn't print")
+            }
+            OfRead::WithoutDump => {
+                f.write_str("read takes --type and --id only with --pw-dump: other texts have both")
+            }
+            OfRead::HexDump => {
+                f.write_str("--pw-dump can't be used with --from-hex: what pw-dump prints is JSON")
+            }
+            OfRead::LooseDump => {
+                f.write_str("--pw-dump can't be used with --loose: the tables say what a list is")
+            }
         }
     }
 }
@@ -106,11 +176,16 @@ impl fmt::Display for Misuse<'_> {
                     Plain(*value)
                 )
             }
-            Misuse::Key(value, similar) => {
+            Misuse::Name(named, value, similar) => {
+                let word = word_of(*named);
                 let value = Plain(*value);
                 let similar = Similar(*similar);
-                write!(f, "--key: no key has the name or number '{value}'{similar}")
+                write!(
+                    f,
+                    "--{word}: no {word} has the name or number '{value}'{similar}"
+                )
             }
+            Misuse::Read(why) => write!(f, "{why}"),
             Misuse::TooFew => f.write_str("diff takes two FILEs"),
             Misuse::TooMany(name) => {
                 write!(f, "unexpected FILE '{}': two are the most", Plain(*name))
@@ -122,9 +197,10 @@ impl fmt::Display for Misuse<'_> {
                 let why = stream_reason(*other);
                 write!(f, "--stream can't be used with {other}: {why}")
             }
-            Misuse::WithPart(other) => write!(
+            Misuse::WithPart(refused) => write!(
                 f,
-                "--nth, --key and --hex can't be used with {other}: they count refused pods, too; 'pod rewrite --keep-going' leaves these out"
+                "--nth, --type, --id, --key and --hex can't be used with {}: they count refused pods, too; 'pod rewrite --keep-going' leaves these out",
+                option_of(*refused)
             ),
         }
     }

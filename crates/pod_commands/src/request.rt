@@ -1,30 +1,33 @@
 //! What the program's words ask for.
-ghost use Rattle.std.specs.Prelude.{◌≡◌, codes, IfErr, IfNone, IfOk, IfSome, option_map};
+ghost use Rattle.std.specs.Prelude.{◌≡◌, codes, Bool, false, true, IfErr, IfNone, IfOk, IfSome, option_map};
 ghost use Rattle.pod_commands.specs.Requests as spec;
 ghost use Rattle.clap.specs.Faults.{fault_of};
 ghost use Rattle.clap.specs.Kinds.{HasKind};
 ghost use Rattle.clap.specs.Walk.{rows_of, texts};
 ghost use Rattle.clap.specs.Matches.{found_of};
 ghost use Rattle.pod_commands.specs.Program.{program};
-ghost use Rattle.pod_commands.specs.Requests.{AreColours, AreGiven, HasUnknownValue, Asks, AsksNothing, HasManner, HasNoNumber, HasPrintout, HasStream, HasStrictness, HasUnknownKey, HasUnknownWhen, IsAllAsJson, IsKey, IsNumber, fate_in, is_given, is_true_text, layout_in, name_of, names_in, reading_in, strictness_in};
+ghost use Rattle.pod_commands.specs.Requests.{AreColours, AreGiven, HasNoSelection, HasUnknownValue, Asks, AsksNothing, HasManner, HasNoNumber, HasPrintout, HasSettle, HasStream, HasNoTexts, HasUnknownName, HasUnknownWhen, IsAllAsJson, AreNamesOf, IsNumber, IsSelected, ReadsAs, AreNoParams, AreParams, AreRead, AreTextsIn, AreUnread, fate_in, is_given, is_true_text, layout_in, name_of, names_in, reading_in};
 ghost use Rattle.pod_commands.specs.declared.request.Word.{Word};
 ghost use Rattle.pod_commands.specs.declared.request.Fate.{Fate as FateOf};
 ghost use Rattle.pod_commands.specs.declared.request.Options.{Options as OptionsOf};
-ghost use Rattle.spa_text_read.specs.declared.fitting.Strictness.{Strictness as StrictnessOf};
+ghost use Rattle.pod_commands.specs.declared.request.Texts.{Texts as TextsOf};
 
 use crate::colours::Colours;
 use crate::command::program;
-use crate::misuse::Misuse;
+use crate::misuse::{Misuse, OfRead};
 use crate::screen::Screen;
-use crate::suggesting::similar_key;
+use crate::suggesting::similar_name;
 use clap::{ArgMatches, Error};
 use spa_meet_commands::pair::Work;
+use spa_names::Table;
 use spa_recordings::going_on::Refused;
 use spa_recordings::reading::Reading;
-use spa_text_commands::key_names::are_key_names;
+use spa_text_commands::naming::{Named, are_names};
 use spa_text_commands::printing::Layout;
 use spa_text_commands::selection::{Form, Printout, Selection};
+use spa_text_forms::key_number;
 use spa_text_read::Strictness;
+use spa_text_read::names::ids_of;
 use std::alloc::{AllocError, Global};
 
 /// How texts are printed.
@@ -41,17 +44,30 @@ pub struct Printing<'a> {
     pub colours: Colours,
 }
 
+/// How texts are read.
+#[derive(Clone, Copy)]
+pub enum Texts {
+    /// As values with names, so strictly.
+    Named(Strictness),
+    /// As what `pw-dump` prints of params, which are objects of this type and this id.
+    Dump { type_: u32, id: u32 },
+    /// As bytes in hexadecimal.
+    Hex,
+}
+
 /// What is made of each input.
 #[derive(Clone, Copy)]
 pub enum Making<'a> {
     /// The texts of its pods, as JSON in this style.
     Json(Style),
-    /// The pods of its texts, which are read so.
-    Read(Strictness),
+    /// The pods of its texts, which are read so, or the bytes that they have in hexadecimal.
+    Read(Texts),
     /// The rewritings of its pods.
     Rewrite,
     /// Its pods, of which objects are fixated.
     Fixate,
+    /// The canonical encodings of its pods' values, objects with plain values in place of choices.
+    Settle,
     /// This is printed of its pods.
     Print(Printing<'a>),
     /// Nothing: it has to consist of pods.
@@ -134,12 +150,17 @@ pub(crate) fn request_of<'a>(
         Ok(options) => options,
         Err(why) => return Ok(Err(why)),
     };
+    let read_as = match texts_for(name, given) {
+        Ok(read_as) => read_as,
+        Err(wrong) => return Ok(Err(wrong)),
+    };
     let Some(word) = word_of(
         name,
         options,
         manner_of(given),
         is_set(given, "stream"),
-        strictness_of(given),
+        read_as,
+        is_set(given, "settle"),
     ) else {
         return Ok(Err(Misuse::NoWord));
     };
@@ -157,21 +178,23 @@ fn word_of<'a>(
     options: Options<'a>,
     manner: Manner,
     streams: bool,
-    strictness: Strictness,
+    read_as: Texts,
+    settles: bool,
 ) -> Option<Word<'a>>
     ensures word { IfSome result (λ word. name.now ≡ name_of word) }
     ensures printout { IfSome result (HasPrintout options.entry) }
     ensures manner { IfSome result (HasManner manner.reading manner.fate) }
     ensures stream { IfSome result (HasStream streams) }
-    ensures strictness { IfSome result (HasStrictness strictness) }
+    ensures texts { IfSome result (ReadsAs read_as) }
+    ensures settle { IfSome result (HasSettle settles) }
     ensures none { IfNone result ((word : Word) → ¬ (name.now ≡ name_of word)) }
 {
     match name {
         "show" => Some(shown(options, manner.reading, streams)),
         "json" => Some(as_json(options, manner, streams)),
-        "read" => Some(Word::Make(Making::Read(strictness), PLAIN)),
+        "read" => Some(Word::Make(Making::Read(read_as), PLAIN)),
         "rewrite" => Some(rewriting(manner, streams)),
-        "fixate" => Some(Word::Make(Making::Fixate, manner)),
+        "fixate" => Some(Word::Make(fixating(settles), manner)),
         "check" => Some(Word::Make(Making::Check, manner)),
         "diff" => Some(Word::Diff(manner.reading)),
         "meet" => Some(Word::Agree(Work::Negotiate, manner.reading)),
@@ -219,7 +242,7 @@ impl<'a> Options<'a> {
     fn is_plain(&self) -> bool
         ensures { result ≡ spec.is_plain self.now }
     {
-        !(self.hex || self.selection.nth.is_some() || self.selection.key.is_some())
+        !(self.hex || self.selection.nth.is_some() || self.selection.looks_inside())
     }
 }
 
@@ -228,8 +251,8 @@ fn options_of<'a>(given: &ArgMatches<'a>, screen: Screen) -> Result<Options<'a>,
     ensures given { IfOk result (AreGiven (rows_of (found_of given.now)) screen) }
     ensures unknown { IfErr result (HasUnknownValue (rows_of (found_of given.now))) }
 {
-    let nth = match number_of(given.get_str("nth")) {
-        Ok(nth) => nth,
+    let selection = match selection_of(given) {
+        Ok(selection) => selection,
         Err(why) => return Err(why),
     };
     let to_terminal = takes_colours(screen, given.get_str("output"));
@@ -237,20 +260,40 @@ fn options_of<'a>(given: &ArgMatches<'a>, screen: Screen) -> Result<Options<'a>,
         Ok(colours) => colours,
         Err(why) => return Err(why),
     };
-    let key = match key_of(given.get_str("key")) {
-        Ok(key) => key,
-        Err(why) => return Err(why),
-    };
     Ok(Options {
         layout: layout_of(given),
         colours,
         hex: is_set(given, "hex"),
-        selection: Selection {
-            nth,
-            key,
-            type_: None,
-            id: None,
-        },
+        selection,
+    })
+}
+
+/// Which pods are asked for, and what is looked for in them; or the option whose value is none of its own.
+fn selection_of<'a>(given: &ArgMatches<'a>) -> Result<Selection<'a>, Misuse<'a>>
+    ensures given { IfOk result (IsSelected (rows_of (found_of given.now))) }
+    ensures unknown { IfErr result (HasNoSelection (rows_of (found_of given.now))) }
+{
+    let nth = match number_of(given.get_str("nth")) {
+        Ok(nth) => nth,
+        Err(why) => return Err(why),
+    };
+    let key = match names_given(Named::Keys, given.get_str("key")) {
+        Ok(key) => key,
+        Err(why) => return Err(why),
+    };
+    let type_ = match names_given(Named::Types, given.get_str("type")) {
+        Ok(type_) => type_,
+        Err(why) => return Err(why),
+    };
+    let id = match names_given(Named::Ids, given.get_str("id")) {
+        Ok(id) => id,
+        Err(why) => return Err(why),
+    };
+    Ok(Selection {
+        nth,
+        key,
+        type_,
+        id,
     })
 }
 
@@ -270,18 +313,19 @@ fn colours_of<'a>(when: Option<&'a str>, to_terminal: bool) -> Result<Colours, M
     }
 }
 
-/// The value of `--key`, if it is given.
-fn key_of<'a>(name: Option<&'a str>) -> Result<Option<&'a str>, Misuse<'a>>
-    ensures key { IfOk result (λ key. IsKey (option_map (λ s. s.now) name.entry) (option_map (λ s. s.now) key)) }
-    ensures unknown { IfErr result (HasUnknownKey (option_map (λ s. s.now) name.entry)) }
+/// The value of the option for names of types, of ids or of keys, if it is given.
+fn names_given<'a>(named: Named, given: Option<&'a str>) -> Result<Option<&'a str>, Misuse<'a>>
+    ensures names { IfOk result (λ names. AreNamesOf named (option_map (λ s. s.now) given.entry)
+        (option_map (λ s. s.now) names)) }
+    ensures unknown { IfErr result (HasUnknownName named (option_map (λ s. s.now) given.entry)) }
 {
-    let Some(key) = name else {
+    let Some(names) = given else {
         return Ok(None);
     };
-    if are_key_names(key) {
-        return Ok(Some(key));
+    if are_names(named, names) {
+        return Ok(Some(names));
     }
-    Err(Misuse::Key(key, similar_key(key)))
+    Err(Misuse::Name(named, names, similar_name(named, names)))
 }
 
 /// Whether texts are coloured where `--color` doesn't say: they go to a terminal, and `NO_COLOR` isn't set.
@@ -320,6 +364,7 @@ fn makes_pods(making: Making<'_>) -> bool
         Making::Read(_) => true,
         Making::Rewrite => true,
         Making::Fixate => true,
+        Making::Settle => true,
         Making::Print(_) => false,
         Making::Check => false,
     }
@@ -391,7 +436,8 @@ fn shown<'a>(options: Options<'a>, reading: Reading, streams: bool) -> Word<'a>
     ensures printout { HasPrintout options.entry result }
     ensures manner { (fate : FateOf) → HasManner reading fate result }
     ensures stream { HasStream streams result }
-    ensures strictness { (strictness : StrictnessOf) → HasStrictness strictness result }
+    ensures texts { (read_as : TextsOf) → ReadsAs read_as result }
+    ensures settle { (settles : Bool) → HasSettle settles result }
 {
     let form = if options.hex {
         Form::LinesAndBytes
@@ -417,7 +463,8 @@ fn as_json<'a>(options: Options<'a>, manner: Manner, streams: bool) -> Word<'a>
     ensures printout { HasPrintout options.entry result }
     ensures manner { HasManner manner.reading manner.fate result }
     ensures stream { HasStream streams result }
-    ensures strictness { (strictness : StrictnessOf) → HasStrictness strictness result }
+    ensures texts { (read_as : TextsOf) → ReadsAs read_as result }
+    ensures settle { (settles : Bool) → HasSettle settles result }
 {
     if options.is_plain() {
         return all_as_json(options.style(), manner, streams);
@@ -452,12 +499,24 @@ fn rewriting<'a>(manner: Manner, streams: bool) -> Word<'a>
     ensures printout { (options : OptionsOf) → HasPrintout options result }
     ensures manner { HasManner manner.reading manner.fate result }
     ensures stream { HasStream streams result }
-    ensures strictness { (strictness : StrictnessOf) → HasStrictness strictness result }
+    ensures texts { (read_as : TextsOf) → ReadsAs read_as result }
+    ensures settle { (settles : Bool) → HasSettle settles result }
 {
     if streams {
         Word::Stream(Streaming::Rewrite, manner)
     } else {
         Word::Make(Making::Rewrite, manner)
+    }
+}
+
+/// Objects are fixated, with `--settle` or without it.
+fn fixating<'a>(settles: bool) -> Making<'a>
+    ensures { result ≡ spec.fixating settles }
+{
+    if settles {
+        Making::Settle
+    } else {
+        Making::Fixate
     }
 }
 
@@ -537,11 +596,92 @@ fn layout_by(is_pretty: bool) -> Layout
     }
 }
 
-/// How strictly texts are to be read.
-fn strictness_of(given: &ArgMatches<'_>) -> Strictness
-    ensures { result ≡ strictness_in (rows_of (found_of given.now)) }
+/// How texts are read without `--pw-dump`, where `--from-hex` is given, or isn't, and `--loose`.
+fn texts_by(from_hex: bool, is_loose: bool) -> Texts
+    ensures { result ≡ spec.texts_by from_hex is_loose }
 {
-    strictness_by(is_set(given, "loose"))
+    if from_hex {
+        Texts::Hex
+    } else {
+        Texts::Named(strictness_by(is_loose))
+    }
+}
+
+/// How the word of this name reads texts; only `read` does.
+fn texts_for<'a>(name: &str, given: &ArgMatches<'a>) -> Result<Texts, Misuse<'a>>
+    ensures texts { IfOk result (λ read_as. name.now ≡ codes "read" → AreTextsIn (rows_of (found_of given.now)) read_as) }
+    ensures wrong { IfErr result (HasNoTexts (rows_of (found_of given.now))) }
+{
+    if name != "read" {
+        return Ok(Texts::Named(Strictness::Strict));
+    }
+    texts_of(
+        is_set(given, "from-hex"),
+        is_set(given, "loose"),
+        is_set(given, "pw-dump"),
+        given.get_str("type"),
+        given.get_str("id"),
+    )
+}
+
+/// How texts are read where `--from-hex` is given, or isn't, `--loose` and `--pw-dump`, and `--type` and `--id` have these values.
+fn texts_of<'a>(
+    from_hex: bool,
+    is_loose: bool,
+    is_dump: bool,
+    type_: Option<&'a str>,
+    id: Option<&'a str>,
+) -> Result<Texts, Misuse<'a>>
+    ensures texts { IfOk result (AreRead from_hex is_loose is_dump (option_map (λ s. s.now) type_.entry) (option_map (λ s. s.now) id.entry)) }
+    ensures wrong { IfErr result (AreUnread from_hex is_loose is_dump (option_map (λ s. s.now) type_.entry) (option_map (λ s. s.now) id.entry)) }
+{
+    match (is_dump, from_hex, is_loose) {
+        (false, _, _) => plain_texts(from_hex, is_loose, type_, id),
+        (true, true, _) => Err(Misuse::Read(OfRead::HexDump)),
+        (true, false, true) => Err(Misuse::Read(OfRead::LooseDump)),
+        (true, false, false) => params_in(type_, id),
+    }
+}
+
+/// How texts are read without `--pw-dump`, which `--type` and `--id` need.
+fn plain_texts<'a>(
+    from_hex: bool,
+    is_loose: bool,
+    type_: Option<&str>,
+    id: Option<&str>,
+) -> Result<Texts, Misuse<'a>>
+    ensures texts { IfOk result (AreRead from_hex is_loose false (option_map (λ s. s.now) type_.entry) (option_map (λ s. s.now) id.entry)) }
+    ensures wrong { IfErr result (AreUnread from_hex is_loose false (option_map (λ s. s.now) type_.entry) (option_map (λ s. s.now) id.entry)) }
+{
+    match (type_, id) {
+        (None, None) => Ok(texts_by(from_hex, is_loose)),
+        _ => Err(Misuse::Read(OfRead::WithoutDump)),
+    }
+}
+
+/// How texts are read with `--pw-dump`, where `--type` and `--id` have these values.
+fn params_in<'a>(type_: Option<&'a str>, id: Option<&'a str>) -> Result<Texts, Misuse<'a>>
+    ensures texts { IfOk result (AreRead false false true (option_map (λ s. s.now) type_.entry) (option_map (λ s. s.now) id.entry)) }
+    ensures wrong { IfErr result (AreUnread false false true (option_map (λ s. s.now) type_.entry) (option_map (λ s. s.now) id.entry)) }
+{
+    match (type_, id) {
+        (Some(type_), Some(id)) => params_of(type_, id),
+        _ => Err(Misuse::Read(OfRead::DumpAlone)),
+    }
+}
+
+/// Params of the type and the id of these names.
+fn params_of<'a>(type_: &'a str, id: &'a str) -> Result<Texts, Misuse<'a>>
+    ensures texts { IfOk result (AreParams type_.entry.now id.entry.now) }
+    ensures wrong { IfErr result (AreNoParams type_.entry.now id.entry.now) }
+{
+    let Some(number) = key_number(Table::Types, type_) else {
+        return Err(Misuse::Read(OfRead::TypeName(type_)));
+    };
+    match key_number(ids_of(number), id) {
+        Some(id) => Ok(Texts::Dump { type_: number, id }),
+        None => Err(Misuse::Read(OfRead::IdName(id))),
+    }
 }
 
 /// The strictness where `--loose` is given, or isn't.

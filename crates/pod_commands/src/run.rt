@@ -1,7 +1,9 @@
 //! The program's work, over a reader, files and a writer.
 ghost use Rattle.std.specs.Prelude.{◌≡◌, ◌≢◌, ◌⊎◌, IfNone, IfSome, None, false, true};
 ghost use Rattle.pod_commands.specs.Answers as spec;
-ghost use Rattle.pod_commands.specs.Answers.{AreFiles, AreUnmade, Gives, IsAgreed, IsAnswer, IsCompared, IsDone, IsExcluded, IsMadeBy, IsMadeInPart, IsPlain, IsPrinted, IsPrintedAs, IsPrintedLeniently, IsShown, IsShownIn, IsStreamed, IsOutcome, IsWrittenAs, MayReadTwice, OnAnswer, Refuses, outlet};
+ghost use Rattle.pod_commands.specs.Answers.{AreFiles, AreUnmade, Gives, IsAgreed, IsAnswer, IsCompared, IsDone, IsExact, IsExcluded, IsMadeBy, IsMadeInPart, IsPrinted, IsPrintedAs, IsPrintedLeniently, IsShown, IsShownIn, IsStreamed, IsStreamedBy, IsStreamedInPart, IsOutcome, IsWrittenAs, MayReadTwice, OnAnswer, Refuses, outlet};
+ghost use Rattle.pod_commands.specs.Streaming as streams;
+ghost use Rattle.pod_commands.specs.Streaming.{IsMadeOfEach};
 ghost use Rattle.pod_commands.specs.declared.request.Fate.TheVariants.{Stops};
 ghost use Rattle.pod_commands.specs.declared.request.Making.TheVariants.{Rewrite};
 ghost use Rattle.spa_recordings.specs.declared.reading.Reading.TheVariants.{Exact};
@@ -11,6 +13,7 @@ use crate::files::Files;
 use crate::making::{Worked, make_all, make_what_is_read};
 use crate::misuse::{Excluded, Misuse};
 use crate::pairs::{agree, agree_of_lists, compare};
+use crate::passing::pass_all;
 use crate::request::{
     Fate, Making, Manner, Printing, Request, Streaming, Word, file_of, fills_terminal, request_of,
 };
@@ -23,12 +26,13 @@ use spa_meet_commands::progress::Progress;
 use spa_recordings::going_on as recordings;
 use spa_recordings::going_on::Refused;
 use spa_recordings::reading::Reading;
+use spa_text_commands::selection::Selection;
 use std::alloc::Global;
 use std::io::{self, Read, Write};
 
 /// Does what the words ask for, the program's own name not among them.
 ///
-/// The words are settled before anything is read. But for `--stream`, and without `--lenient` for `show`, and for `json` with `--nth`, `--key` or
+/// The words are settled before anything is read. But for `--stream`, and without `--lenient` for `show`, and for `json` with `--nth`, `--type`, `--id`, `--key` or
 /// `--hex`, nothing is written before all inputs are read and accepted; a file that is to be written is written at the end, by all words. Where the device is a terminal, `show` and `json`
 /// print in colours, unless `NO_COLOR` or `--color` says other, and no pods are written, unless `-o -` asks for it. A search among two lists tells how
 /// far it is.
@@ -226,22 +230,33 @@ fn go_on<'a, R: Read, S: Files, W: Write + Drop>(
     answered(files, target, device, Ok(out), Answer::Passed(refused))
 }
 
-/// An option for how pods are read, what becomes of refused ones or which file is written: none where they are read exactly and refused, and no
-/// file is written.
+/// An option that `--stream` excludes, if one is given.
 fn excluded_in(manner: Manner, target: Option<&str>) -> Option<Excluded>
-    ensures plain { IfNone result (IsPlain manner.reading manner.fate target.entry) }
+    ensures to_output { IfNone result (target.entry ≡ None) }
+    ensures plain { IfNone result (IsExact manner.reading manner.fate) }
     ensures other { IfSome result (IsExcluded manner.reading manner.fate target.entry) }
 {
     match (manner.reading, manner.fate, target) {
-        (Reading::Exact, Fate::Stops, None) => None,
-        (Reading::Exact, Fate::Stops, Some(_)) => Some(Excluded::Output),
-        (Reading::Exact, Fate::GoesOn(Refused::LeftOut), _) => Some(Excluded::KeepGoing),
-        (Reading::Exact, Fate::GoesOn(Refused::Kept), _) => Some(Excluded::KeepRefused),
-        (Reading::Lenient, _, _) => Some(Excluded::Lenient),
+        (_, _, Some(_)) => Some(Excluded::Output),
+        (Reading::Lenient, Fate::Stops, None) => Some(Excluded::Lenient),
+        (_, _, None) => None,
     }
 }
 
-/// Writes this of the inputs of these names as they come, where no other option is given.
+/// What is made of each pod, where no parts of inputs are printed.
+fn made_as<'a>(streaming: Streaming<'a>) -> Option<Making<'a>>
+    ensures making { result ≡ streams.made_as streaming.entry }
+    ensures each { IfSome result IsMadeOfEach }
+{
+    match streaming {
+        Streaming::Json(style) => Some(Making::Json(style)),
+        Streaming::Rewrite => Some(Making::Rewrite),
+        Streaming::Print(_) => None,
+        Streaming::Check => Some(Making::Check),
+    }
+}
+
+/// Writes this of the inputs of these names as they come, where no option that `--stream` excludes is given.
 #[tactic(auto, using(crate::proofs::Streamed::streamed, crate::proofs::Streamed::misused))]
 fn stream<'a, R: Read, S: Files, W: Write + Drop>(
     alloc: Global,
@@ -259,7 +274,69 @@ fn stream<'a, R: Read, S: Files, W: Write + Drop>(
     if let Some(other) = excluded_in(manner, target) {
         return (Answer::Misused(Misuse::WithStream(other)), device);
     }
-    write_as(alloc, streaming, names, target, input, files, device)
+    stream_by(
+        alloc, streaming, manner, names, target, input, files, device,
+    )
+}
+
+/// Writes this of the inputs of these names as they come; no file is written.
+#[tactic(auto, using(crate::proofs::Streamed::stopped_by, crate::proofs::Streamed::passed_by, crate::proofs::Streamed::parts_by))]
+fn stream_by<'a, R: Read, S: Files, W: Write + Drop>(
+    alloc: Global,
+    streaming: Streaming<'a>,
+    manner: Manner,
+    names: &[&'a str],
+    target: Option<&'a str>,
+    input: &mut R,
+    files: &mut S,
+    device: W,
+) -> (Answer<'a>, W)
+    requires to_output { target ≡ None }
+    requires plain { IsExact manner.reading manner.fate }
+    ensures { IsStreamedBy streaming.entry manner.reading manner.fate result.0 (R.remaining input.old) names.now
+        (outlet target.entry (W.contents device) (W.contents result.1) (S.holds files.old) (S.holds files.new)) }
+{
+    match manner.fate {
+        Fate::Stops => write_as(alloc, streaming, names, target, input, files, device),
+        Fate::GoesOn(refused) => match made_as(streaming) {
+            Some(making) => {
+                let manner = recordings::Manner {
+                    reading: manner.reading,
+                    refused,
+                };
+                pass(alloc, making, manner, names, target, input, files, device)
+            }
+            None => (Answer::Misused(Misuse::WithPart(refused)), device),
+        },
+    }
+}
+
+/// Writes what is made of what is read of the inputs of these names as they come, and answers which pods of them are refused; no file is written.
+#[tactic(auto, using(crate::proofs::Passed::none_refused, crate::proofs::Passed::some_refused, crate::proofs::Passed::ended))]
+fn pass<'a, R: Read, S: Files, W: Write + Drop>(
+    alloc: Global,
+    making: Making<'_>,
+    manner: recordings::Manner,
+    names: &[&'a str],
+    target: Option<&'a str>,
+    input: &mut R,
+    files: &mut S,
+    mut device: W,
+) -> (Answer<'a>, W)
+    requires to_output { target ≡ None }
+    requires each { IsMadeOfEach making }
+    ensures { IsStreamedInPart manner.reading manner.refused making.entry result.0 (R.remaining input.old) names.now
+        (outlet target.entry (W.contents device) (W.contents result.1) (S.holds files.old) (S.holds files.new)) }
+{
+    match pass_all(alloc, making, manner, names, input, files, &mut device) {
+        Ok(said) => {
+            if said.is_empty() {
+                return (Answer::Done, device);
+            }
+            (Answer::Passed(said), device)
+        }
+        Err(why) => (Answer::Refused(why), device),
+    }
 }
 
 /// Writes this of the inputs of these names as they come; no file is written.
@@ -310,32 +387,43 @@ impl<W: Write> Write for Noted<W> {
     }
 }
 
-/// The name of the keys under which values are looked for.
-fn looked_for<'a>(streaming: Streaming<'a>) -> Option<&'a str>
+/// What is looked for inside pods, if something is.
+fn looked_for<'a>(streaming: Streaming<'a>) -> Option<Selection<'a>>
     ensures { result ≡ spec.looked_for streaming.entry }
 {
     match streaming {
         Streaming::Json(_) => None,
         Streaming::Rewrite => None,
-        Streaming::Print(printing) => printing.printout.selection.key,
+        Streaming::Print(printing) => sought_in(printing.printout.selection),
         Streaming::Check => None,
     }
 }
 
-/// The answer where all is written, which may be nothing, so many pods are refused, and values were looked for under keys of this name.
-fn shown<'a>(refused: usize, key: Option<&'a str>, is_written: bool) -> Answer<'a>
-    ensures { IsOutcome key.entry refused result }
+/// The selection where something is looked for inside pods.
+fn sought_in<'a>(selection: Selection<'a>) -> Option<Selection<'a>>
+    ensures { result ≡ spec.sought_in selection.entry }
+{
+    if selection.looks_inside() {
+        Some(selection)
+    } else {
+        None
+    }
+}
+
+/// The answer where all is written, which may be nothing, so many pods are refused, and this was looked for.
+fn shown<'a>(refused: usize, sought: Option<Selection<'a>>, is_written: bool) -> Answer<'a>
+    ensures { IsOutcome sought.entry refused result }
 {
     if refused != 0 {
         return Answer::Shown(refused);
     }
-    let Some(name) = key else {
+    let Some(selection) = sought else {
         return Answer::Done;
     };
     if is_written {
         return Answer::Done;
     }
-    Answer::Missing(name)
+    Answer::Missing(selection)
 }
 
 /// Prints this of the inputs of these names, where no refused pod is to be left out.
@@ -365,20 +453,7 @@ fn print<'a, R: Read, S: Files, W: Write + Drop>(
                 device,
             )
         }
-        Fate::GoesOn(refused) => (
-            Answer::Misused(Misuse::WithPart(option_of(refused))),
-            device,
-        ),
-    }
-}
-
-/// The option that is given for this to become of refused pods.
-fn option_of(refused: Refused) -> Excluded
-    ensures { result ≡ spec.option_of refused }
-{
-    match refused {
-        Refused::LeftOut => Excluded::KeepGoing,
-        Refused::Kept => Excluded::KeepRefused,
+        Fate::GoesOn(refused) => (Answer::Misused(Misuse::WithPart(refused)), device),
     }
 }
 
@@ -424,7 +499,8 @@ fn print_leniently<'a, R: Read, S: Files, W: Write + Drop>(
         files,
     ) {
         Ok(made) => {
-            let done = shown(0, printing.printout.selection.key, !made.is_empty());
+            let sought = sought_in(printing.printout.selection);
+            let done = shown(0, sought, !made.is_empty());
             answered(files, target, device, Ok(made), done)
         }
         Err(why) => (Answer::Refused(why), device),

@@ -138,7 +138,7 @@ fn stream_reader<'a, R: Read, W: Write>(
 }
 
 /// The failure of the input of this name for this reason.
-fn failure_of<'a>(alloc: Global, name: &'a str, why: Stop) -> Failure<'a>
+pub(crate) fn failure_of<'a>(alloc: Global, name: &'a str, why: Stop) -> Failure<'a>
     requires { HasNoPod why }
     ensures { IsFailureOf name.entry why result }
 {

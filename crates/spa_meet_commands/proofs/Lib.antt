@@ -1,2 +1,4 @@
 mod Agreeing
+mod Plain
 mod Seeking
+mod Settled

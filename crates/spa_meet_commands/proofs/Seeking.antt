@@ -18,7 +18,6 @@ use Rattle.spa_meet_commands.specs.Agreeing.{Agree, ArentAgreed}
 use Rattle.spa_meet_commands.specs.Lists.{AgreesWithNone, AreApart, AreOfObjects, AreViewed, FirstGives, FirstPairGives, Gives, IsBehindObjects, IsList, IsOfDisagreement, NoneAgree, OfBoth, OfOne}
 use Rattle.spa_meet_commands.proofs.Agreeing.{pod_begins}
 use Rattle.spa_meet_commands.specs.declared.pair.Work.{Work}
-use Rattle.spa_meet_commands.specs.declared.answer.Failure.TheVariants.{Apart, OutOfMemory}
 
 -- the object at the front of an input is that of its front
 front_viewed : (left : List ℕ) (object : ObjectPod) → BeginsObjectOf left object → BeginsObjectOf (front_of left) object

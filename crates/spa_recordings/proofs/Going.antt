@@ -55,7 +55,8 @@ steps name reading refused Makes place left at rest before pod kind old mid new 
           (subst (λ z. GoesOn name reading refused Makes next z others pods) r g))));
     }
 
-module _ (name : List ℕ) (reading : Reading) (refused : Refused) (Makes : List ℕ → List ℕ → Type 0) (input old : List ℕ) (olds : List RefusedPod) where
+module _ (name : List ℕ) (reading : Reading) (refused : Refused) (Makes : List ℕ → List ℕ → Type 0) (before : ℕ) (input old : List ℕ)
+    (olds : List RefusedPod) where
   -- something was made and pods were listed; with what is made and listed of what is left it is all
   pub record MadeSoFar (left new : List ℕ) (news : List RefusedPod) : Type 0 where
     pub made : List ℕ
@@ -63,8 +64,8 @@ module _ (name : List ℕ) (reading : Reading) (refused : Refused) (Makes : List
     pub written : new ≡ old ++ made
     pub listed : news ≡ olds ++ pods
     pub fits : length left ≤ length input
-    pub goes_on : (place : ℕ) (others : List ℕ) (more : List RefusedPod) → place + length left ≡ length input →
-        GoesOn name reading refused Makes place left others more → GoesOn name reading refused Makes 0 input (made ++ others) (pods ++ more)
+    pub goes_on : (place : ℕ) (others : List ℕ) (more : List RefusedPod) → place + length left ≡ before + length input →
+        GoesOn name reading refused Makes place left others more → GoesOn name reading refused Makes before input (made ++ others) (pods ++ more)
 
   pub begins : MadeSoFar input old olds
   begins = record {
@@ -74,12 +75,12 @@ module _ (name : List ℕ) (reading : Reading) (refused : Refused) (Makes : List
     listed = sym (append-nil olds);
     fits = omega arith;
     goes_on = λ place others more h g.
-        subst (λ z. GoesOn name reading refused Makes z input others more) (let z : place ≡ 0 = omega (arith, h) in z) g;
+        subst (λ z. GoesOn name reading refused Makes z input others more) (let z : place ≡ before = omega (arith, h) in z) g;
   }
 
-  pub finished : (place : ℕ) (left mid new : List ℕ) (mids news : List RefusedPod) → place + length left ≡ length input → MadeSoFar left mid mids →
+  pub finished : (place : ℕ) (left mid new : List ℕ) (mids news : List RefusedPod) → place + length left ≡ before + length input → MadeSoFar left mid mids →
       MakesLast reading Makes left mid new mids news →
-      (out : List ℕ) × (pods : List RefusedPod) × GoesOn name reading refused Makes 0 input out pods × (new ≡ old ++ out) × (news ≡ olds ++ pods)
+      (out : List ℕ) × (pods : List RefusedPod) × GoesOn name reading refused Makes before input out pods × (new ≡ old ++ out) × (news ≡ olds ++ pods)
   finished place left mid new mids news h so s = (
     so.made ++ s.0.0,
     so.pods ++ [],

@@ -1,5 +1,6 @@
 mod Going
-mod Holding
+pub mod Holding
 mod Likely
+mod Passed
 mod Streamed
 mod Unreading

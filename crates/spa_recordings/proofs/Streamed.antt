@@ -104,6 +104,21 @@ some_behind : (xs ys : List ℕ) → ys ≢ [] → xs ++ ys ≢ []
 some_behind [] ys n e = n e
 some_behind (x ∷ xs) ys n e = let l = ap length e in omega (arith, l)
 
+take_behind : (xs ys : List ℕ) (n : ℕ) → take (length xs + n) (xs ++ ys) ≡ xs ++ take n ys
+take_behind [] ys n = ap (λ m. take m ys) (let e : 0 + n ≡ n = omega arith in e)
+take_behind (x ∷ xs) ys n =
+    ap (λ m. take m (x ∷ (xs ++ ys))) (let e : suc (length xs) + n ≡ suc (length xs + n) = omega arith in e)
+    ∙ ap (λ l. x ∷ l) (take_behind xs ys n)
+
+-- what was begun to be written behind what was written
+pub begun_behind : (old mid new : Option (List ℕ)) (out made : List ℕ) (n : ℕ) → Appends old mid out → made ≢ [] → Appends mid new (take n made) →
+    (out ++ made ≢ []) × (m : ℕ) × Appends old new (take m (out ++ made))
+begun_behind old mid new out made n w some b = (
+  some_behind out made some,
+  length out + n,
+  subst (Appends old new) (sym (take_behind out made n)) (known_more old mid new out (take n made) w b),
+)
+
 -- what is made of a block was written, and couldn't be flushed
 pub all_begun : (made : List ℕ) (old mid new : Option (List ℕ)) → made ≢ [] → Appends old mid made → Keeps mid new →
     (made ≢ []) × (n : ℕ) × Appends old new (take n made)
@@ -397,16 +412,5 @@ module _ (Refuses : Type 0) (Makes : ℕ → ℕ → List ℕ → List ℕ → �
             made = behind_passed remaining now held count place refused old mid first.first s.1 first.refused joins so first.made;
           },
         );
-        written = (
-          some_behind so.out s.1 s.3,
-          length so.out + s.4,
-          subst (Appends old new) (sym (take_behind so.out s.1 s.4))
-              (known_more old mid new so.out (take s.4 s.1) so.written s.5),
-        );
+        written = begun_behind old mid new so.out s.1 s.4 so.written s.3 s.5;
       }
-    where
-      take_behind : (xs ys : List ℕ) (n : ℕ) → take (length xs + n) (xs ++ ys) ≡ xs ++ take n ys
-      take_behind [] ys n = ap (λ m. take m ys) (let e : 0 + n ≡ n = omega arith in e)
-      take_behind (x ∷ xs) ys n =
-          ap (λ m. take m (x ∷ (xs ++ ys))) (let e : suc (length xs) + n ≡ suc (length xs + n) = omega arith in e)
-          ∙ ap (λ l. x ∷ l) (take_behind xs ys n)

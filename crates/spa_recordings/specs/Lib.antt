@@ -1,5 +1,6 @@
 pub mod Blocks
 pub mod GoingOn
+pub mod Passing
 pub mod Plausible
 pub mod Reading
 pub mod Rewritings

@@ -5,7 +5,7 @@ use Rattle.spa_format.specs.Tree.{Trees, no_trees, member, join_members}
 use Rattle.spa_format.proofs.Sequences.{members_joined}
 use Rattle.spa_pod_commands.specs.Answers.{Rewrites}
 
-encodings_joined : (vs ws : Trees) → member_encodings (join_members vs ws) ≡ member_encodings vs ++ member_encodings ws
+pub encodings_joined : (vs ws : Trees) → member_encodings (join_members vs ws) ≡ member_encodings vs ++ member_encodings ws
 encodings_joined no_trees ws = refl
 encodings_joined (member v vs) ws =
     ap (λ l. encoding_of v ++ l) (encodings_joined vs ws) ∙ sym (append_assoc (encoding_of v) (member_encodings vs) (member_encodings ws))

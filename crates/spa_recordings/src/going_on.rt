@@ -9,7 +9,7 @@ use spa_bytes::open;
 use std::alloc::{AllocError, Global};
 
 /// What becomes of a refused pod.
-#[derive(Clone, Copy)]
+#[derive(Clone, Copy, Debug)]
 pub enum Refused {
     /// It is left out.
     LeftOut,
@@ -54,7 +54,7 @@ pub trait Maker {
         ensures made { IfOk result (λ out. makes self.now pods.items out.items) };
 }
 
-/// Adds what is made of the pods of the input of this name, and which of them are refused.
+/// Adds what is made of the pods of the input of this name, and which of them are refused; so many bytes of it stand before these.
 ///
 /// A refused pod is as long as its size word says; where that is more than is left, or no size word is there, it is all that is left. It takes
 /// time in proportion to the input, beside what the maker takes.
@@ -63,17 +63,19 @@ pub fn make_each<'a, M: Maker>(
     maker: &M,
     manner: Manner,
     name: &'a str,
+    before: usize,
     input: &[u8],
     made: &mut Made<'a>,
 ) -> Result<(), AllocError>
+    requires { before + length input.now < 2 ^ 64 }
     ensures { OnOk result ((out : List ℕ) × (pods : List RefusedPod)
-        × GoesOn name.entry.now manner.reading manner.refused (M.makes maker.now) 0 input.now out pods
+        × GoesOn name.entry.now manner.reading manner.refused (M.makes maker.now) before input.now out pods
         × (made.new.out.items ≡ made.old.out.items ++ out)
         × (made.new.refused.items ≡ made.old.refused.items ++ pods)) }
 {
     let mut left = input;
     loop {
-        let place = input.len() - left.len();
+        let place = before + (input.len() - left.len());
         match make_next(alloc, maker, manner, name, place, left, made)? {
             Some(rest) => left = rest,
             None => return Ok(()),

@@ -3,6 +3,7 @@
 
 mod blocks;
 pub mod going_on;
+pub mod passing;
 pub mod plausible;
 pub mod reading;
 pub mod streaming;

@@ -8,7 +8,9 @@ use Rattle.spa_format.proofs.WalkLemmas.{length-walk_behind, walk-end, walk-ther
 use Rattle.spa_format.proofs.WordLemmas.{word_at-drop, word_at-take}
 use Rattle.spa_recordings.specs.declared.going_on.RefusedPod.{RefusedPod}
 use Rattle.spa_recordings.specs.declared.reading.Reading.{Reading}
-use Rattle.spa_refusals.specs.Several.{AreRefused, AreSaid, Counts, IsSaidOf}
+use Rattle.spa_refusals.specs.Refusals.{IsNothing, IsRefusalOf}
+use Rattle.spa_refusals.specs.Several.{AreRefused, AreSaidSo, Counts, IsRefusalBehind, IsSaidOf}
+use Rattle.spa_refusals.specs.declared.refusal.Refusal.{Refusal}
 use Rattle.spa_refusals.specs.declared.several.NamedRefusal.{NamedRefusal}
 
 pub none_counted : (input : List ℕ) → Counts input 0 0
@@ -99,32 +101,54 @@ few input left place count w so =
 
 -- ---- Several pods
 
--- some are said, and with what is said of those that are left all are
-pub record SaidSoFar (reading : Reading) (input : List ℕ) (pods left : List RefusedPod) (old new : List NamedRefusal) : Type 0 where
-  pub more : List NamedRefusal
-  pub written : new ≡ old ++ more
-  pub said : (rest : List NamedRefusal) → AreSaid reading input left rest → AreSaid reading input pods (more ++ rest)
-  pub left_refused : AreRefused reading input left
+module _ (reading : Reading) (count before : ℕ) (input : List ℕ) where
+  -- some are said, and with what is said of those that are left all are
+  pub record SaidSoFar (pods left : List RefusedPod) (old new : List NamedRefusal) : Type 0 where
+    pub more : List NamedRefusal
+    pub written : new ≡ old ++ more
+    pub said : (rest : List NamedRefusal) → AreSaidSo (IsRefusalBehind reading count before input) left rest →
+        AreSaidSo (IsRefusalBehind reading count before input) pods (more ++ rest)
+    pub left_refused : AreRefused reading before input left
 
-pub one_said : (reading : Reading) (input : List ℕ) (pods left behind : List RefusedPod) (pod : RefusedPod) (old mid new : List NamedRefusal)
-    (its : NamedRefusal) → left ≡ pod ∷ behind → SaidSoFar reading input pods left old mid → IsSaidOf reading input pod its → new ≡ mid ++ (its ∷ []) →
-    SaidSoFar reading input pods behind old new
-one_said reading input pods left behind pod old mid new its e so is w = record {
-  more = so.more ++ (its ∷ []);
-  written = w ∙ ap (λ z. z ++ (its ∷ [])) so.written ∙ append_assoc old so.more (its ∷ []);
-  said = λ rest h.
-      subst (AreSaid reading input pods) (sym (append_assoc so.more (its ∷ []) rest))
-      (so.said (its ∷ rest) (subst (λ z. AreSaid reading input z (its ∷ rest)) (sym e) (is, h)));
-  left_refused = (subst (AreRefused reading input) e so.left_refused).2;
-}
+  -- what is said of the pod behind these bytes of the part
+  pub one_behind : (place at counted number : ℕ) (left : List ℕ) (r : Refusal) → before ≤ place → place < before + length input → at ≡ place - before →
+      left ≡ drop at input → counted ≡ length (walk (take at input)) → number ≡ count + counted + 1 → r.place ≡ place → r.number ≡ number →
+      IsRefusalOf reading left r → IsRefusalBehind reading count before input r
+  one_behind place at counted number left r b w is l c n p m h = record {
+    at = at;
+    its_place = omega (arith, b, is, p);
+    within = omega (arith, b, w, is);
+    number = omega (arith, c, n, m);
+    its = subst (λ z. IsRefusalOf reading z r) l h;
+  }
 
-pub all_said : (reading : Reading) (input : List ℕ) (pods left : List RefusedPod) (old new : List NamedRefusal) → left ≡ [] →
-    SaidSoFar reading input pods left old new → (more : List NamedRefusal) × AreSaid reading input pods more × (new ≡ old ++ more)
-all_said reading input pods left old new e so = (
-  so.more,
-  subst (AreSaid reading input pods) (append-nil so.more) (so.said [] (subst (λ z. AreSaid reading input z []) (sym e) refl)),
-  so.written,
-)
+  pub one_said : (pods left behind : List RefusedPod) (pod : RefusedPod) (old mid new : List NamedRefusal) (its : NamedRefusal) → left ≡ pod ∷ behind →
+      SaidSoFar pods left old mid → IsSaidOf (IsRefusalBehind reading count before input) pod its → new ≡ mid ++ (its ∷ []) →
+      SaidSoFar pods behind old new
+  one_said pods left behind pod old mid new its e so is w = record {
+    more = so.more ++ (its ∷ []);
+    written = w ∙ ap (λ z. z ++ (its ∷ [])) so.written ∙ append_assoc old so.more (its ∷ []);
+    said = λ rest h.
+        subst (AreSaidSo (IsRefusalBehind reading count before input) pods) (sym (append_assoc so.more (its ∷ []) rest))
+        (so.said (its ∷ rest) (subst (λ z. AreSaidSo (IsRefusalBehind reading count before input) z (its ∷ rest)) (sym e) (is, h)));
+    left_refused = (subst (AreRefused reading before input) e so.left_refused).3;
+  }
+
+  pub all_said : (pods left : List RefusedPod) (old new : List NamedRefusal) → left ≡ [] → SaidSoFar pods left old new →
+      (more : List NamedRefusal) × AreSaidSo (IsRefusalBehind reading count before input) pods more × (new ≡ old ++ more)
+  all_said pods left old new e so = (
+    so.more,
+    subst (AreSaidSo (IsRefusalBehind reading count before input) pods) (append-nil so.more)
+        (so.said [] (subst (λ z. AreSaidSo (IsRefusalBehind reading count before input) z []) (sym e) refl)),
+    so.written,
+  )
+
+  -- the next of those that are left isn't read
+  pub next_refused : (pods left behind : List RefusedPod) (pod : RefusedPod) (old new : List NamedRefusal) → left ≡ pod ∷ behind →
+      SaidSoFar pods left old new →
+      (before ≤ pod.place) × (pod.place < before + length input) × IsNothing reading (drop (pod.place - before) input)
+  next_refused pods left behind pod old new e so =
+      let r = subst (AreRefused reading before input) e so.left_refused in (r.0, r.1, r.2)
 
 -- the next one of a list, and those behind it
 pub next_left : {X : Type 0} (xs : List X) (i : ℕ) (d : X) → i < length xs → drop i xs ≡ get_or xs i d ∷ drop (i + 1) xs

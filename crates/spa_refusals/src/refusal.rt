@@ -91,7 +91,7 @@ fn accept(
 
 /// The refusal of the pod of this number that begins at this byte of the input, and isn't read.
 #[tactic(auto, using(crate::proofs::Unreading::placed))]
-pub(crate) fn refusal_at(
+fn refusal_at(
     alloc: Global,
     reading: Reading,
     input: &[u8],

@@ -1,10 +1,11 @@
 //! The refused pods of an input.
-ghost use Rattle.std.specs.Prelude.{◌≡◌, ◌≤◌, ◌<◌, ◌+◌, ◌^◌, ◌++◌, List, ℕ, OnOk, length, take};
+ghost use Rattle.std.specs.Prelude.{◌≡◌, ◌≤◌, ◌<◌, ◌+◌, ◌*◌, ◌^◌, ◌++◌, List, ℕ, OnOk, length, take};
 ghost use Rattle.spa_format.specs.Walk.{walk};
-ghost use Rattle.spa_refusals.specs.Several.{AreRefused, AreSaid, Counts};
+ghost use Rattle.spa_format.specs.Words.{header_size};
+ghost use Rattle.spa_refusals.specs.Several.{AreRefused, AreSaidSo, Counts, IsRefusalBehind};
 ghost use Rattle.spa_refusals.specs.declared.several.NamedRefusal.{NamedRefusal};
 
-use crate::refusal::{Refusal, refusal_at};
+use crate::refusal::{Refusal, refusal_of};
 use spa_bytes::open;
 use spa_recordings::going_on::RefusedPod;
 use spa_recordings::reading::Reading;
@@ -17,22 +18,29 @@ pub struct NamedRefusal<'a> {
     pub refusal: Refusal,
 }
 
-/// Adds the refusals of these pods of the input, which aren't read.
+/// Adds the refusals of these pods of a part of an input, which aren't read; so many pods and bytes of the input stand before that part.
 pub fn add_refusals<'a>(
     alloc: Global,
     reading: Reading,
+    count: usize,
+    before: usize,
     input: &[u8],
     pods: &[RefusedPod<'a>],
     out: &mut Vec<NamedRefusal<'a>>,
 ) -> Result<(), AllocError>
-    requires { AreRefused reading input.now pods.now }
-    ensures { OnOk result ((more : List NamedRefusal) × AreSaid reading input.now pods.now more
+    requires few { count + length input.now < 2 ^ 64 }
+    requires refused { AreRefused reading before input.now pods.now }
+    ensures { OnOk result ((more : List NamedRefusal)
+        × AreSaidSo (IsRefusalBehind reading count before input.now) pods.now more
         × (out.new.items ≡ out.old.items ++ more)) }
 {
     let mut counted = Counted { at: 0, count: 0 };
     for pod in pods {
-        counted = count_to(input, up_to(counted, pod.place), pod.place);
-        let refusal = refusal_at(alloc, reading, input, pod.place, counted.count + 1)?;
+        let at = pod.place - before;
+        counted = count_to(input, up_to(counted, at), at);
+        let (_, left) = input.split_at(at);
+        let number = count + counted.count + 1;
+        let refusal = refusal_of(alloc, reading, left, pod.place, number)?;
         out.push(NamedRefusal {
             name: pod.name,
             refusal,
@@ -70,7 +78,7 @@ fn count_to(input: &[u8], from: Counted, place: usize) -> Counted
     ensures ordered { result.at ≤ place }
     ensures counts { Counts input.now result.at result.count }
     ensures count { result.count ≡ length (walk (take place input.now)) }
-    ensures small { result.count + 1 < 2 ^ 64 }
+    ensures few { result.count * header_size ≤ place }
 {
     let (before, _) = input.split_at(place);
     let (_, mut left) = before.split_at(from.at);

@@ -1,15 +1,17 @@
 -- The tokens that are written, and those of a line laid out anew.
-use Rattle.std.proofs.Common.{◌≡◌, List, [], ◌∷◌, ◌++◌, true, Result, Ok, Err, refl, sym, ap, subst, ◌∙◌, append_assoc, append-nil, true≢false}
-use Rattle.std.specs.Prelude.{◌≢◌}
+use Rattle.std.proofs.Common.{◌≡◌, ℕ, ◌<◌, ◌≤◌, List, [], ◌∷◌, ◌++◌, true, ◌&&◌, Result, Ok, Err, refl, sym, ap, subst, ◌∙◌, append_assoc, append-nil, arith, true≢false}
+use Rattle.std.specs.Prelude.{◌≢◌, if◌then◌else◌}
 use Rattle.std.specs.List.{list_all}
-use Rattle.std.proofs.lemmas.Bool.{and_parts}
+use Rattle.std.proofs.lemmas.Bool.{and_parts, le-leb, lt-leb}
 use Rattle.std.proofs.lemmas.List.Folds.{list_all-append}
 use Rattle.json.specs.Align.{is_good}
-use Rattle.json.specs.Print.{IsPrintable}
+use Rattle.json.specs.Layout.{pretty}
+use Rattle.json.specs.Print.{IsPrintable, print}
 use Rattle.json.specs.Reads.{token_of}
 use Rattle.json.specs.Token.{Token}
 use Rattle.json.specs.declared.token.Token as Rust
 use Rattle.json.specs.Written.{Written, Writes}
+use Rattle.spa_text.specs.Indented.{LEVEL_LIMIT, indented, is_shallow, is_shallow_behind, open_behind}
 use Rattle.spa_text.specs.Line.{AreGood}
 
 good-push : (ts : List Token) (t : Token) → is_good t ≡ true → AreGood ts → AreGood (ts ++ t ∷ [])
@@ -48,3 +50,33 @@ not_bad t g e = true≢false (sym g ∙ ap (λ x. is_good (token_of x)) e)
 pub next_printable : (all laid left more : List Token) (t : Rust.Token) → IsLaid all laid left → left ≡ token_of t ∷ more →
     (t ≢ Rust.TheVariants.Bad → IsPrintable (token_of t)) → IsPrintable (token_of t)
 next_printable all laid left more t l e p = p (not_bad t (next_good all laid left more t l e))
+
+-- where so many are open, what is left nests too deep if all does
+pub record Nests (all left : List Token) (count : ℕ) : Type 0 where
+  pub few : count ≤ LEVEL_LIMIT
+  pub alike : is_shallow all ≡ is_shallow_behind count left
+
+pub none_nested : (all left : List Token) → left ≡ all → Nests all left 0
+none_nested all left e = record { few = omega arith; alike = ap (is_shallow_behind 0) (sym e) }
+
+-- a token more is no deeper
+pub one_nested : (all left more : List Token) (t : Token) (count next : ℕ) → Nests all left count → left ≡ t ∷ more → next ≡ open_behind count t →
+    next ≤ LEVEL_LIMIT → Nests all more next
+one_nested all left more t count next n e d h = record {
+  few = h;
+  alike =
+      n.alike ∙ ap (is_shallow_behind count) e
+      ∙ ap (λ b. b && is_shallow_behind (open_behind count t) more) (le-leb (open_behind count t) LEVEL_LIMIT (subst (λ k. k ≤ LEVEL_LIMIT) d h))
+      ∙ ap (λ k. is_shallow_behind k more) (sym d);
+}
+
+-- one that is too deep decides, and so does the end
+pub too_deep : (all left more : List Token) (t : Token) (count next : ℕ) → Nests all left count → left ≡ t ∷ more → next ≡ open_behind count t →
+    LEVEL_LIMIT < next → indented all ≡ print all
+too_deep all left more t count next n e d h =
+    ap (λ b. if b then pretty all else print all)
+    (n.alike ∙ ap (is_shallow_behind count) e
+    ∙ ap (λ b. b && is_shallow_behind (open_behind count t) more) (lt-leb (open_behind count t) LEVEL_LIMIT (subst (λ k. LEVEL_LIMIT < k) d h)))
+
+pub deep_enough : (all left : List Token) (count : ℕ) → Nests all left count → left ≡ [] → indented all ≡ pretty all
+deep_enough all left count n e = ap (λ b. if b then pretty all else print all) (n.alike ∙ ap (is_shallow_behind count) e)

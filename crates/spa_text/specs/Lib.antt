@@ -1,3 +1,4 @@
+pub mod Indented
 pub mod Line
 pub mod Printed
 pub mod Written

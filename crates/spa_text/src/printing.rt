@@ -2,6 +2,7 @@
 ghost use Rattle.std.specs.Prelude.{◌≡◌, ◌+◌, ◌≤◌, ◌++◌, [], List, ℕ, IfOk, OnErr, OnOk, IfSome, MatchOption, Some, None, decimal};
 ghost use Rattle.std.specs.Str.{IsUtf8};
 ghost use Rattle.json.specs.Lex.{tokens};
+ghost use Rattle.json.specs.Print as json;
 ghost use Rattle.spa_format.specs.Tree.{member_node_count, node_count, struct};
 ghost use Rattle.spa_text_read.specs.Grammar.{IsTextOf, an_object, key_number, nothing};
 ghost use Rattle.spa_text_read.specs.Numerals.{unsigned_number};
@@ -111,6 +112,7 @@ pub(crate) fn line_of(alloc: Global, value: &Value, buffer: Vec<u8>) -> Result<V
     ensures utf8 { IfOk result (λ line. IsUtf8 line.items) }
     ensures no_end { IfOk result (λ line. HasNoEnd line.items) }
     ensures good { IfOk result (λ line. AreGood (tokens line.items)) }
+    ensures printed { IfOk result (λ line. line.items ≡ json.print (tokens line.items)) }
     ensures exact { IfOk result
         (λ line. HasNoFloat (view value.now) → (line.items ≡ printed.line_of (view value.now))
         × (tokens line.items ≡ tokens_of nothing (view value.now))) }

@@ -90,7 +90,7 @@ all_passed bytes left p n so e some =
       is_behind = sym (so.behind ∙ ap (λ l. behind_text p n l) none ∙ sym none);
     }
 
-taken : (xs ys : List ℕ) (n : ℕ) → n ≡ length xs → take n (xs ++ ys) ≡ xs
+pub taken : (xs ys : List ℕ) (n : ℕ) → n ≡ length xs → take n (xs ++ ys) ≡ xs
 taken xs ys n e = ap (λ k. take k (xs ++ ys)) e ∙ front xs ys
   where
     front : (xs ys : List ℕ) → take (length xs) (xs ++ ys) ≡ xs

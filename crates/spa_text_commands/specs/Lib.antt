@@ -2,10 +2,13 @@ pub mod Answers
 pub mod Differences
 pub mod Dump
 pub mod Extent
-pub mod KeyNames
+pub mod Hexadecimal
+pub mod Naming
 pub mod Lines
 pub mod Parts
+pub mod ReadingHexadecimal
 pub mod Selection
 pub mod Splitting
+pub mod Structs
 pub mod Texts
 pub mod Unread

@@ -2,28 +2,29 @@
 use Rattle.std.specs.Prelude.{◌≡◌, ◌⊎◌, ◌==◌, ◌||◌, ⊤, ℕ, Bool, true, List, [], ◌∷◌, ◌++◌}
 use Rattle.std.specs.List.{list_all}
 use Rattle.std.specs.Str.{IsUtf8}
-use Rattle.json.specs.Layout.{pretty}
 use Rattle.json.specs.Lex.{tokens}
-use Rattle.spa_format.specs.Tree.{Tree, Trees, no_trees, member, join_members}
+use Rattle.spa_format.specs.Tree.{Tree, struct, Trees, no_trees, member, join_members}
 use Rattle.spa_format.specs.Pod.{AreMembers}
 use Rattle.spa_format.specs.Encoding.{member_encodings}
 use Rattle.spa_format.specs.Front.{IsRefused}
 use Rattle.spa_format.specs.Writable.{HasNul, IsTooLarge}
 use Rattle.spa_rewrite.specs.Rewriting.{IsLeft}
 use Rattle.spa_text_read.specs.Grammar.{IsTextOf}
-use Rattle.spa_text_read.specs.declared.fitting.Strictness.{Strictness}
+use Rattle.spa_text.specs.Indented.{indented}
 use Rattle.spa_text.specs.Line.{HasNoEnd}
-use Rattle.spa_text_forms.specs.Forms.{IsTextFor}
+use Rattle.spa_text_forms.specs.Forms.{IsTextAs}
+use Rattle.spa_text_forms.specs.declared.form.Form.{Form}
+use Rattle.spa_text_forms.specs.declared.form.Form.TheVariants.{Named, Dump}
 use Rattle.spa_text_commands.specs.Extent.{BeginsText, column_behind, line_behind}
 use Rattle.spa_text_commands.specs.declared.answer.Failure.{Failure}
 use Rattle.spa_text_commands.specs.declared.answer.Failure.TheVariants.{NoPods, Line, OutOfMemory}
 use Rattle.spa_text_commands.specs.declared.printing.Layout.{Layout}
 use Rattle.spa_text_commands.specs.declared.printing.Layout.TheVariants.{OneLine, Indented}
 
--- the text is one of this value on one line, or with each member and each property on one of its own
+-- the text is one of this value on one line, or with each member and each property on one of its own where its brackets don't stand too deep
 abbrev pub IsTextIn : Layout → Tree → List ℕ → Type 0
 IsTextIn OneLine v text = IsTextOf v text × HasNoEnd text
-IsTextIn Indented v text = IsTextOf v text × (text ≡ pretty (tokens text))
+IsTextIn Indented v text = IsTextOf v text × (text ≡ indented (tokens text))
 
 -- a text in this layout behind this mark for each of these values, in order, and the end of its last line
 abbrev pub AreTexts : Layout → (mark : List ℕ) → Trees → List ℕ → Type 0
@@ -42,26 +43,40 @@ is_space x = (x == 32) || ((x == 9) || (x == 13))
 abbrev pub is_blank : List ℕ → Bool
 is_blank text = list_all is_space text
 
+-- the values whose pods a text is: of what pw-dump prints each item of a list
+abbrev pub items_or_one : Tree → Trees
+items_or_one (struct vs) = vs
+items_or_one v = member v no_trees
+
+abbrev pub pods_in : Form → Tree → Trees
+pods_in (Named s) v = member v no_trees
+pods_in (Dump t i) v = items_or_one v
+
+-- one of these values has no pod: a text in it holds NUL, or a size is past 32 bits
+abbrev pub HaveNoPods : Trees → Type 0
+HaveNoPods no_trees = ⊥
+HaveNoPods (member v vs) = (HasNul v ⊎ IsTooLarge v) ⊎ HaveNoPods vs
+
 -- the bytes begin with texts of these values, in order, among blank lines, and this is left
-pub data BeginTexts (s : Strictness) (bytes : List ℕ) : Trees → (left : List ℕ) → Type 0 where
-  nothing_read : BeginTexts s bytes no_trees bytes
-  blank_line : (vs : Trees) (left text others : List ℕ) → BeginTexts s bytes vs left → BeginsText left text others → is_blank text ≡ true →
-      BeginTexts s bytes vs others
-  one_text : (vs : Trees) (v : Tree) (left text others : List ℕ) → BeginTexts s bytes vs left → BeginsText left text others → IsTextFor s v text →
-      BeginTexts s bytes (join_members vs (member v no_trees)) others
+pub data BeginTexts (f : Form) (bytes : List ℕ) : Trees → (left : List ℕ) → Type 0 where
+  nothing_read : BeginTexts f bytes no_trees bytes
+  blank_line : (vs : Trees) (left text others : List ℕ) → BeginTexts f bytes vs left → BeginsText left text others → is_blank text ≡ true →
+      BeginTexts f bytes vs others
+  one_text : (vs : Trees) (v : Tree) (left text others : List ℕ) → BeginTexts f bytes vs left → BeginsText left text others → IsTextAs f v text →
+      BeginTexts f bytes (join_members vs (pods_in f v)) others
 
 -- the pods of the values of which the input is texts, one after another: of the lines 1 and [] the words 4, 4, 1, 0, 0, 14
-abbrev pub ReadsTexts : Strictness → List ℕ → List ℕ → Type 0
-ReadsTexts s input out = (vs : Trees) × BeginTexts s input vs [] × (out ≡ member_encodings vs)
+abbrev pub ReadsTexts : Form → List ℕ → List ℕ → Type 0
+ReadsTexts f input out = (vs : Trees) × BeginTexts f input vs [] × (out ≡ member_encodings vs)
 
 -- the bytes aren't UTF-8, or no text of a value that is taken, or one of a value that has no pod
-abbrev pub HasNoPod : Strictness → List ℕ → Type 0
-HasNoPod s text =
-    ¬ (IsUtf8 text) ⊎ ((v : Tree) → ¬ (IsTextFor s v text)) ⊎ ((v : Tree) × IsTextFor s v text × (HasNul v ⊎ IsTooLarge v))
+abbrev pub HasNoPod : Form → List ℕ → Type 0
+HasNoPod f text =
+    ¬ (IsUtf8 text) ⊎ ((v : Tree) → ¬ (IsTextAs f v text)) ⊎ ((v : Tree) × IsTextAs f v text × HaveNoPods (pods_in f v))
 
 -- the text, which begins with this line, has no pod, and what is read of it ends in this line and this column
-pub record IsRefusedAt (s : Strictness) (text : List ℕ) (first line column : ℕ) : Type 0 where
-  pub against : HasNoPod s text
+pub record IsRefusedAt (f : Form) (text : List ℕ) (first line column : ℕ) : Type 0 where
+  pub against : HasNoPod f text
   pub part : List ℕ
   pub rest : List ℕ
   pub cut : text ≡ part ++ rest
@@ -69,22 +84,22 @@ pub record IsRefusedAt (s : Strictness) (text : List ℕ) (first line column : �
   pub its_column : column ≡ column_behind 1 part
 
 -- behind some first texts stands one that has no pod; lines and columns are counted from 1
-pub record HasNoTextAt (s : Strictness) (input : List ℕ) (line column : ℕ) : Type 0 where
+pub record HasNoTextAt (f : Form) (input : List ℕ) (line column : ℕ) : Type 0 where
   pub values : Trees
   pub before : List ℕ
   pub left : List ℕ
   pub whole : input ≡ before ++ left
-  pub texts : BeginTexts s input values left
+  pub texts : BeginTexts f input values left
   pub text : List ℕ
   pub others : List ℕ
   pub begins : BeginsText left text others
-  pub refused : IsRefusedAt s text (line_behind 1 before) line column
+  pub refused : IsRefusedAt f text (line_behind 1 before) line column
 
 -- why texts aren't read
-abbrev pub RefusesTexts : Strictness → List ℕ → Failure → Type 0
-RefusesTexts s input (Line line column kind words path misfit) = HasNoTextAt s input line column
-RefusesTexts s input OutOfMemory = ⊤
-RefusesTexts s input _ = ⊥
+abbrev pub RefusesTexts : Form → List ℕ → Failure → Type 0
+RefusesTexts f input (Line line column kind words path misfit) = HasNoTextAt f input line column
+RefusesTexts f input OutOfMemory = ⊤
+RefusesTexts f input _ = ⊥
 
 -- the input isn't pods one after another: behind some first pods begins none
 pub record HasRefused (input : List ℕ) : Type 0 where

@@ -1,22 +1,26 @@
 //! Texts read as pods.
-ghost use Rattle.std.specs.Prelude.{◌≡◌, ◌≢◌, ◌+◌, ◌<◌, ◌^◌, ◌++◌, [], IfErr, IfOk, IfSome, OnOk, length};
+ghost use Rattle.std.specs.Prelude.{◌≡◌, ◌≢◌, ◌+◌, ◌<◌, ◌^◌, ◌++◌, [], IfErr, IfOk, IfSome, MatchOption, OnOk, false, length, true};
 ghost use Rattle.spa_text_commands.specs.Extent.{BeginsText};
 ghost use Rattle.spa_text_commands.specs.Texts as spec;
-ghost use Rattle.spa_text_commands.specs.Texts.{ReadsTexts, RefusesTexts};
-ghost use Rattle.spa_text_commands.specs.Unread.{AddsText, IsFor, IsNoPod, IsNoText};
-ghost use Rattle.spa_format.specs.Encoding.{encoding_of};
-ghost use Rattle.spa_format.specs.Tree.{Tree};
-ghost use Rattle.spa_text_forms.specs.Forms.{IsTextFor};
+ghost use Rattle.spa_text_commands.specs.Texts.{ReadsTexts, RefusesTexts, items_or_one, pods_in};
+ghost use Rattle.spa_text_commands.specs.Unread.{AddsText, AreUnwritable, IsFor, IsNoPod, IsNoText};
+ghost use Rattle.spa_format.specs.Encoding.{encoding_of, member_encodings};
+ghost use Rattle.spa_format.specs.Tree.{Tree, member, no_trees};
+ghost use Rattle.spa_text_forms.specs.Forms.{IsTextAs};
+ghost use Rattle.spa_text_forms.specs.declared.form.Form.{Form as FormOf};
 ghost use Rattle.spa_text_read.specs.declared.cause.Cause as Cause;
-ghost use Rattle.spa_text_read.specs.declared.fitting.Strictness.{Strictness as StrictnessOf};
+ghost use Rattle.spa_value.specs.View.{view};
+ghost use Rattle.spa_value.specs.Views.{views};
 
 use crate::answer::Failure;
 use crate::extent::{position_behind, split_text};
 use crate::strings::behind_string;
+use crate::structs::add_struct;
+use json::Scratch;
 use spa_sink::GenError;
-use spa_text::{Cause, Misfit, Strictness};
-use spa_text_forms::FreeReader;
-use spa_value::Held;
+use spa_text::{Cause, Misfit};
+use spa_text_forms::{Form, FreeReader};
+use spa_value::{Held, Value};
 use spa_write::write_sized;
 use std::alloc::Global;
 
@@ -34,18 +38,20 @@ enum Unread {
     },
 }
 
-/// The pods of the values of which the bytes are texts, among blank lines; read strictly, of no value with another type than the one that belongs under a key.
+/// The pods of the values of which the bytes are texts in this form, among blank lines; read strictly, of no value with another type than the one that
+/// belongs under a key.
 #[tactic(auto, using(crate::proofs::ReadTexts::ends, crate::proofs::ReadTexts::left_fits, crate::proofs::ReadTexts::counted))]
-pub fn read_all(alloc: Global, strictness: Strictness, bytes: &[u8]) -> Result<Vec<u8>, Failure>
-    ensures read { IfOk result (λ pods. ReadsTexts strictness bytes.now pods.items) }
-    ensures refused { IfErr result (RefusesTexts strictness bytes.now) }
+pub fn read_all(alloc: Global, form: Form, bytes: &[u8]) -> Result<Vec<u8>, Failure>
+    ensures read { IfOk result (λ pods. ReadsTexts form bytes.now pods.items) }
+    ensures refused { IfErr result (RefusesTexts form bytes.now) }
 {
     let mut reader = FreeReader::new(alloc);
+    let mut scratch = Scratch::new(alloc);
     let mut pods = Vec::new(alloc);
     let mut left = bytes;
     while !left.is_empty() {
         let (text, behind) = split_front(left);
-        match add_text(alloc, &mut reader, strictness, text, &mut pods) {
+        match add_text(alloc, &mut reader, &mut scratch, form, text, &mut pods) {
             Ok(()) => left = behind,
             Err(why) => {
                 let before = &bytes[..bytes.len() - left.len()];
@@ -108,7 +114,7 @@ fn split_line(bytes: &[u8]) -> Option<(&[u8], &[u8])>
 /// The refusal of a text that begins with this line.
 fn failure_at(why: Unread, text: &[u8], first: usize) -> Failure
     requires { first + length text.now < 2 ^ 64 }
-    ensures { (s : StrictnessOf) → IsNoPod s text.now why → IsNoText s text.now first result }
+    ensures { (f : FormOf) → IsNoPod f text.now why → IsNoText f text.now first result }
 {
     match why {
         Unread::OutOfMemory => Failure::OutOfMemory,
@@ -133,21 +139,22 @@ fn failure_at(why: Unread, text: &[u8], first: usize) -> Failure
     }
 }
 
-/// Adds the pod of the value of which these bytes are a text; of a blank line nothing.
+/// Adds the pods of the value of which these bytes are a text; of a blank line nothing.
 fn add_text(
     alloc: Global,
     reader: &mut FreeReader,
-    strictness: Strictness,
+    scratch: &mut Scratch,
+    form: Form,
     bytes: &[u8],
     pods: &mut Vec<u8>,
 ) -> Result<(), Unread>
-    ensures added { OnOk result (AddsText strictness bytes.now pods.old.items pods.new.items) }
-    ensures refused { IfErr result (λ why. IsNoPod strictness bytes.now why) }
+    ensures added { OnOk result (AddsText form bytes.now pods.old.items pods.new.items) }
+    ensures refused { IfErr result (λ why. IsNoPod form bytes.now why) }
 {
     if is_blank(bytes) {
         return Ok(());
     }
-    add_pod(alloc, reader, strictness, bytes, pods)
+    add_pods(alloc, reader, scratch, form, bytes, pods)
 }
 
 /// Whether there is nothing but white space.
@@ -162,18 +169,19 @@ fn is_blank(text: &[u8]) -> bool
     true
 }
 
-/// Adds the pod of the value of which these bytes are a text.
-fn add_pod(
+/// Adds the pods of the value of which these bytes are a text.
+fn add_pods(
     alloc: Global,
     reader: &mut FreeReader,
-    strictness: Strictness,
+    scratch: &mut Scratch,
+    form: Form,
     bytes: &[u8],
     pods: &mut Vec<u8>,
 ) -> Result<(), Unread>
     ensures added { OnOk result
-        ((v : Tree) × IsTextFor strictness v bytes.now
-        × (pods.new.items ≡ pods.old.items ++ encoding_of v)) }
-    ensures refused { IfErr result (λ why. IsNoPod strictness bytes.now why) }
+        ((v : Tree) × IsTextAs form v bytes.now
+        × (pods.new.items ≡ pods.old.items ++ member_encodings (pods_in form v))) }
+    ensures refused { IfErr result (λ why. IsNoPod form bytes.now why) }
 {
     let text = match str::from_utf8(bytes) {
         Ok(text) => text,
@@ -182,7 +190,10 @@ fn add_pod(
             return Err(unread_at(alloc, "Text", words, error.valid_up_to()));
         }
     };
-    let value = match reader.read(text, strictness) {
+    if add_at_once(alloc, scratch, form, text, pods) {
+        return Ok(());
+    }
+    let value = match reader.read_in(text, form) {
         Ok(value) => Held::from(value),
         Err(error) => {
             let Some(kind) = kind_of(error.cause) else {
@@ -197,7 +208,78 @@ fn add_pod(
             });
         }
     };
-    match write_sized(pods, &*value) {
+    add_values(alloc, form, &*value, pods)
+}
+
+/// Adds the pod of the struct that a text is, as it stands, where it is read as values with names, and tells whether it did. Else the output is
+/// as it was, and nothing is known of the text.
+fn add_at_once(
+    alloc: Global,
+    scratch: &mut Scratch,
+    form: Form,
+    text: &str,
+    pods: &mut Vec<u8>,
+) -> bool
+    ensures added { result ≡ true → (v : Tree) × IsTextAs form v text.now
+        × (pods.new.items ≡ pods.old.items ++ member_encodings (pods_in form v)) }
+    ensures unchanged { result ≡ false → pods.new.items ≡ pods.old.items }
+{
+    match form {
+        Form::Named(strictness) => add_struct(alloc, scratch, strictness, text, pods),
+        Form::Dump { .. } => false,
+    }
+}
+
+/// Adds the pods of a value that was read.
+fn add_values(alloc: Global, form: Form, value: &Value, pods: &mut Vec<u8>) -> Result<(), Unread>
+    ensures added { OnOk result (pods.new.items ≡ pods.old.items ++ member_encodings (pods_in form (view value.now))) }
+    ensures refused { IfErr result (AreUnwritable (pods_in form (view value.now))) }
+{
+    match items_in(form, value) {
+        Some(values) => add_each(alloc, values, pods),
+        None => add_one(alloc, value, pods),
+    }
+}
+
+/// The values of a list whose items are pods each.
+fn items_in(form: Form, value: &Value) -> Option<&[Value]>
+    ensures { MatchOption result (pods_in form (view value.now) ≡ member (view value.now) no_trees)
+        (λ values. pods_in form (view value.now) ≡ views values.now) }
+{
+    match form {
+        Form::Named(_) => None,
+        Form::Dump { .. } => list_in(value),
+    }
+}
+
+/// The items of a list.
+fn list_in(value: &Value) -> Option<&[Value]>
+    ensures { MatchOption result (items_or_one (view value.now) ≡ member (view value.now) no_trees)
+        (λ values. items_or_one (view value.now) ≡ views values.now) }
+{
+    match value {
+        Value::Struct(members) => Some(members.as_slice()),
+        _ => None,
+    }
+}
+
+/// Adds the pods of these values.
+fn add_each(alloc: Global, values: &[Value], pods: &mut Vec<u8>) -> Result<(), Unread>
+    ensures added { OnOk result (pods.new.items ≡ pods.old.items ++ member_encodings (views values.now)) }
+    ensures refused { IfErr result (AreUnwritable (views values.now)) }
+{
+    for value in values {
+        add_one(alloc, value, pods)?;
+    }
+    Ok(())
+}
+
+/// Adds the pod of a value.
+fn add_one(alloc: Global, value: &Value, pods: &mut Vec<u8>) -> Result<(), Unread>
+    ensures added { OnOk result (pods.new.items ≡ pods.old.items ++ encoding_of (view value.now)) }
+    ensures refused { IfErr result (AreUnwritable (member (view value.now) no_trees)) }
+{
+    match write_sized(pods, value) {
         Ok(_) => Ok(()),
         Err(error) => match error {
             GenError::NulInText => Err(unread_at(

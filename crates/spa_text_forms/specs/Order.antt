@@ -1,8 +1,7 @@
 -- The tokens of a text in the order of the grammar: docs/TEXT.md, "Texts in another order".
-use Rattle.std.specs.Prelude.{◌≡◌, ℕ, zero, suc, ◌==◌, codes, decimal, List, [], ◌∷◌, ◌++◌, if◌then◌else◌, Option, Some, None}
+use Rattle.std.specs.Prelude.{ℕ, zero, suc, ◌==◌, codes, decimal, List, [], ◌∷◌, ◌++◌, if◌then◌else◌, Option, Some, None}
 use Rattle.std.specs.Str.{bytes_eq}
-use Rattle.json.specs.Json.{Json, null, boolean, number, string, array, object, Items, no_items, item, Members, no_members, member, document}
-use Rattle.json.specs.Lex.{tokens}
+use Rattle.json.specs.Json.{Json, null, boolean, number, string, array, object, Items, no_items, item, Members, no_members, member}
 use Rattle.json.specs.Token.{Token}
 use Rattle.spa_format.specs.Tree.{array_type}
 use Rattle.spa_names.specs.declared.table.Table.TheVariants.{Types}
@@ -117,7 +116,3 @@ abbrev mutual
   pub pieces : Strictness → Place → (type : ℕ) → Members → List (List ℕ × List Token)
   pieces s p t no_members = []
   pieces s p t (member k j ms) = (k, ordered s (place_under p t k) j) ∷ pieces s p t ms
-
--- the second text has the tokens of the first, which is JSON, in the grammar's order
-abbrev pub IsInOrder : Strictness → (text other : List ℕ) → Type 0
-IsInOrder s text other = (j : Json) × (document text ≡ Some j) × (tokens other ≡ ordered s anywhere j)

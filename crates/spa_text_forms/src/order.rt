@@ -1,14 +1,12 @@
 //! The tokens of a value of JSON, in the order of the grammar.
-ghost use Rattle.std.specs.Prelude.{◌≡◌, ◌++◌, [], IfOk, MatchOption, None, OnOk, Some, option_map, string_bytes};
-ghost use Rattle.json.specs.Json.{document};
+ghost use Rattle.std.specs.Prelude.{◌≡◌, ◌++◌, OnOk, Some};
 ghost use Rattle.json.specs.Tree.{HasNumbers, ItemsHaveNumbers, MembersHaveNumbers};
 ghost use Rattle.json.specs.Value.{items_view, members_view, value_view};
 ghost use Rattle.spa_text_read.specs.Fitting as fitting;
 ghost use Rattle.spa_text_read.specs.Grammar as grammar;
 ghost use Rattle.spa_text_forms.specs.Order as spec;
-ghost use Rattle.spa_text_forms.specs.Order.{IsInOrder};
 
-use json::{Error, Scratch, Value, Writer};
+use json::{Value, Writer};
 use spa_names::keys::{PARAM_ROUTE_DEVICES, PARAM_ROUTE_PROFILES};
 use spa_names::types::OBJECT_PARAM_ROUTE;
 use spa_names::{Table, number_of};
@@ -16,7 +14,7 @@ use spa_text_read::names::{expected_under, keys_of};
 use spa_text_read::numerals::unsigned;
 use spa_text_read::{FullType, Strictness};
 use spa_utils::SpaTypes;
-use std::alloc::{AllocError, Global};
+use std::alloc::AllocError;
 
 /// Where a value is in a text.
 #[derive(Clone, Copy)]
@@ -28,7 +26,7 @@ pub(crate) enum Place {
 }
 
 /// Where nothing is known.
-const ANYWHERE: Place = Place::Wants(FullType {
+pub(crate) const ANYWHERE: Place = Place::Wants(FullType {
     type_: SpaTypes(0),
     element: SpaTypes(0),
 });
@@ -36,33 +34,9 @@ const ANYWHERE: Place = Place::Wants(FullType {
 /// How many ranks there are.
 const RANKS: usize = 16;
 
-/// A text in the order of the grammar, where the text is JSON.
-pub(crate) fn in_order(
-    alloc: Global,
-    strictness: Strictness,
-    text: &str,
-    scratch: &mut Scratch,
-) -> Result<Option<String>, AllocError>
-    ensures { IfOk result
-        (λ found. MatchOption found (document text.now ≡ None)
-        (λ ordered. IsInOrder strictness text.now (string_bytes ordered))) }
-{
-    let value = match Value::parse(alloc, text, scratch) {
-        Ok(value) => value,
-        Err(Error::OutOfMemory) => return Err(AllocError),
-        Err(_) => return Ok(None),
-    };
-    let mut writer = Writer::new(Vec::new(alloc));
-    put(strictness, ANYWHERE, &value, &mut writer)?;
-    match String::from_utf8(writer.into_inner()) {
-        Ok(ordered) => Ok(Some(ordered)),
-        Err(_) => unreachable!(),
-    }
-}
-
 /// Writes the tokens of a value at this place.
 #[cycle(order)]
-fn put(
+pub(crate) fn put(
     strictness: Strictness,
     place: Place,
     value: &Value<'_>,
@@ -153,7 +127,7 @@ fn put_items(
 
 /// Writes an object, its members rank by rank.
 #[cycle(order)]
-fn put_object(
+pub(crate) fn put_object(
     strictness: Strictness,
     place: Place,
     members: &[(&str, Value<'_>)],
@@ -233,7 +207,7 @@ fn place_under(place: Place, type_: u32, key: &str) -> Place
 }
 
 /// The type that belongs under this key of an object of this type.
-fn wanted_under(type_: u32, key: &str) -> FullType
+pub(crate) fn wanted_under(type_: u32, key: &str) -> FullType
     ensures { result ≡ spec.wanted_under type_ key.now }
 {
     match key_number(keys_of(type_), key) {
@@ -245,9 +219,9 @@ fn wanted_under(type_: u32, key: &str) -> FullType
     }
 }
 
-/// The number of a key, by its digits or by its name.
+/// The number of a key, a type or an id of this table, by its digits or by its name. None: it is neither a number below 2^32 nor a name of the table.
 #[tactic(auto, unfolding(spa_text_read::specs::Names::number_of))]
-fn key_number(keys: Table, name: &str) -> Option<u32>
+pub fn key_number(keys: Table, name: &str) -> Option<u32>
     ensures { result ≡ grammar.key_number keys name.now }
 {
     match unsigned(name) {

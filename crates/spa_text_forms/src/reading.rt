@@ -4,10 +4,11 @@ ghost use Rattle.json.specs.Lex.{tokens};
 ghost use Rattle.spa_format.specs.Tree.{Tree};
 ghost use Rattle.spa_text_read.specs.Places.{IsPlace};
 ghost use Rattle.spa_text_read.specs.declared.cause.Cause as Cause;
-ghost use Rattle.spa_text_forms.specs.Forms.{IsPlaceFor, IsTextFor, IsTextInOrder};
+ghost use Rattle.spa_text_forms.specs.Forms.{IsPlaceFor, IsTextFor, IsTextAs, IsTextInOrder};
+ghost use Rattle.spa_text_forms.specs.declared.form.Form.TheVariants.{Named};
 ghost use Rattle.spa_value.specs.View.{view};
 
-use crate::order::in_order;
+use crate::form::{Form, in_order};
 use json::Scratch;
 use spa_text_read::{Cause, Strictness, TextError, TextReader};
 use spa_value::Value;
@@ -43,7 +44,7 @@ impl FreeReader {
             (λ e. e.cause ≢ Cause.OutOfMemory → (v : Tree) → ¬ (IsTextFor strictness v text.now)) }
         ensures no_path { IfErr result (λ e. e.cause ≡ Cause.OutOfMemory → string_bytes e.path ≡ []) }
         ensures path { IfErr result
-            (λ e. e.cause ≢ Cause.OutOfMemory → IsPlaceFor strictness text.now (string_bytes e.path)) }
+            (λ e. e.cause ≢ Cause.OutOfMemory → IsPlaceFor (Named strictness) text.now (string_bytes e.path)) }
     {
         match self.reader.read_with(text, strictness) {
             Ok(value) => Ok(value),
@@ -51,7 +52,7 @@ impl FreeReader {
                 if error.cause == Cause::OutOfMemory {
                     return Err(error);
                 }
-                match self.read_in_order(text, strictness, error) {
+                match self.read_in_order(text, Form::Named(strictness), error) {
                     Ok(value) => Ok(value),
                     Err(other) => Err(other),
                 }
@@ -59,29 +60,49 @@ impl FreeReader {
         }
     }
 
-    /// Reads the value that a text is in the grammar's order. As it stands it is refused so.
+    /// Reads the value that a text is in this form. What `pw-dump` prints is never read as it stands; where it is refused, the refusal has the place of
+    /// the first byte. A list of params is a Struct of them.
+    #[tactic(auto, using(crate::proofs::Forms::front))]
+    pub fn read_in(&mut self, text: &str, form: Form) -> Result<Value, TextError>
+        ensures value { IfOk result (λ v. IsTextAs form (view v) text.now) }
+        ensures refused { IfErr result
+            (λ e. e.cause ≢ Cause.OutOfMemory → (v : Tree) → ¬ (IsTextAs form v text.now)) }
+        ensures no_path { IfErr result (λ e. e.cause ≡ Cause.OutOfMemory → string_bytes e.path ≡ []) }
+        ensures path { IfErr result
+            (λ e. e.cause ≢ Cause.OutOfMemory → IsPlaceFor form text.now (string_bytes e.path)) }
+    {
+        match form {
+            Form::Named(strictness) => self.read(text, strictness),
+            Form::Dump { .. } => {
+                let no_json = refusal(self.alloc, Cause::Token);
+                self.read_in_order(text, form, no_json)
+            }
+        }
+    }
+
+    /// Reads the value that a text is in the grammar's order. Where it isn't JSON, it is refused so.
     #[tactic(auto, using(crate::proofs::Forms::read_in_order, crate::proofs::Forms::none_in_order, crate::proofs::Forms::no_json, crate::proofs::Forms::place, crate::proofs::Forms::place_in_order))]
     fn read_in_order(
         &mut self,
         text: &str,
-        strictness: Strictness,
+        form: Form,
         error: TextError,
     ) -> Result<Value, TextError>
         requires some_memory { error.cause ≢ Cause.OutOfMemory }
         requires placed { IsPlace (tokens text.now) (string_bytes error.path) }
-        ensures value { IfOk result (λ v. IsTextInOrder strictness (view v) text.now) }
+        ensures value { IfOk result (λ v. IsTextInOrder form (view v) text.now) }
         ensures refused { IfErr result
-            (λ e. e.cause ≢ Cause.OutOfMemory → (v : Tree) → ¬ (IsTextInOrder strictness v text.now)) }
+            (λ e. e.cause ≢ Cause.OutOfMemory → (v : Tree) → ¬ (IsTextInOrder form v text.now)) }
         ensures no_path { IfErr result (λ e. e.cause ≡ Cause.OutOfMemory → string_bytes e.path ≡ []) }
         ensures path { IfErr result
-            (λ e. e.cause ≢ Cause.OutOfMemory → IsPlaceFor strictness text.now (string_bytes e.path)) }
+            (λ e. e.cause ≢ Cause.OutOfMemory → IsPlaceFor form text.now (string_bytes e.path)) }
     {
-        let ordered = match in_order(self.alloc, strictness, text, &mut self.scratch) {
+        let ordered = match in_order(self.alloc, form, text, &mut self.scratch) {
             Ok(Some(ordered)) => ordered,
             Ok(None) => return Err(error),
-            Err(_) => return Err(no_memory(self.alloc)),
+            Err(_) => return Err(refusal(self.alloc, Cause::OutOfMemory)),
         };
-        match self.reader.read_with(ordered.as_str(), strictness) {
+        match self.reader.read_with(ordered.as_str(), form.strictness()) {
             Ok(value) => Ok(value),
             Err(other) => {
                 if other.cause == error.cause && other.path.as_str() == error.path.as_str() {
@@ -108,12 +129,12 @@ fn at_front(error: TextError) -> TextError
     }
 }
 
-/// Memory ran out.
-fn no_memory(alloc: Global) -> TextError
-    ensures { (result.cause ≡ Cause.OutOfMemory) × (string_bytes result.path ≡ []) }
+/// The refusal of a text for this cause, where nothing of it was read.
+fn refusal(alloc: Global, cause: Cause) -> TextError
+    ensures { (result.cause ≡ cause) × (string_bytes result.path ≡ []) }
 {
     TextError {
-        cause: Cause::OutOfMemory,
+        cause,
         offset: 0,
         line: 1,
         column: 1,

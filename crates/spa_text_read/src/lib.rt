@@ -23,4 +23,4 @@ mod tokens;
 pub use cause::Cause;
 pub use error::{AtPath, TextError};
 pub use fitting::{FullType, InPlace, Misfit, Strictness};
-pub use reading::{TextReader, read};
+pub use reading::{TextReader, read, read_front};

@@ -1,6 +1,7 @@
 //! Values read from text.
-ghost use Rattle.std.specs.Prelude.{◌≡◌, ◌≢◌, [], IfErr, IfOk, Some, string_bytes};
+ghost use Rattle.std.specs.Prelude.{◌≡◌, ◌≢◌, List, [], IfErr, IfOk, Some, string_bytes};
 ghost use Rattle.json.specs.Lex.{tokens};
+ghost use Rattle.json.specs.Token.{Token};
 ghost use Rattle.spa_format.specs.Tree.{Tree};
 ghost use Rattle.spa_text_read.specs.Fitting.{Admits};
 ghost use Rattle.spa_text_read.specs.FramesFit.{AdmitsNone};
@@ -183,6 +184,26 @@ fn read_whole(alloc: Global, reader: &mut Reader<'_>, strictness: Strictness) ->
             None => Ok(value),
         },
         Err(why) => Err(why),
+    }
+}
+
+/// Reads the value that begins the tokens which are left, and no token behind it; strictly as `TextReader::read_with` does. A refusal may leave the
+/// reader behind any of its tokens.
+#[tactic(auto, using(crate::proofs::Soundness::reads_as))]
+pub fn read_front(
+    alloc: Global,
+    reader: &mut Reader<'_>,
+    strictness: Strictness,
+) -> Result<Value, Cause>
+    ensures value { IfOk result (λ v. ReadsAs nothing (view v) reader.old reader.new) }
+    ensures admitted { IfOk result (λ v. Admits strictness (view v)) }
+    ensures refused { IfErr result
+        (λ e. e ≢ Cause.OutOfMemory → (v : Tree) (rest : List Token) →
+        ReadsAs nothing v reader.old rest → ¬ (Admits strictness v)) }
+{
+    match read_value(alloc, reader, strictness) {
+        Ok(value) => Ok(value),
+        Err(why) => Err(why.cause),
     }
 }
 

@@ -1,5 +1,6 @@
 //! Deeply nested texts.
 use crate::read::{assert_so, held, printed};
+use spa_text::print_pretty;
 use spa_value::{Held, Value, same};
 use std::alloc::{AllocError, Global};
 
@@ -42,6 +43,15 @@ fn is_deep_printed(alloc: Global) -> Result<bool, AllocError> {
     Ok(printed.as_slice() == wanted.as_bytes())
 }
 
+/// Whether the value, which nests too deep to be indented, is printed on one line.
+fn is_deep_on_one_line(alloc: Global) -> Result<bool, AllocError> {
+    let value = nested_structs(alloc)?;
+    let wanted = nested_text(alloc)?;
+    let mut printed = Vec::new(alloc);
+    print_pretty(alloc, &value, &mut printed)?;
+    Ok(printed.as_slice() == wanted.as_bytes())
+}
+
 #[test]
 fn deep_texts_are_read(rt: HostRuntime) -> Result<(), AllocError> {
     let holds = is_deep_read(rt.alloc())?;
@@ -53,5 +63,12 @@ fn deep_texts_are_read(rt: HostRuntime) -> Result<(), AllocError> {
 fn deep_values_are_printed(rt: HostRuntime) -> Result<(), AllocError> {
     let holds = is_deep_printed(rt.alloc())?;
     assert_so(&rt, holds, "deep structs");
+    Ok(())
+}
+
+#[test]
+fn deep_values_are_not_indented(rt: HostRuntime) -> Result<(), AllocError> {
+    let holds = is_deep_on_one_line(rt.alloc())?;
+    assert_so(&rt, holds, "deep structs, indented");
     Ok(())
 }

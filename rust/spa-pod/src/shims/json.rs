@@ -38,22 +38,55 @@ fn is_inner(byte: u8) -> bool {
     !(is_blank(byte) || matches!(byte, b',' | b':' | b'[' | b']' | b'{' | b'}'))
 }
 
-/// The first byte from this one on that can't be in a string as it is. Of eight bytes at once the high bits of such are found, of the first one surely.
+/// The letters from this byte on before that one.
+#[inline(always)]
+fn part(text: &str, from: usize, end: usize) -> Option<&str> {
+    text.split_at_checked(end)?.0.split_at_checked(from).map(|(_, part)| part)
+}
+
+/// The lowest bit of each byte of a word.
+const ONES: u64 = u64::MAX / 255;
+
+/// The high bits of bytes that can't be in a string as they are, of the first one surely.
+#[inline(always)]
+fn stops(eight: [u8; 8]) -> u64 {
+    let bytes = u64::from_le_bytes(eight);
+    let (quote, backslash) = (bytes ^ (ONES * u64::from(b'"')), bytes ^ (ONES * u64::from(b'\\')));
+    let below = (bytes.wrapping_sub(ONES * 0x20) & !bytes) | (quote.wrapping_sub(ONES) & !quote) | (backslash.wrapping_sub(ONES) & !backslash);
+    below & (ONES * 0x80)
+}
+
+/// The first byte from this one on that can't be in a string as it is, of eight at once.
 #[inline]
 fn stop_from(text: &[u8], from: usize) -> Option<usize> {
-    const ONES: u64 = u64::MAX / 255;
     let (mut at, mut left) = (from, text.get(from..)?);
     while let Some((eight, behind)) = left.split_first_chunk() {
-        let bytes = u64::from_le_bytes(*eight);
-        let (quote, backslash) = (bytes ^ (ONES * u64::from(b'"')), bytes ^ (ONES * u64::from(b'\\')));
-        let below = (bytes.wrapping_sub(ONES * 0x20) & !bytes) | (quote.wrapping_sub(ONES) & !quote) | (backslash.wrapping_sub(ONES) & !backslash);
-        let found = below & (ONES * 0x80);
+        let found = stops(*eight);
         if found != 0 {
             return Some(at + found.trailing_zeros() as usize / 8);
         }
         (at, left) = (at + 8, behind);
     }
     Some(at + left.iter().position(|byte| is_stop(*byte))?)
+}
+
+/// Whether each byte can be in a string as it is. The last eight bytes, of short texts the first and last four, are looked at at once.
+#[inline]
+fn is_plain(text: &[u8]) -> bool {
+    if let Some(last) = text.last_chunk() {
+        let mut left = text;
+        while let Some((eight, behind)) = left.split_first_chunk() {
+            if stops(*eight) != 0 {
+                return false;
+            }
+            left = behind;
+        }
+        return stops(*last) == 0;
+    }
+    match (text.first_chunk::<4>(), text.last_chunk::<4>()) {
+        (Some([a, b, c, d]), Some([e, f, g, h])) => stops([*a, *b, *c, *d, *e, *f, *g, *h]) == 0,
+        _ => !text.iter().any(|byte| is_stop(*byte)),
+    }
 }
 
 /// Takes what stands behind a backslash, and gives the letter for which it stands. Four digits are a unit of UTF-16; a letter has one or two.
@@ -97,8 +130,9 @@ const CLOSES: u8 = 2;
 
 impl<'a> Reader<'a> {
     pub fn new(text: &'a str, room: &'a mut Scratch) -> Result<Reader<'a>, AllocError> {
-        // No string is longer than what is written for it.
-        let least = if text.contains('\\') { text.len() } else { 0 };
+        // No string is longer than what is written for it. All bytes are looked at, so that many are at once.
+        let has_escapes = text.bytes().fold(false, |found, byte| found | (byte == b'\\'));
+        let least = if has_escapes { text.len() } else { 0 };
         room.try_resize(least.max(room.len()), 0)?;
         let mut reader = Reader { text, at: 0, state: BEGINS | CLOSES, room };
         reader.go_to(0);
@@ -142,6 +176,7 @@ impl<'a> Reader<'a> {
 
     /// The next token.
     #[allow(clippy::should_implement_trait)]
+    #[inline(always)]
     pub fn next(&mut self) -> Option<Token<'a>> {
         let (begins, closes) = (self.state & BEGINS != 0, self.state & CLOSES != 0);
         let to = self.at + 1;
@@ -181,7 +216,7 @@ impl<'a> Reader<'a> {
     fn string(&mut self) -> Option<(usize, &'a str)> {
         let (text, from) = (self.text, self.at + 1);
         let end = stop_from(text.as_bytes(), from)?;
-        if text.as_bytes()[end] == b'"' { Some((end + 1, &text[from..end])) } else { self.escaped(from, end) }
+        if text.as_bytes()[end] == b'"' { Some((end + 1, part(text, from, end)?)) } else { self.escaped(from, end) }
     }
 
     /// The end of the string that begins at the first of these bytes, and has its first escape at the second, and what it is.
@@ -218,7 +253,7 @@ impl<'a> Reader<'a> {
         // Most words are whole numbers, which need no closer look.
         if len > sign && (left[sign] != b'0' || len == sign + 1) && left.get(len).is_none_or(|byte| !is_inner(*byte)) {
             let end = self.at + len;
-            return Some((end, Token::Number(&self.text[self.at..end])));
+            return Some((end, Token::Number(part(self.text, self.at, end)?)));
         }
         self.other_word()
     }
@@ -342,15 +377,27 @@ impl<const ON_LINES: bool> Tokens<ON_LINES> {
         self.out.try_extend_from_slice(text.as_bytes())
     }
 
-    /// Puts a string and what stands behind it.
-    fn put_string(&mut self, text: &str, behind: &str) -> Result<(), AllocError> {
-        self.out.make_room(text.len() + 1 + behind.len())?;
+    /// Puts one byte.
+    #[inline(always)]
+    fn put_byte(&mut self, byte: u8) -> Result<(), AllocError> {
+        self.out.try_push(byte).map_err(AllocError::from)
+    }
+
+    /// Puts a string, and behind a key the colon.
+    fn put_string(&mut self, text: &str, is_key: bool) -> Result<(), AllocError> {
+        self.out.make_room(text.len() + 3)?;
         self.out.push(b'"');
-        if stop_from(text.as_bytes(), 0).is_none() {
+        if is_plain(text.as_bytes()) {
             self.out.extend_from_slice(text.as_bytes());
-            self.out.extend_from_slice(behind.as_bytes());
-            return Ok(());
+        } else {
+            self.put_escaped(text)?;
         }
+        self.put_byte(b'"')?;
+        if is_key { self.put_byte(b':') } else { Ok(()) }
+    }
+
+    #[inline(never)]
+    fn put_escaped(&mut self, text: &str) -> Result<(), AllocError> {
         for byte in text.bytes() {
             match ESCAPES[..7].iter().find(|escape| escape.1 == char::from(byte)) {
                 Some((letter, _)) => self.out.try_extend_from_slice(&[b'\\', *letter as u8])?,
@@ -358,16 +405,19 @@ impl<const ON_LINES: bool> Tokens<ON_LINES> {
                 None => self.out.try_push(byte)?,
             }
         }
-        self.put(behind)
+        Ok(())
     }
 
     /// Puts what stands between the last token and the next.
+    #[inline(always)]
     fn put_between(&mut self, closes: bool) -> Result<(), AllocError> {
         match self.out.last() {
             None => return Ok(()),
-            Some(b':') => return self.put(if ON_LINES { " " } else { "" }),
+            Some(b':') => return if ON_LINES { self.put_byte(b' ') } else { Ok(()) },
             Some(b'{' | b'[') if closes => return Ok(()),
-            last => self.put(if closes || matches!(last, Some(b'{' | b'[')) { "" } else { "," })?,
+            Some(b'{' | b'[') => {}
+            _ if closes => {}
+            _ => self.put_byte(b',')?,
         }
         if ON_LINES {
             self.put("\n")?;
@@ -383,12 +433,12 @@ impl<const ON_LINES: bool> Tokens<ON_LINES> {
         self.put_between(closes)?;
         self.depth += usize::from(ON_LINES && matches!(token, Token::BeginObject | Token::BeginArray));
         match token {
-            Token::BeginObject => self.put("{"),
-            Token::EndObject => self.put("}"),
-            Token::BeginArray => self.put("["),
-            Token::EndArray => self.put("]"),
-            Token::Key(text) => self.put_string(text, "\":"),
-            Token::String(text) => self.put_string(text, "\""),
+            Token::BeginObject => self.put_byte(b'{'),
+            Token::EndObject => self.put_byte(b'}'),
+            Token::BeginArray => self.put_byte(b'['),
+            Token::EndArray => self.put_byte(b']'),
+            Token::Key(text) => self.put_string(text, true),
+            Token::String(text) => self.put_string(text, false),
             Token::Number(text) => self.put(text),
             Token::Bool(flag) => self.put(if flag { "true" } else { "false" }),
             Token::Null => self.put("null"),

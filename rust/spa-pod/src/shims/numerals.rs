@@ -19,9 +19,15 @@ pub fn parse<T: FromStr, S: AsRef<[u8]>>(text: S) -> Result<T, FromHexError> {
 }
 
 /// The number that a few digits are.
+#[inline(always)]
 fn few_digits(text: &[u8]) -> Option<u64> {
-    let is_short = (1..=18).contains(&text.len()) && text.iter().all(u8::is_ascii_digit);
-    is_short.then(|| text.iter().fold(0, |number, digit| 10 * number + u64::from(digit - b'0')))
+    if !(1..=18).contains(&text.len()) {
+        return None;
+    }
+    text.iter().try_fold(0, |number, letter| {
+        let digit = letter.wrapping_sub(b'0');
+        (digit < 10).then_some(10 * number + u64::from(digit))
+    })
 }
 
 pub fn parse_u64(text: &[u8]) -> Result<u64, FromHexError> {

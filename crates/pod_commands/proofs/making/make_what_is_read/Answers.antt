@@ -1,26 +1,27 @@
-use Rattle.std.proofs.Common.{ℕ, List, [], get_or, inl, refl, subst}
+use Rattle.std.proofs.Common.{ℕ, List, [], get_or, subst}
 use Rattle.std.specs.Borrow.{Bor}
 use Rattle.pod_commands.specs.Answers.{IsUnread}
 use Rattle.pod_commands.specs.Working.{WorksOn}
 use Rattle.pod_commands.proofs.Made.{next_left, none_left}
 use Rattle.pod_commands.proofs.Requested.{cause_is}
-use Rattle.pod_commands.proofs.Worked.{begins, finished, goes_on}
+use Rattle.pod_commands.proofs.Worked.{all_worked, begins, finished, goes_on}
 use Rattle.pod_commands.proofs.making.make_what_is_read.Goals as goal
 
 pub loop-name-init : goal.loop-name-init
-loop-name-init g c = begins _ _ _ _ _ _ _ _ c.new.ensures.items c.new-2.ensures.items
+loop-name-init g c = begins _ _ _ _ _ _ _ _ c.new-out.ensures.items c.new-refused.ensures.items
 
 pub loop-name-preserved : goal.loop-name-preserved
 loop-name-preserved g c =
     let d : Bor (List ℕ) = record { ref_ptr = (0, 0); now = [] } in
     let name = (get_or c.args.names.now c.loop-name.name-index d).now in
-    let old = c.loop-name.worked in
-    let new = c.in_ok-more.more in
-    goes_on _ _ _ _ _ _ _ _ _ _ _ c.in_ok-bytes.bytes.items old.out.items new.out.items old.refused.items new.refused.items
+    let olds = c.loop-name.refused.items in
+    let news = c.work_on.new.said.items in
+    goes_on _ _ _ _ _ _ _ _ _ _ _ c.in_ok-bytes.bytes.items c.in_ok-made.made.items _ _ olds news
     (next_left c.args.names.now c.loop-name.name-index d c.loop-name-test.true) c.in_ok-bytes.ensures.all c.read_named.ensures.left
-    (subst (λ bytes. WorksOn c.args.manner.reading c.args.manner.refused c.args.making name bytes old.out.items new.out.items old.refused.items new.refused.items)
-    c.as_slice.ensures.value c.in_ok-more.ensures)
-    c.loop-name.invariant
+    (all_worked _ _ _ name _ c.in_ok-made.made.items olds news
+    (subst (λ bytes. WorksOn c.args.manner.reading c.args.manner.refused c.args.making name 0 0 bytes c.in_ok-made.made.items olds news)
+    c.as_slice.ensures.value c.in_ok-made.ensures))
+    c.in_ok-add.ensures c.loop-name.invariant
 
 pub returns-clause-made : goal.returns-clause-made
 returns-clause-made g c =
@@ -28,7 +29,3 @@ returns-clause-made g c =
 
 pub returns-in_err-bytes-clause-refused : goal.returns-in_err-bytes-clause-refused
 returns-in_err-bytes-clause-refused g c = cause_is IsUnread c.from_residual.result _ c.from_residual.ensures.1 c.in_err-bytes.ensures.cause
-
-pub returns-in_err-more-clause-refused : goal.returns-in_err-more-clause-refused
-returns-in_err-more-clause-refused g c =
-    cause_is IsUnread c.from_residual-in_err-more.result _ c.from_residual-in_err-more.ensures.1 (inl refl)

@@ -5,8 +5,8 @@ use Rattle.clap.specs.Walk.{rows_of, texts}
 use Rattle.clap.specs.Words.{app_of, found_of, subcommand_of}
 use Rattle.clap.proofs.WalkLemmas.{first_value-rows}
 use Rattle.pod_commands.specs.Program.{program}
-use Rattle.pod_commands.specs.Requests.{HasManner, HasStream, HasStrictness, reading_in}
-use Rattle.pod_commands.proofs.Requested.{fault_is, found_is, no_fault, one_name, cause_is}
+use Rattle.pod_commands.specs.Requests.{HasManner, HasSettle, HasStream, reading_in}
+use Rattle.pod_commands.proofs.Requested.{fault_is, found_is, has_texts, no_fault, one_name, cause_is}
 use Rattle.pod_commands.proofs.request.request_of.Goals as goal
 
 pub returns-in_err-matches-clause-refused : goal.returns-in_err-matches-clause-refused
@@ -35,7 +35,19 @@ returns-in-Err-clause-nothing c =
     c.in_ok-matches.ensures.matches c.in-Some.ensures.name c.in-Some.ensures.rows in
     record {
       accepted = no_fault app ws c.in_ok-command.ensures c.in_ok-matches.ensures.kinds;
-      nothing = inr (c.in-Some.name.now, rows_of (found_of c.in-Some.given.now), found, c.in-Err.ensures.unknown);
+      nothing = inr (c.in-Some.name.now, rows_of (found_of c.in-Some.given.now), found, inl c.in-Err.ensures.unknown);
+    }
+
+pub returns-in-Err-texts_for-clause-nothing : goal.returns-in-Err-texts_for-clause-nothing
+returns-in-Err-texts_for-clause-nothing c =
+    let ws = texts c.args.words.now in
+    let app = app_of c.in_ok-command.command in
+    let found : subcommand_of program ws ≡ Some (c.in-Some.name.now, rows_of (found_of c.in-Some.given.now)) =
+    found_is app ws c.in_ok-matches.matches c.in-Some.name.now (rows_of (found_of c.in-Some.given.now)) c.in_ok-command.ensures
+    c.in_ok-matches.ensures.matches c.in-Some.ensures.name c.in-Some.ensures.rows in
+    record {
+      accepted = no_fault app ws c.in_ok-command.ensures c.in_ok-matches.ensures.kinds;
+      nothing = inr (c.in-Some.name.now, rows_of (found_of c.in-Some.given.now), found, inr c.in-Err-texts_for.ensures.wrong);
     }
 
 pub returns-clause-asked : goal.returns-clause-asked
@@ -56,7 +68,9 @@ returns-clause-asked c =
       manner = subst (λ fate. HasManner (reading_in rows) fate c.in-Some-word_of.word) c.manner_of.ensures.fate
           (subst (λ reading. HasManner reading c.manner_of.result.fate c.in-Some-word_of.word) c.manner_of.ensures.reading c.in-Some-word_of.ensures.manner);
       stream = subst (λ streams. HasStream streams c.in-Some-word_of.word) c.is_set.ensures c.in-Some-word_of.ensures.stream;
-      strictness = subst (λ strictness. HasStrictness strictness c.in-Some-word_of.word) c.strictness_of.ensures c.in-Some-word_of.ensures.strictness;
+      settle = subst (λ settles. HasSettle settles c.in-Some-word_of.word) c.is_set-2.ensures c.in-Some-word_of.ensures.settle;
+      read_as = has_texts rows c.in-Some.name.now c.in-Some-word_of.word c.in-Ok-texts_for.read_as c.in-Some-word_of.ensures.word
+          c.in-Some-word_of.ensures.texts c.in-Ok-texts_for.ensures.texts;
       names = c.in_ok-names.ensures;
       target = c.get_str.ensures ∙ first_value-rows (found_of c.in-Some.given.now) (codes "output");
     }

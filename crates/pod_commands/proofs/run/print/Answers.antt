@@ -1,4 +1,4 @@
-use Rattle.std.proofs.Common.{ap, subst, sym}
+use Rattle.std.proofs.Common.{refl, subst, sym}
 use Rattle.pod_commands.specs.Answers.{IsPrinted, outlet}
 use Rattle.pod_commands.specs.declared.answer.Answer.TheVariants.{Misused}
 use Rattle.pod_commands.specs.declared.misuse.Misuse.TheVariants.{WithPart}
@@ -18,6 +18,6 @@ returns-in-GoesOn g c =
     let contents = g.W.Write.contents c.args.device in
     let holds = g.S.Files.holds c.args.files.now in
     subst
-    (λ fate. IsPrinted c.args.printing c.args.manner.reading fate (Misused (WithPart c.option_of.result)) (g.R.Read.remaining c.args.input.now)
+    (λ fate. IsPrinted c.args.printing c.args.manner.reading fate (Misused (WithPart c.in-GoesOn.refused)) (g.R.Read.remaining c.args.input.now)
     c.args.names.now (outlet c.args.target contents contents holds holds))
-    (sym c.in-GoesOn.is) (ap (λ e. Misused (WithPart e)) c.option_of.ensures, untouched c.args.target contents holds)
+    (sym c.in-GoesOn.is) (refl, untouched c.args.target contents holds)

@@ -7,7 +7,7 @@ returns-in-Ok g c =
     let o = outlet c.args.target (g.W.Write.contents c.args.device) (g.W.Write.contents c.answered.result.1) (g.S.Files.holds c.args.files.now)
     (g.S.Files.holds c.answered.new.files) in
     all_printed c.args.printing (g.R.Read.remaining c.args.input.now) c.args.names.now o c.in-Ok.made.items c.shown-done.result c.answered.result.0
-    c.in-Ok.ensures.made c.shown-done.ensures c.answered.ensures.made
+    c.in-Ok.ensures.made c.sought_in-sought.result c.sought_in-sought.ensures c.shown-done.ensures c.answered.ensures.made
 
 pub returns-in-Err : goal.returns-in-Err
 returns-in-Err g c =

@@ -24,8 +24,5 @@ overflow_add-count c =
     let p = c.ranges.place.fits in
     omega (arith, f, p)
 
-pub returns-clause-small : goal.returns-clause-small
-returns-clause-small c =
-    let f = few c.args.input.now c.loop-front.left.now c.args.place c.loop-front.count c.requires.within c.loop-front.invariant in
-    let p = c.ranges.place.fits in
-    omega (arith, f, p)
+pub returns-clause-few : goal.returns-clause-few
+returns-clause-few c = few c.args.input.now c.loop-front.left.now c.args.place c.loop-front.count c.requires.within c.loop-front.invariant

@@ -12,6 +12,9 @@ returns-clause-reads c =
 pub returns-clause-good : goal.returns-clause-good
 returns-clause-good c = subst AreGood (sym c.into_bytes.ensures.reads_back) c.into_bytes.ensures.good
 
+pub returns-clause-printed : goal.returns-clause-printed
+returns-clause-printed c = c.into_bytes.ensures.items ∙ ap print (sym c.into_bytes.ensures.reads_back)
+
 pub returns-clause-exact : goal.returns-clause-exact
 returns-clause-exact c = λ h.
     let v = view c.args.value.now in (

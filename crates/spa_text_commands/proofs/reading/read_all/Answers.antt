@@ -13,15 +13,15 @@ loop-left-smaller c =
 
 pub loop-left-preserved : goal.loop-left-preserved
 loop-left-preserved c =
-    goes_on c.args.strictness c.args.bytes.now c.loop-left.left.now c.split_front.result.0.now c.split_front.result.1.now c.loop-left.pods.items
+    goes_on c.args.form c.args.bytes.now c.loop-left.left.now c.split_front.result.0.now c.split_front.result.1.now c.loop-left.pods.items
     c.add_text.new.pods.items c.loop-left.invariant
     (c.split_front.ensures (λ e. let l = ap length e in grind (arith, l, c.loop-left-test.true, c.is_empty.ensures)))
     c.in-Ok.ensures.added
 
 pub returns-in-Err-clause-refused : goal.returns-in-Err-clause-refused
 returns-in-Err-clause-refused c =
-    not_read c.args.strictness c.args.bytes.now c.loop-left.left.now c.split_front.result.0.now c.split_front.result.1.now c.loop-left.pods.items
+    not_read c.args.form c.args.bytes.now c.loop-left.left.now c.split_front.result.0.now c.split_front.result.1.now c.loop-left.pods.items
     c.position_behind-line.result.0 c.failure_at.result c.loop-left.invariant
     (c.split_front.ensures (λ e. let l = ap length e in grind (arith, l, c.loop-left-test.true, c.is_empty.ensures)))
     c.position_behind-line.ensures.line
-    (c.failure_at.ensures c.args.strictness c.in-Err.ensures.refused)
+    (c.failure_at.ensures c.args.form c.in-Err.ensures.refused)

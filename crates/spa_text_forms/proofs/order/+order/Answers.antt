@@ -1,18 +1,20 @@
-use Rattle.std.proofs.Common.{◌≡◌, ◌+◌, ◌*◌, ◌<◌, ◌∷◌, ◌++◌, length, drop, sym, ap, ◌∙◌, subst, arith, rules}
+use Rattle.std.proofs.Common.{◌≡◌, ◌+◌, ◌*◌, ◌<◌, ◌∷◌, ◌++◌, length, drop, refl, sym, ap, ◌∙◌, subst, arith, rules}
 use Rattle.std.proofs.lemmas.List.{drop_more}
 use Rattle.std.proofs.lemmas.Result.{on_ok_weaker}
 use Rattle.json.proofs.Trees.{item_smaller, member_smaller}
 use Rattle.json.specs.Tree.{json_tokens, items_tokens, members_tokens, HasNumbers, ItemsHaveNumbers, MembersHaveNumbers}
 use Rattle.json.specs.Value.{value_view, items_view, members_view}
-use Rattle.spa_text_forms.proofs.Views.{object_ordered}
+use Rattle.spa_text_forms.specs.Order.{object_in, ordered, pieces, type_in}
+use Rattle.spa_text_forms.proofs.Views.{object_is}
 use Rattle.spa_text_forms.proofs.order.+order.Goals as goal
 
 pub put-returns-in-Object-clause-ok : goal.put-returns-in-Object-clause-ok
 put-returns-in-Object-clause-ok t c =
     on_ok_weaker c.put_object.result
     (λ e. e ∙ ap (λ ts. c.args.writer.now.tokens ++ ts)
-    (object_ordered c.args.strictness c.args.place c.args.value.now c.in-Object.members c.as_slice-in-Object.result.now c.in-Object.is
-    c.as_slice-in-Object.ensures.value))
+    (object_is (ordered c.args.strictness c.args.place)
+    (λ ms. object_in c.args.place (pieces c.args.strictness c.args.place (type_in ms) ms)) (λ ms. refl) c.args.value.now c.in-Object.members
+    c.as_slice-in-Object.result.now c.in-Object.is c.as_slice-in-Object.ensures.value))
     c.put_object.ensures.ok
 
 pub put_items-put-requires : goal.put_items-put-requires

@@ -6,6 +6,7 @@ use crate::parts::pod_commands::misuse::Misuse;
 use crate::parts::pod_commands::plain::Plain;
 use crate::shims::clap::Error;
 use crate::parts::spa_refusals::{NamedRefusal, Refusal};
+use crate::parts::spa_text_commands::selection::Selection;
 use spa_pod::shims::memory::AllocError;
 use core::fmt;
 use std::io::{self, Write};
@@ -21,8 +22,8 @@ pub enum Answer<'a> {
     Passed(Vec<NamedRefusal<'a>>),
     /// All was printed, and so many of the printed pods, of which there are some, are refused.
     Shown(usize),
-    /// All was printed, which is nothing: there is no value under a key of this name.
-    Missing(&'a str),
+    /// All was printed, which is nothing: what is looked for inside pods isn't there.
+    Missing(Selection<'a>),
     /// The work was refused, for this reason.
     Refused(Failure<'a>),
     /// The command line is wrong, for this reason.
@@ -32,7 +33,7 @@ pub enum Answer<'a> {
 }
 
 impl Answer<'_> {
-    /// The program's status: 0 where the work was done or help given, 1 where it was refused, two inputs differ or nothing is under a key, 2 where the words
+    /// The program's status: 0 where the work was done or help given, 1 where it was refused, two inputs differ or what is looked for isn't there, 2 where the words
     /// are none of the program's.
     pub fn status(&self) -> u8 {
         match self {
@@ -97,6 +98,24 @@ impl fmt::Display for Target<'_> {
     }
 }
 
+/// What is said of the objects that are looked for, by the names of their types and their ids.
+#[derive(Clone, Copy)]
+struct Objects<'a> {
+    type_: Option<&'a str>,
+    id: Option<&'a str>,
+}
+
+impl fmt::Display for Objects<'_> {
+    fn fmt(&self, f: &mut fmt::Formatter<'_>) -> fmt::Result {
+        match (self.type_, self.id) {
+            (Some(type_), Some(id)) => write!(f, "the type '{type_}' and the id '{id}'"),
+            (Some(type_), None) => write!(f, "the type '{type_}'"),
+            (None, Some(id)) => write!(f, "the id '{id}'"),
+            (None, None) => Ok(()),
+        }
+    }
+}
+
 impl fmt::Display for Failure<'_> {
     fn fmt(&self, f: &mut fmt::Formatter<'_>) -> fmt::Result {
         match self {
@@ -131,7 +150,7 @@ pub fn report<W: Write, E: Write>(
         Answer::Differs => Ok(()),
         Answer::Passed(pods) => report_pods(faults, pods.as_slice()),
         Answer::Shown(refused) => report_count(faults, *refused),
-        Answer::Missing(name) => report_missing(faults, *name),
+        Answer::Missing(selection) => report_missing(faults, *selection),
         Answer::Refused(why) => report_failure(faults, why),
         Answer::Misused(why) => report_misuse(faults, why),
         Answer::Said(error) => {
@@ -158,9 +177,47 @@ fn report_count<E: Write>(faults: &mut E, count: usize) -> io::Result<()> {
     writeln!(faults, "pod: refused pods: {count}")
 }
 
-/// Writes the line that says that there is no value under a key of this name.
-pub fn report_missing<E: Write>(faults: &mut E, name: &str) -> io::Result<()> {
-    writeln!(faults, "pod: no value has the key '{name}'")
+/// Writes the line that says that what is looked for isn't there.
+pub fn report_missing<E: Write>(faults: &mut E, selection: Selection<'_>) -> io::Result<()> {
+    match selection.key {
+        Some(key) => report_no_value(faults, key, selection.type_, selection.id),
+        None => {
+            let objects = Objects {
+                type_: selection.type_,
+                id: selection.id,
+            };
+            writeln!(faults, "pod: no object has {objects}")
+        }
+    }
+}
+
+/// Writes the line that says that no value has this key, in objects with this type and this id where they are given.
+fn report_no_value<E: Write>(
+    faults: &mut E,
+    key: &str,
+    type_: Option<&str>,
+    id: Option<&str>,
+) -> io::Result<()> {
+    match type_ {
+        Some(_) => report_no_value_in(faults, key, Objects { type_, id }),
+        None => match id {
+            Some(_) => report_no_value_in(faults, key, Objects { type_, id }),
+            None => report_no_key(faults, key),
+        },
+    }
+}
+
+/// Writes the line that says that no value has this key.
+fn report_no_key<E: Write>(faults: &mut E, key: &str) -> io::Result<()> {
+    writeln!(faults, "pod: no value has the key '{key}'")
+}
+
+/// Writes the line that says that no value has this key in such objects.
+fn report_no_value_in<E: Write>(faults: &mut E, key: &str, objects: Objects<'_>) -> io::Result<()> {
+    writeln!(
+        faults,
+        "pod: no value has the key '{key}' in an object with {objects}"
+    )
 }
 
 /// Writes the line of a refused pod.

@@ -13,9 +13,9 @@ const ABOUT: &str =
 
 /// What stands behind the help of the program.
 const EXAMPLES: &str =
-    "Without a FILE, or where FILE is -, the standard input is read. show, --stream, --nth, --key and --hex write as input is read, unless --lenient is given. Other output is written once all input is accepted, or with --keep-going and --keep-refused once it is read.
+    "Without a FILE, or where FILE is -, the standard input is read. show, --stream, --nth, --type, --id, --key and --hex write as input is read, unless --lenient is given. Other output is written once all input is accepted, or with --keep-going and --keep-refused once it is read.
 
-Status: 0 the work is done; 1 a pod is refused, two inputs differ, no value has the key of --key, or something can't be read or written; 2 the command line is wrong.
+Status: 0 the work is done; 1 a pod is refused, two inputs differ, nothing has the type, id or key that is looked for, or something can't be read or written; 2 the command line is wrong.
 
 Example: cat props.pod route.pod | pod rewrite -o clean.pod
 
@@ -119,19 +119,15 @@ fn to_pods<'a>(
 fn stream<'a>() -> Arg<'a> {
     flag(
         "stream",
-        "Writes each block of input before the next is read, in constant memory; what was written before a refused pod stays",
+        "Writes each block of input before the next is read, in constant memory, but for about 100 bytes for each refused pod that --keep-going names; what was written before a refused pod stays",
     )
 }
 
 /// A word that prints parts of inputs, and in colours.
 fn with_parts<'a>(command: Command<'a>) -> Result<Command<'a>, AllocError> {
     let with_nth = command.arg(nth())?;
-    let with_key = with_nth.arg(valued(
-        "key",
-        "NAME",
-        "Prints only the values that objects have under the keys of these names or numbers, between commas, at any depth of structs and objects",
-    ))?;
-    let with_hex = with_key.arg(flag(
+    let with_names = with_names(with_nth)?;
+    let with_hex = with_names.arg(flag(
         "hex",
         "Prints bytes in hex: show below the lines of each pod, json as a string for each pod",
     ))?;
@@ -139,6 +135,25 @@ fn with_parts<'a>(command: Command<'a>) -> Result<Command<'a>, AllocError> {
         "color",
         "WHEN",
         "Prints in colours: always, never, or auto, which is where the output is a terminal and NO_COLOR isn't set",
+    ))
+}
+
+/// A word that looks for objects and values inside pods.
+fn with_names<'a>(command: Command<'a>) -> Result<Command<'a>, AllocError> {
+    let with_type = command.arg(valued(
+        "type",
+        "NAME",
+        "Prints only the objects of the types of these names or numbers, between commas, at any depth of structs and objects",
+    ))?;
+    let with_id = with_type.arg(valued(
+        "id",
+        "NAME",
+        "Prints only the objects with the ids of these names or numbers, between commas, at any depth",
+    ))?;
+    with_id.arg(valued(
+        "key",
+        "NAME",
+        "Prints only the values that such objects, or without --type and --id all objects, have under the keys of these names or numbers, between commas",
     ))
 }
 
@@ -162,6 +177,20 @@ fn rewrite<'a>() -> Result<Command<'a>, AllocError> {
         "Example: pod rewrite --keep-going recording.pods -o clean.pods",
     )?;
     plain.arg(stream())
+}
+
+/// The word `fixate`.
+fn fixate<'a>() -> Result<Command<'a>, AllocError> {
+    let plain = to_pods(
+        "fixate",
+        "Sets each choice in a top-level object to its default, unless its property is marked not to be fixated",
+        "Example: pod fixate buffers.pod -o fixed.pod",
+    )?;
+    with_flag(
+        plain,
+        "settle",
+        "Writes each pod in its canonical encoding, with the plain default in place of each choice that is set to it",
+    )
 }
 
 /// The word `check`.
@@ -194,9 +223,32 @@ fn read<'a>() -> Result<Command<'a>, AllocError> {
         "Reads JSON with names, whose keys come in any order, and writes it as pods",
         "Example: pod read formats.json -o formats.pods",
     )?;
-    plain.arg(flag(
+    let with_loose = plain.arg(flag(
         "loose",
         "Also takes a value whose type isn't the one that PipeWire's tables have for its key",
+    ))?;
+    let with_hex = with_loose.arg(flag(
+        "from-hex",
+        "Reads bytes in hexadecimal, also rows of xxd, hexdump -Cv and od -v -t x1, and writes these bytes as they are",
+    ))?;
+    with_params(with_hex)
+}
+
+/// A word that reads what `pw-dump` prints, too.
+fn with_params<'a>(command: Command<'a>) -> Result<Command<'a>, AllocError> {
+    let with_dump = command.arg(flag(
+        "pw-dump",
+        "Reads what pw-dump prints of params: an object, or a list of them, as .info.params.EnumFormat",
+    ))?;
+    let with_type = with_dump.arg(valued(
+        "type",
+        "NAME",
+        "With --pw-dump: the type of the objects by its name or number, such as Format",
+    ))?;
+    with_type.arg(valued(
+        "id",
+        "NAME",
+        "With --pw-dump: the id of the objects by its name or number, such as EnumFormat",
     ))
 }
 
@@ -244,11 +296,7 @@ fn with_json<'a>(command: Command<'a>) -> Result<Command<'a>, AllocError> {
 fn with_writers<'a>(command: Command<'a>) -> Result<Command<'a>, AllocError> {
     let one = rewrite()?;
     let first = command.subcommand(one)?;
-    let fixate = to_pods(
-        "fixate",
-        "Sets each choice in a top-level object to its default, unless its property is marked not to be fixated",
-        "Example: pod fixate buffers.pod -o fixed.pod",
-    )?;
+    let fixate = fixate()?;
     let second = first.subcommand(fixate)?;
     let check = check()?;
     second.subcommand(check)

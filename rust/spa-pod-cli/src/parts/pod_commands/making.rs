@@ -7,16 +7,20 @@ use crate::parts::pod_commands::colours::in_colours;
 use crate::parts::pod_commands::files::{Files, read_named};
 use crate::parts::pod_commands::reading::read_leniently;
 use crate::parts::pod_commands::refusing::refused;
-use crate::parts::pod_commands::request::{Making, Printing, Style};
+use crate::parts::pod_commands::request::{Making, Printing, Style, Texts};
 use crate::parts::pod_commands::streaming::check_all;
 use spa_pod::parts::spa_in_place::rewrite_in_place;
+use crate::parts::spa_meet_commands::settling::settle_all;
 use crate::parts::spa_pod_commands::making::{check, fixated};
 use crate::parts::spa_recordings::going_on::{Made, Maker, Manner, make_each};
 use crate::parts::spa_recordings::reading::Reading;
 use crate::parts::spa_refusals::{NamedRefusal, add_refusals};
+use crate::parts::spa_text_commands::answer::Failure as TextFailure;
+use crate::parts::spa_text_commands::hexadecimal::read_hexadecimal;
 use crate::parts::spa_text_commands::printing::print_all;
 use crate::parts::spa_text_commands::reading::read_all;
 use crate::parts::spa_text_commands::showing::show_pods;
+use spa_pod::parts::spa_text_forms::Form;
 use spa_pod::shims::memory::AllocError;
 use std::io::Read;
 
@@ -82,17 +86,48 @@ fn make<'a>(
 ) -> Result<Vec<u8>, Failure<'a>> {
     match making {
         Making::Json(style) => print(style, name, bytes.as_slice()),
-        Making::Read(strictness) => match read_all(strictness, bytes.as_slice()) {
-            Ok(pods) => Ok(pods),
-            Err(why) => Err(Failure::Texts(name, why)),
-        },
+        Making::Read(texts) => read(texts, name, bytes.as_slice()),
         Making::Rewrite => rewrite(name, bytes),
         Making::Fixate => fixate(name, bytes),
+        Making::Settle => settle(name, bytes.as_slice()),
         Making::Print(printing) => print_parts(printing, name, bytes.as_slice()),
         Making::Check => match check(bytes.as_slice()) {
             Ok(()) => Ok(Vec::new()),
             Err(_) => Err(refused(Reading::Exact, name, bytes.as_slice())),
         },
+    }
+}
+
+/// The pods of the texts that these bytes are, read so.
+fn read<'a>(
+    texts: Texts,
+    name: &'a str,
+    bytes: &[u8],
+) -> Result<Vec<u8>, Failure<'a>> {
+    match texts {
+        Texts::Named(strictness) => read_in(Form::Named(strictness), name, bytes),
+        Texts::Dump { type_, id } => read_in(Form::Dump { type_, id }, name, bytes),
+        Texts::Hex => read_hex(name, bytes),
+    }
+}
+
+/// The bytes that these have in hexadecimal.
+fn read_hex<'a>(name: &'a str, bytes: &[u8]) -> Result<Vec<u8>, Failure<'a>> {
+    match read_hexadecimal(bytes) {
+        Ok(read) => Ok(read),
+        Err(why) => Err(Failure::Texts(name, why)),
+    }
+}
+
+/// The pods of the texts in this form.
+fn read_in<'a>(
+    form: Form,
+    name: &'a str,
+    bytes: &[u8],
+) -> Result<Vec<u8>, Failure<'a>> {
+    match read_all(form, bytes) {
+        Ok(pods) => Ok(pods),
+        Err(why) => Err(Failure::Texts(name, why)),
     }
 }
 
@@ -152,6 +187,17 @@ fn fixate<'a>(name: &'a str, bytes: Vec<u8>) -> Result<Vec<u8>, Failure<'a>> {
     }
 }
 
+/// The canonical encodings of the values of the pods that these bytes consist of, objects with plain values in place of choices.
+fn settle<'a>(name: &'a str, bytes: &[u8]) -> Result<Vec<u8>, Failure<'a>> {
+    if check(bytes).is_err() {
+        return Err(refused(Reading::Exact, name, bytes));
+    }
+    match settle_all(bytes) {
+        Ok(pods) => Ok(pods),
+        Err(AllocError) => Err(Failure::OutOfMemory),
+    }
+}
+
 /// Adds these bytes. What is added to nothing isn't copied.
 fn add(out: &mut Vec<u8>, more: Vec<u8>) -> Result<(), AllocError> {
     if out.is_empty() {
@@ -184,36 +230,40 @@ pub(crate) fn make_what_is_read<'a, R: Read, S: Files>(
     input: &mut R,
     files: &S,
 ) -> Result<Worked<'a>, Failure<'a>> {
-    let mut worked = Worked {
-        out: Vec::new(),
-        refused: Vec::new(),
-    };
+    let mut out = Vec::new();
+    let mut refused = Vec::new();
     for name in names {
         let bytes = read_named(*name, input, files)?;
-        let more = work_on(making, manner, *name, bytes.as_slice(), worked)?;
-        worked = more;
+        let made = work_on(
+            making,
+            manner,
+            *name,
+            0,
+            0,
+            bytes.as_slice(),
+            &mut refused,
+        )?;
+        add(&mut out, made)?;
     }
-    Ok(worked)
+    Ok(Worked { out, refused })
 }
 
-/// Adds what is made of these bytes, which are those of the input of this name, and what is said of its refused pods.
-fn work_on<'a>(
+/// What is made of a part of the input of this name, which so many pods and bytes of it stand before. What is said of its refused pods is added.
+pub(crate) fn work_on<'a>(
     making: Making<'_>,
     manner: Manner,
     name: &'a str,
-    bytes: &[u8],
-    worked: Worked<'a>,
-) -> Result<Worked<'a>, AllocError> {
-    let mut said = worked.refused;
+    count: usize,
+    place: usize,
+    part: &[u8],
+    said: &mut Vec<NamedRefusal<'a>>,
+) -> Result<Vec<u8>, AllocError> {
     let mut made = Made {
-        out: worked.out,
+        out: Vec::new(),
         refused: Vec::new(),
     };
-    make_each(&making, manner, name, bytes, &mut made)?;
+    make_each(&making, manner, name, place, part, &mut made)?;
     let pods = made.refused.as_slice();
-    add_refusals(manner.reading, bytes, pods, &mut said)?;
-    Ok(Worked {
-        out: made.out,
-        refused: said,
-    })
+    add_refusals(manner.reading, count, place, part, pods, said)?;
+    Ok(made.out)
 }

@@ -4,17 +4,20 @@
 use spa_pod::shims::prelude::*;
 use crate::parts::pod_commands::colours::Colours;
 use crate::parts::pod_commands::command::program;
-use crate::parts::pod_commands::misuse::Misuse;
+use crate::parts::pod_commands::misuse::{Misuse, OfRead};
 use crate::parts::pod_commands::screen::Screen;
-use crate::parts::pod_commands::suggesting::similar_key;
+use crate::parts::pod_commands::suggesting::similar_name;
 use crate::shims::clap::{ArgMatches, Error};
 use crate::parts::spa_meet_commands::pair::Work;
+use spa_pod::parts::spa_names::Table;
 use crate::parts::spa_recordings::going_on::Refused;
 use crate::parts::spa_recordings::reading::Reading;
-use crate::parts::spa_text_commands::key_names::are_key_names;
+use crate::parts::spa_text_commands::naming::{Named, are_names};
 use crate::parts::spa_text_commands::printing::Layout;
 use crate::parts::spa_text_commands::selection::{Form, Printout, Selection};
+use spa_pod::parts::spa_text_forms::key_number;
 use spa_pod::parts::spa_text_read::Strictness;
+use spa_pod::parts::spa_text_read::names::ids_of;
 use spa_pod::shims::memory::AllocError;
 
 /// How texts are printed.
@@ -31,17 +34,30 @@ pub struct Printing<'a> {
     pub colours: Colours,
 }
 
+/// How texts are read.
+#[derive(Clone, Copy)]
+pub enum Texts {
+    /// As values with names, so strictly.
+    Named(Strictness),
+    /// As what `pw-dump` prints of params, which are objects of this type and this id.
+    Dump { type_: u32, id: u32 },
+    /// As bytes in hexadecimal.
+    Hex,
+}
+
 /// What is made of each input.
 #[derive(Clone, Copy)]
 pub enum Making<'a> {
     /// The texts of its pods, as JSON in this style.
     Json(Style),
-    /// The pods of its texts, which are read so.
-    Read(Strictness),
+    /// The pods of its texts, which are read so, or the bytes that they have in hexadecimal.
+    Read(Texts),
     /// The rewritings of its pods.
     Rewrite,
     /// Its pods, of which objects are fixated.
     Fixate,
+    /// The canonical encodings of its pods' values, objects with plain values in place of choices.
+    Settle,
     /// This is printed of its pods.
     Print(Printing<'a>),
     /// Nothing: it has to consist of pods.
@@ -118,12 +134,17 @@ pub(crate) fn request_of<'a>(
         Ok(options) => options,
         Err(why) => return Ok(Err(why)),
     };
+    let read_as = match texts_for(name, given) {
+        Ok(read_as) => read_as,
+        Err(wrong) => return Ok(Err(wrong)),
+    };
     let Some(word) = word_of(
         name,
         options,
         manner_of(given),
         is_set(given, "stream"),
-        strictness_of(given),
+        read_as,
+        is_set(given, "settle"),
     ) else {
         return Ok(Err(Misuse::NoWord));
     };
@@ -141,14 +162,15 @@ fn word_of<'a>(
     options: Options<'a>,
     manner: Manner,
     streams: bool,
-    strictness: Strictness,
+    read_as: Texts,
+    settles: bool,
 ) -> Option<Word<'a>> {
     match name {
         "show" => Some(shown(options, manner.reading, streams)),
         "json" => Some(as_json(options, manner, streams)),
-        "read" => Some(Word::Make(Making::Read(strictness), PLAIN)),
+        "read" => Some(Word::Make(Making::Read(read_as), PLAIN)),
         "rewrite" => Some(rewriting(manner, streams)),
-        "fixate" => Some(Word::Make(Making::Fixate, manner)),
+        "fixate" => Some(Word::Make(fixating(settles), manner)),
         "check" => Some(Word::Make(Making::Check, manner)),
         "diff" => Some(Word::Diff(manner.reading)),
         "meet" => Some(Word::Agree(Work::Negotiate, manner.reading)),
@@ -190,14 +212,14 @@ impl<'a> Options<'a> {
 
     /// Whether neither a part of an input is asked for nor bytes are.
     fn is_plain(&self) -> bool {
-        !(self.hex || self.selection.nth.is_some() || self.selection.key.is_some())
+        !(self.hex || self.selection.nth.is_some() || self.selection.looks_inside())
     }
 }
 
 /// The options that are given, where this is the standard output; or the one whose value is none of its own.
 fn options_of<'a>(given: &ArgMatches<'a>, screen: Screen) -> Result<Options<'a>, Misuse<'a>> {
-    let nth = match number_of(given.get_str("nth")) {
-        Ok(nth) => nth,
+    let selection = match selection_of(given) {
+        Ok(selection) => selection,
         Err(why) => return Err(why),
     };
     let to_terminal = takes_colours(screen, given.get_str("output"));
@@ -205,20 +227,37 @@ fn options_of<'a>(given: &ArgMatches<'a>, screen: Screen) -> Result<Options<'a>,
         Ok(colours) => colours,
         Err(why) => return Err(why),
     };
-    let key = match key_of(given.get_str("key")) {
-        Ok(key) => key,
-        Err(why) => return Err(why),
-    };
     Ok(Options {
         layout: layout_of(given),
         colours,
         hex: is_set(given, "hex"),
-        selection: Selection {
-            nth,
-            key,
-            type_: None,
-            id: None,
-        },
+        selection,
+    })
+}
+
+/// Which pods are asked for, and what is looked for in them; or the option whose value is none of its own.
+fn selection_of<'a>(given: &ArgMatches<'a>) -> Result<Selection<'a>, Misuse<'a>> {
+    let nth = match number_of(given.get_str("nth")) {
+        Ok(nth) => nth,
+        Err(why) => return Err(why),
+    };
+    let key = match names_given(Named::Keys, given.get_str("key")) {
+        Ok(key) => key,
+        Err(why) => return Err(why),
+    };
+    let type_ = match names_given(Named::Types, given.get_str("type")) {
+        Ok(type_) => type_,
+        Err(why) => return Err(why),
+    };
+    let id = match names_given(Named::Ids, given.get_str("id")) {
+        Ok(id) => id,
+        Err(why) => return Err(why),
+    };
+    Ok(Selection {
+        nth,
+        key,
+        type_,
+        id,
     })
 }
 
@@ -235,15 +274,15 @@ fn colours_of<'a>(when: Option<&'a str>, to_terminal: bool) -> Result<Colours, M
     }
 }
 
-/// The value of `--key`, if it is given.
-fn key_of<'a>(name: Option<&'a str>) -> Result<Option<&'a str>, Misuse<'a>> {
-    let Some(key) = name else {
+/// The value of the option for names of types, of ids or of keys, if it is given.
+fn names_given<'a>(named: Named, given: Option<&'a str>) -> Result<Option<&'a str>, Misuse<'a>> {
+    let Some(names) = given else {
         return Ok(None);
     };
-    if are_key_names(key) {
-        return Ok(Some(key));
+    if are_names(named, names) {
+        return Ok(Some(names));
     }
-    Err(Misuse::Key(key, similar_key(key)))
+    Err(Misuse::Name(named, names, similar_name(named, names)))
 }
 
 /// Whether texts are coloured where `--color` doesn't say: they go to a terminal, and `NO_COLOR` isn't set.
@@ -274,6 +313,7 @@ fn makes_pods(making: Making<'_>) -> bool {
         Making::Read(_) => true,
         Making::Rewrite => true,
         Making::Fixate => true,
+        Making::Settle => true,
         Making::Print(_) => false,
         Making::Check => false,
     }
@@ -384,6 +424,15 @@ fn rewriting<'a>(manner: Manner, streams: bool) -> Word<'a> {
     }
 }
 
+/// Objects are fixated, with `--settle` or without it.
+fn fixating<'a>(settles: bool) -> Making<'a> {
+    if settles {
+        Making::Settle
+    } else {
+        Making::Fixate
+    }
+}
+
 /// Texts are never read leniently, nor passed over.
 const PLAIN: Manner = Manner {
     reading: Reading::Exact,
@@ -445,9 +494,75 @@ fn layout_by(is_pretty: bool) -> Layout {
     }
 }
 
-/// How strictly texts are to be read.
-fn strictness_of(given: &ArgMatches<'_>) -> Strictness {
-    strictness_by(is_set(given, "loose"))
+/// How texts are read without `--pw-dump`, where `--from-hex` is given, or isn't, and `--loose`.
+fn texts_by(from_hex: bool, is_loose: bool) -> Texts {
+    if from_hex {
+        Texts::Hex
+    } else {
+        Texts::Named(strictness_by(is_loose))
+    }
+}
+
+/// How the word of this name reads texts; only `read` does.
+fn texts_for<'a>(name: &str, given: &ArgMatches<'a>) -> Result<Texts, Misuse<'a>> {
+    if name != "read" {
+        return Ok(Texts::Named(Strictness::Strict));
+    }
+    texts_of(
+        is_set(given, "from-hex"),
+        is_set(given, "loose"),
+        is_set(given, "pw-dump"),
+        given.get_str("type"),
+        given.get_str("id"),
+    )
+}
+
+/// How texts are read where `--from-hex` is given, or isn't, `--loose` and `--pw-dump`, and `--type` and `--id` have these values.
+fn texts_of<'a>(
+    from_hex: bool,
+    is_loose: bool,
+    is_dump: bool,
+    type_: Option<&'a str>,
+    id: Option<&'a str>,
+) -> Result<Texts, Misuse<'a>> {
+    match (is_dump, from_hex, is_loose) {
+        (false, _, _) => plain_texts(from_hex, is_loose, type_, id),
+        (true, true, _) => Err(Misuse::Read(OfRead::HexDump)),
+        (true, false, true) => Err(Misuse::Read(OfRead::LooseDump)),
+        (true, false, false) => params_in(type_, id),
+    }
+}
+
+/// How texts are read without `--pw-dump`, which `--type` and `--id` need.
+fn plain_texts<'a>(
+    from_hex: bool,
+    is_loose: bool,
+    type_: Option<&str>,
+    id: Option<&str>,
+) -> Result<Texts, Misuse<'a>> {
+    match (type_, id) {
+        (None, None) => Ok(texts_by(from_hex, is_loose)),
+        _ => Err(Misuse::Read(OfRead::WithoutDump)),
+    }
+}
+
+/// How texts are read with `--pw-dump`, where `--type` and `--id` have these values.
+fn params_in<'a>(type_: Option<&'a str>, id: Option<&'a str>) -> Result<Texts, Misuse<'a>> {
+    match (type_, id) {
+        (Some(type_), Some(id)) => params_of(type_, id),
+        _ => Err(Misuse::Read(OfRead::DumpAlone)),
+    }
+}
+
+/// Params of the type and the id of these names.
+fn params_of<'a>(type_: &'a str, id: &'a str) -> Result<Texts, Misuse<'a>> {
+    let Some(number) = key_number(Table::Types, type_) else {
+        return Err(Misuse::Read(OfRead::TypeName(type_)));
+    };
+    match key_number(ids_of(number), id) {
+        Some(id) => Ok(Texts::Dump { type_: number, id }),
+        None => Err(Misuse::Read(OfRead::IdName(id))),
+    }
 }
 
 /// The strictness where `--loose` is given, or isn't.

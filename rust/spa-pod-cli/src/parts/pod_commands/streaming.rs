@@ -91,7 +91,7 @@ fn stream_reader<'a, R: Read, W: Write>(
 }
 
 /// The failure of the input of this name for this reason.
-fn failure_of<'a>(name: &'a str, why: Stop) -> Failure<'a> {
+pub(crate) fn failure_of<'a>(name: &'a str, why: Stop) -> Failure<'a> {
     match why {
         Stop::Pod {
             number,

@@ -4,3 +4,4 @@ pub mod answer;
 pub mod lists;
 pub mod pair;
 pub mod progress;
+pub mod settling;

@@ -7,7 +7,7 @@ use spa_pod::parts::spa_bytes::open;
 use spa_pod::shims::memory::AllocError;
 
 /// What becomes of a refused pod.
-#[derive(Clone, Copy)]
+#[derive(Clone, Copy, Debug)]
 pub enum Refused {
     /// It is left out.
     LeftOut,
@@ -47,7 +47,7 @@ pub trait Maker {
     fn make(&self, pods: Vec<u8>) -> Result<Vec<u8>, AllocError>;
 }
 
-/// Adds what is made of the pods of the input of this name, and which of them are refused.
+/// Adds what is made of the pods of the input of this name, and which of them are refused; so many bytes of it stand before these.
 ///
 /// A refused pod is as long as its size word says; where that is more than is left, or no size word is there, it is all that is left. It takes
 /// time in proportion to the input, beside what the maker takes.
@@ -55,12 +55,13 @@ pub fn make_each<'a, M: Maker>(
     maker: &M,
     manner: Manner,
     name: &'a str,
+    before: usize,
     input: &[u8],
     made: &mut Made<'a>,
 ) -> Result<(), AllocError> {
     let mut left = input;
     loop {
-        let place = input.len() - left.len();
+        let place = before + (input.len() - left.len());
         match make_next(maker, manner, name, place, left, made)? {
             Some(rest) => left = rest,
             None => return Ok(()),

@@ -2,6 +2,7 @@
 //! What is made of recordings: pods one after another, read exactly or leniently, of which some may be refused.
 mod blocks;
 pub mod going_on;
+pub mod passing;
 pub mod plausible;
 pub mod reading;
 pub mod streaming;

@@ -79,7 +79,7 @@ fn accept(
 }
 
 /// The refusal of the pod of this number that begins at this byte of the input, and isn't read.
-pub(crate) fn refusal_at(
+fn refusal_at(
     reading: Reading,
     input: &[u8],
     place: usize,

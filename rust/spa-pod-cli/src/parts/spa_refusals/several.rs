@@ -2,7 +2,7 @@
 //! The refused pods of an input.
 
 use spa_pod::shims::prelude::*;
-use crate::parts::spa_refusals::refusal::{Refusal, refusal_at};
+use crate::parts::spa_refusals::refusal::{Refusal, refusal_of};
 use spa_pod::parts::spa_bytes::open;
 use crate::parts::spa_recordings::going_on::RefusedPod;
 use crate::parts::spa_recordings::reading::Reading;
@@ -15,17 +15,22 @@ pub struct NamedRefusal<'a> {
     pub refusal: Refusal,
 }
 
-/// Adds the refusals of these pods of the input, which aren't read.
+/// Adds the refusals of these pods of a part of an input, which aren't read; so many pods and bytes of the input stand before that part.
 pub fn add_refusals<'a>(
     reading: Reading,
+    count: usize,
+    before: usize,
     input: &[u8],
     pods: &[RefusedPod<'a>],
     out: &mut Vec<NamedRefusal<'a>>,
 ) -> Result<(), AllocError> {
     let mut counted = Counted { at: 0, count: 0 };
     for pod in pods {
-        counted = count_to(input, up_to(counted, pod.place), pod.place);
-        let refusal = refusal_at(reading, input, pod.place, counted.count + 1)?;
+        let at = pod.place - before;
+        counted = count_to(input, up_to(counted, at), at);
+        let (_, left) = input.split_at(at);
+        let number = count + counted.count + 1;
+        let refusal = refusal_of(reading, left, pod.place, number)?;
         out.try_push(NamedRefusal {
             name: pod.name,
             refusal,

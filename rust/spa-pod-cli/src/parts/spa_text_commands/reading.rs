@@ -5,10 +5,12 @@ use spa_pod::shims::prelude::*;
 use crate::parts::spa_text_commands::answer::Failure;
 use crate::parts::spa_text_commands::extent::{position_behind, split_text};
 use crate::parts::spa_text_commands::strings::behind_string;
+use crate::parts::spa_text_commands::structs::add_struct;
+use spa_pod::shims::json::Scratch;
 use spa_pod::parts::spa_sink::GenError;
-use spa_pod::parts::spa_text::{Cause, Misfit, Strictness};
-use spa_pod::parts::spa_text_forms::FreeReader;
-use spa_pod::parts::spa_value::Held;
+use spa_pod::parts::spa_text::{Cause, Misfit};
+use spa_pod::parts::spa_text_forms::{Form, FreeReader};
+use spa_pod::parts::spa_value::{Held, Value};
 use spa_pod::parts::spa_write::write_sized;
 
 /// Why a text isn't read.
@@ -24,14 +26,16 @@ enum Unread {
     },
 }
 
-/// The pods of the values of which the bytes are texts, among blank lines; read strictly, of no value with another type than the one that belongs under a key.
-pub fn read_all(strictness: Strictness, bytes: &[u8]) -> Result<Vec<u8>, Failure> {
+/// The pods of the values of which the bytes are texts in this form, among blank lines; read strictly, of no value with another type than the one that
+/// belongs under a key.
+pub fn read_all(form: Form, bytes: &[u8]) -> Result<Vec<u8>, Failure> {
     let mut reader = FreeReader::new();
+    let mut scratch = Scratch::new();
     let mut pods = Vec::new();
     let mut left = bytes;
     while !left.is_empty() {
         let (text, behind) = split_front(left);
-        match add_text(&mut reader, strictness, text, &mut pods) {
+        match add_text(&mut reader, &mut scratch, form, text, &mut pods) {
             Ok(()) => left = behind,
             Err(why) => {
                 let before = &bytes[..bytes.len() - left.len()];
@@ -111,17 +115,18 @@ fn failure_at(why: Unread, text: &[u8], first: usize) -> Failure {
     }
 }
 
-/// Adds the pod of the value of which these bytes are a text; of a blank line nothing.
+/// Adds the pods of the value of which these bytes are a text; of a blank line nothing.
 fn add_text(
     reader: &mut FreeReader,
-    strictness: Strictness,
+    scratch: &mut Scratch,
+    form: Form,
     bytes: &[u8],
     pods: &mut Vec<u8>,
 ) -> Result<(), Unread> {
     if is_blank(bytes) {
         return Ok(());
     }
-    add_pod(reader, strictness, bytes, pods)
+    add_pods(reader, scratch, form, bytes, pods)
 }
 
 /// Whether there is nothing but white space.
@@ -134,10 +139,11 @@ fn is_blank(text: &[u8]) -> bool {
     true
 }
 
-/// Adds the pod of the value of which these bytes are a text.
-fn add_pod(
+/// Adds the pods of the value of which these bytes are a text.
+fn add_pods(
     reader: &mut FreeReader,
-    strictness: Strictness,
+    scratch: &mut Scratch,
+    form: Form,
     bytes: &[u8],
     pods: &mut Vec<u8>,
 ) -> Result<(), Unread> {
@@ -148,7 +154,10 @@ fn add_pod(
             return Err(unread_at("Text", words, error.valid_up_to()));
         }
     };
-    let value = match reader.read(text, strictness) {
+    if add_at_once(scratch, form, text, pods) {
+        return Ok(());
+    }
+    let value = match reader.read_in(text, form) {
         Ok(value) => Held::from(value),
         Err(error) => {
             let Some(kind) = kind_of(error.cause) else {
@@ -163,7 +172,58 @@ fn add_pod(
             });
         }
     };
-    match write_sized(pods, &*value) {
+    add_values(form, &*value, pods)
+}
+
+/// Adds the pod of the struct that a text is, as it stands, where it is read as values with names, and tells whether it did. Else the output is
+/// as it was, and nothing is known of the text.
+fn add_at_once(
+    scratch: &mut Scratch,
+    form: Form,
+    text: &str,
+    pods: &mut Vec<u8>,
+) -> bool {
+    match form {
+        Form::Named(strictness) => add_struct(scratch, strictness, text, pods),
+        Form::Dump { .. } => false,
+    }
+}
+
+/// Adds the pods of a value that was read.
+fn add_values(form: Form, value: &Value, pods: &mut Vec<u8>) -> Result<(), Unread> {
+    match items_in(form, value) {
+        Some(values) => add_each(values, pods),
+        None => add_one(value, pods),
+    }
+}
+
+/// The values of a list whose items are pods each.
+fn items_in(form: Form, value: &Value) -> Option<&[Value]> {
+    match form {
+        Form::Named(_) => None,
+        Form::Dump { .. } => list_in(value),
+    }
+}
+
+/// The items of a list.
+fn list_in(value: &Value) -> Option<&[Value]> {
+    match value {
+        Value::Struct(members) => Some(members.as_slice()),
+        _ => None,
+    }
+}
+
+/// Adds the pods of these values.
+fn add_each(values: &[Value], pods: &mut Vec<u8>) -> Result<(), Unread> {
+    for value in values {
+        add_one(value, pods)?;
+    }
+    Ok(())
+}
+
+/// Adds the pod of a value.
+fn add_one(value: &Value, pods: &mut Vec<u8>) -> Result<(), Unread> {
+    match write_sized(pods, value) {
         Ok(_) => Ok(()),
         Err(error) => match error {
             GenError::NulInText => Err(unread_at(

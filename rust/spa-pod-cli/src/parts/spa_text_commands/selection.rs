@@ -26,7 +26,7 @@ pub enum Form {
 }
 
 /// Which pods of an input are printed, and which values of them.
-#[derive(Clone, Copy)]
+#[derive(Clone, Copy, Debug)]
 pub struct Selection<'a> {
     /// The number of the only top-level pod that is printed, the first being 1; without one, each is.
     pub nth: Option<usize>,
@@ -49,7 +49,7 @@ impl Selection<'_> {
     }
 
     /// Whether not the top-level pods themselves are printed, but what is inside them.
-    pub(crate) fn looks_inside(&self) -> bool {
+    pub fn looks_inside(&self) -> bool {
         self.key.is_some() || (self.type_.is_some() || self.id.is_some())
     }
 }

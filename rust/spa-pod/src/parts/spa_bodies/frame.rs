@@ -16,7 +16,7 @@ pub fn begin<O: PodOutput>(out: &mut O, type_: u32) -> Result<usize, GenError> {
 /// Closes the pod that begins at the offset `start` and ends with the output: writes its size word. Refused only as `TooLarge`, where the size is
 /// 4294967296 or more.
 #[cfg_attr(not(debug_assertions), inline(always))]
-pub(crate) fn close<O: PodOutput>(out: &mut O, start: usize) -> Result<(), GenError> {
+pub fn close<O: PodOutput>(out: &mut O, start: usize) -> Result<(), GenError> {
     let Ok(size) = u32::try_from(out.len() - (start + HEADER_LEN)) else {
         return Err(GenError::TooLarge);
     };

@@ -3,12 +3,18 @@
 
 use crate::shims::prelude::*;
 use crate::parts::spa_text::printing::line_of;
-use crate::shims::json::{Pretty, Reader, Scratch};
+use crate::shims::json::{Pretty, Reader, Scratch, Token};
 use crate::parts::spa_value::Value;
 use crate::shims::memory::AllocError;
 
+/// How deep brackets may stand in one another in a text on lines of its own.
+const LEVEL_LIMIT: usize = 32;
+
 /// Prints a value as `print` does, but each member and each property on a line of its own, two spaces deeper than what it stands in, as
 /// `jq` prints. No line feed follows the last line.
+///
+/// A text whose brackets stand more than 32 deep in one another is printed on one line, as by `print`: a token takes 65 bytes more than there
+/// at most.
 ///
 /// It is refused only where memory runs out, and then leaves `out` as it was.
 pub fn print_pretty(value: &Value, out: &mut Vec<u8>) -> Result<(), AllocError> {
@@ -19,13 +25,34 @@ pub fn print_pretty(value: &Value, out: &mut Vec<u8>) -> Result<(), AllocError> 
     out.try_extend_from_slice(text.as_slice())
 }
 
-/// The tokens of a text, with each member and each property on a line of its own.
+/// The tokens of a printed line, with each member and each property on a line of its own where the brackets don't stand too deep.
 fn laid_out(line: &str) -> Result<Vec<u8>, AllocError> {
     let mut scratch = Scratch::new();
     let mut reader = Reader::new(line, &mut scratch)?;
     let mut lines = Pretty::new();
+    let mut count = 0;
     while let Some(token) = reader.next() {
+        count = open_behind(count, token);
+        if count > LEVEL_LIMIT {
+            return copied(line);
+        }
         lines.token(token)?;
     }
     Ok(lines.into_inner())
+}
+
+/// The bytes of a text.
+fn copied(text: &str) -> Result<Vec<u8>, AllocError> {
+    let mut bytes = Vec::new();
+    bytes.try_extend_from_slice(text.as_bytes())?;
+    Ok(bytes)
+}
+
+/// How many brackets are open behind a token, where so many are before it.
+fn open_behind(count: usize, token: Token<'_>) -> usize {
+    match token {
+        Token::BeginObject | Token::BeginArray => count + 1,
+        Token::EndObject | Token::EndArray => count.saturating_sub(1),
+        _ => count,
+    }
 }

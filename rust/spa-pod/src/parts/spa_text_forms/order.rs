@@ -2,7 +2,7 @@
 //! The tokens of a value of JSON, in the order of the grammar.
 
 use crate::shims::prelude::*;
-use crate::shims::json::{Error, Scratch, Value, Writer};
+use crate::shims::json::{Value, Writer};
 use crate::parts::spa_names::keys::{PARAM_ROUTE_DEVICES, PARAM_ROUTE_PROFILES};
 use crate::parts::spa_names::types::OBJECT_PARAM_ROUTE;
 use crate::parts::spa_names::{Table, number_of};
@@ -22,7 +22,7 @@ pub(crate) enum Place {
 }
 
 /// Where nothing is known.
-const ANYWHERE: Place = Place::Wants(FullType {
+pub(crate) const ANYWHERE: Place = Place::Wants(FullType {
     type_: SpaTypes(0),
     element: SpaTypes(0),
 });
@@ -30,27 +30,8 @@ const ANYWHERE: Place = Place::Wants(FullType {
 /// How many ranks there are.
 const RANKS: usize = 16;
 
-/// A text in the order of the grammar, where the text is JSON.
-pub(crate) fn in_order(
-    strictness: Strictness,
-    text: &str,
-    scratch: &mut Scratch,
-) -> Result<Option<String>, AllocError> {
-    let value = match Value::parse(text, scratch) {
-        Ok(value) => value,
-        Err(Error::OutOfMemory) => return Err(AllocError),
-        Err(_) => return Ok(None),
-    };
-    let mut writer = Writer::new(Vec::new());
-    put(strictness, ANYWHERE, &value, &mut writer)?;
-    match String::from_utf8(writer.into_inner()) {
-        Ok(ordered) => Ok(Some(ordered)),
-        Err(_) => unreachable!(),
-    }
-}
-
 /// Writes the tokens of a value at this place.
-fn put(
+pub(crate) fn put(
     strictness: Strictness,
     place: Place,
     value: &Value<'_>,
@@ -117,7 +98,7 @@ fn put_items(
 }
 
 /// Writes an object, its members rank by rank.
-fn put_object(
+pub(crate) fn put_object(
     strictness: Strictness,
     place: Place,
     members: &[(&str, Value<'_>)],
@@ -184,7 +165,7 @@ fn place_under(place: Place, type_: u32, key: &str) -> Place {
 }
 
 /// The type that belongs under this key of an object of this type.
-fn wanted_under(type_: u32, key: &str) -> FullType {
+pub(crate) fn wanted_under(type_: u32, key: &str) -> FullType {
     match key_number(keys_of(type_), key) {
         Some(number) => type_under(type_, number),
         None => FullType {
@@ -194,8 +175,9 @@ fn wanted_under(type_: u32, key: &str) -> FullType {
     }
 }
 
-/// The number of a key, by its digits or by its name.
-fn key_number(keys: Table, name: &str) -> Option<u32> {
+/// The number of a key, a type or an id of this table, by its digits or by its name. None: it is neither a number below 2^32 nor a name of the table.
+#[must_use]
+pub fn key_number(keys: Table, name: &str) -> Option<u32> {
     match unsigned(name) {
         Some(number) => Some(number),
         None => number_of(keys, name),

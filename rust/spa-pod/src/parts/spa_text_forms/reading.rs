@@ -2,7 +2,7 @@
 //! Values read from texts, in any order of the fixed keys.
 
 use crate::shims::prelude::*;
-use crate::parts::spa_text_forms::order::in_order;
+use crate::parts::spa_text_forms::form::{Form, in_order};
 use crate::shims::json::Scratch;
 use crate::parts::spa_text_read::{Cause, Strictness, TextError, TextReader};
 use crate::parts::spa_value::Value;
@@ -35,7 +35,7 @@ impl FreeReader {
                 if error.cause == Cause::OutOfMemory {
                     return Err(error);
                 }
-                match self.read_in_order(text, strictness, error) {
+                match self.read_in_order(text, Form::Named(strictness), error) {
                     Ok(value) => Ok(value),
                     Err(other) => Err(other),
                 }
@@ -43,19 +43,31 @@ impl FreeReader {
         }
     }
 
-    /// Reads the value that a text is in the grammar's order. As it stands it is refused so.
+    /// Reads the value that a text is in this form. What `pw-dump` prints is never read as it stands; where it is refused, the refusal has the place of
+    /// the first byte. A list of params is a Struct of them.
+    pub fn read_in(&mut self, text: &str, form: Form) -> Result<Value, TextError> {
+        match form {
+            Form::Named(strictness) => self.read(text, strictness),
+            Form::Dump { .. } => {
+                let no_json = refusal(Cause::Token);
+                self.read_in_order(text, form, no_json)
+            }
+        }
+    }
+
+    /// Reads the value that a text is in the grammar's order. Where it isn't JSON, it is refused so.
     fn read_in_order(
         &mut self,
         text: &str,
-        strictness: Strictness,
+        form: Form,
         error: TextError,
     ) -> Result<Value, TextError> {
-        let ordered = match in_order(strictness, text, &mut self.scratch) {
+        let ordered = match in_order(form, text, &mut self.scratch) {
             Ok(Some(ordered)) => ordered,
             Ok(None) => return Err(error),
-            Err(_) => return Err(no_memory()),
+            Err(_) => return Err(refusal(Cause::OutOfMemory)),
         };
-        match self.reader.read_with(ordered.as_str(), strictness) {
+        match self.reader.read_with(ordered.as_str(), form.strictness()) {
             Ok(value) => Ok(value),
             Err(other) => {
                 if other.cause == error.cause && other.path.as_str() == error.path.as_str() {
@@ -79,10 +91,10 @@ fn at_front(error: TextError) -> TextError {
     }
 }
 
-/// Memory ran out.
-fn no_memory() -> TextError {
+/// The refusal of a text for this cause, where nothing of it was read.
+fn refusal(cause: Cause) -> TextError {
     TextError {
-        cause: Cause::OutOfMemory,
+        cause,
         offset: 0,
         line: 1,
         column: 1,

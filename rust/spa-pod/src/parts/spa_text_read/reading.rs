@@ -136,6 +136,18 @@ fn read_whole(reader: &mut Reader<'_>, strictness: Strictness) -> Result<Value, 
     }
 }
 
+/// Reads the value that begins the tokens which are left, and no token behind it; strictly as `TextReader::read_with` does. A refusal may leave the
+/// reader behind any of its tokens.
+pub fn read_front(
+    reader: &mut Reader<'_>,
+    strictness: Strictness,
+) -> Result<Value, Cause> {
+    match read_value(reader, strictness) {
+        Ok(value) => Ok(value),
+        Err(why) => Err(why.cause),
+    }
+}
+
 /// Reads a value: also one that is nested deep, since what is begun is kept in a list.
 fn read_value(reader: &mut Reader<'_>, strictness: Strictness) -> Result<Value, Why> {
     let Some(first) = head(reader) else {

@@ -1,0 +1,39 @@
+use Rattle.std.proofs.Common.{◌∙◌, codes, inl, inr, subst}
+use Rattle.clap.specs.Words.{found_of}
+use Rattle.clap.proofs.WalkLemmas.{first_value-rows}
+use Rattle.spa_text_commands.specs.declared.naming.Named.TheVariants.{Types, Ids, Keys}
+use Rattle.pod_commands.specs.Requests.{AreNamesOf, HasNoNumber, HasUnknownName, IsNumber, text_of}
+use Rattle.pod_commands.proofs.request.selection_of.Goals as goal
+
+pub returns-in-Err-clause-unknown : goal.returns-in-Err-clause-unknown
+returns-in-Err-clause-unknown c =
+    inl (subst (λ given. HasNoNumber given c.in-Err.why) (c.get_str.ensures ∙ first_value-rows (found_of c.args.given.now) (codes "nth"))
+    c.in-Err.ensures.unknown)
+
+pub returns-in-Err-names_given-clause-unknown : goal.returns-in-Err-names_given-clause-unknown
+returns-in-Err-names_given-clause-unknown c =
+    inr (inl (subst (λ given. HasUnknownName Keys given c.in-Err-names_given.why)
+    (c.get_str-2.ensures ∙ first_value-rows (found_of c.args.given.now) (codes "key")) c.in-Err-names_given.ensures.unknown))
+
+pub returns-in-Err-names_given-2-clause-unknown : goal.returns-in-Err-names_given-2-clause-unknown
+returns-in-Err-names_given-2-clause-unknown c =
+    inr (inr (inl (subst (λ given. HasUnknownName Types given c.in-Err-names_given-2.why)
+    (c.get_str-3.ensures ∙ first_value-rows (found_of c.args.given.now) (codes "type")) c.in-Err-names_given-2.ensures.unknown)))
+
+pub returns-in-Err-names_given-3-clause-unknown : goal.returns-in-Err-names_given-3-clause-unknown
+returns-in-Err-names_given-3-clause-unknown c =
+    inr (inr (inr (subst (λ given. HasUnknownName Ids given c.in-Err-names_given-3.why)
+    (c.get_str-4.ensures ∙ first_value-rows (found_of c.args.given.now) (codes "id")) c.in-Err-names_given-3.ensures.unknown)))
+
+pub returns-clause-given : goal.returns-clause-given
+returns-clause-given c =
+    let found = found_of c.args.given.now in
+    record {
+      nth = subst (λ t. IsNumber t c.in-Ok.nth) (c.get_str.ensures ∙ first_value-rows found (codes "nth")) c.in-Ok.ensures.number;
+      key = subst (λ given. AreNamesOf Keys given (text_of c.in-Ok-names_given.key)) (c.get_str-2.ensures ∙ first_value-rows found (codes "key"))
+          c.in-Ok-names_given.ensures.names;
+      type_ = subst (λ given. AreNamesOf Types given (text_of c.in-Ok-names_given-2.type_)) (c.get_str-3.ensures ∙ first_value-rows found (codes "type"))
+          c.in-Ok-names_given-2.ensures.names;
+      id = subst (λ given. AreNamesOf Ids given (text_of c.in-Ok-names_given-3.id)) (c.get_str-4.ensures ∙ first_value-rows found (codes "id"))
+          c.in-Ok-names_given-3.ensures.names;
+    }

@@ -1,7 +1,0 @@
-use Rattle.spa_text_commands.proofs.KeyNames.{by_no_name}
-use Rattle.spa_text_commands.proofs.key_names.is_key_name.Goals as goal
-
-pub returns-clause-other : goal.returns-clause-other
-returns-clause-other c = λ no.
-    by_no_name c.args.name.now (c.is_number.ensures.other c.if-is_number.false) (c.has_key_between.ensures.other c.if-has_key_between.false)
-    (c.has_key_between-2.ensures.other c.if-has_key_between-2.false) (c.has_key_between-3.ensures.other no)

@@ -216,7 +216,7 @@ def uses_apart(tokens):
 
 
 # Modules of shims, for what they stand.
-SHIMS = [('std::alloc', 'memory'), ('std::collections', 'sorted'), ('std::test', 'test'), ('std::simd', 'lanes'), ('bitflags', 'flags'),
+SHIMS = [('std::alloc', 'memory'), ('std::collections', 'sorted'), ('std::test', 'test'), ('memchr', 'memchr'), ('bitflags', 'flags'),
          ('arrayvec', 'array'), ('json', 'json'), ('clap', 'clap')]
 
 

@@ -23,7 +23,7 @@ ROWS_SUFFIX = '_rows'
 SHIMS = {
     'bitflags': ('spa-pod', 'flags'), 'arrayvec': ('spa-pod', 'array'), 'std::alloc': ('spa-pod', 'memory'), 'std::collections': ('spa-pod', 'sorted'),
     'json': ('spa-pod', 'json'), 'fast_float': ('spa-pod', 'numerals'), 'hex': ('spa-pod', 'numerals'), 'itoa': ('spa-pod', 'numerals'),
-    'ryu': ('spa-pod', 'numerals'), 'clap': ('spa-pod-cli', 'clap'), 'std::simd': ('spa-pod-cli', 'lanes'),
+    'ryu': ('spa-pod', 'numerals'), 'clap': ('spa-pod-cli', 'clap'), 'memchr': ('spa-pod-cli', 'memchr'),
     'anyhow': (TESTS, 'anyhow'), 'std::test': (TESTS, 'test'), 'thiserror': None,
 }
 

@@ -118,7 +118,7 @@ PROGRAM = '''use counts::with;
 use json::{Reader, Token};
 use std::fmt::Write;
 use std::num::f32_from_bits_with_nan;
-use std::simd::prelude::*;
+use memchr::memchr;
 
 pub struct SystemFiles<'a> {
     pub rt: &'a HostRuntime,
@@ -138,7 +138,7 @@ impl Files for SystemFiles<'_> {
 ERASED_PROGRAM = '''use spa_pod::shims::prelude::*;
 use spa_pod::parts::counts::with;
 use spa_pod::shims::json::{Reader, Token};
-use crate::shims::lanes::prelude::*;
+use crate::shims::memchr::memchr;
 
 pub struct SystemFiles {}
 
@@ -202,8 +202,8 @@ class Rules(unittest.TestCase):
 
     def test_each_other_change_of_a_program_is_seen(self):
         for old, new in [('from_bits(0)', 'from_bits(1)'), ('try_replace(",", " ")', 'try_replace(" ", ",")'), ('SystemFiles {}', 'SystemFiles { a: u8 }'),
-                         ('parts::counts', 'parts::others'), ('shims::json', 'shims::flags'), ('numerals::Buffer', 'lanes::Buffer'),
-                         ('File::open(name)', 'File::create(name)'), ('lanes::prelude', 'lanes::other')]:
+                         ('parts::counts', 'parts::others'), ('shims::json', 'shims::flags'), ('numerals::Buffer', 'memchr::Buffer'),
+                         ('File::open(name)', 'File::create(name)'), ('memchr::memchr', 'memchr::other')]:
             self.assertIn(old, ERASED_PROGRAM)
             self.assertNotEqual(faults(ERASED_PROGRAM.replace(old, new, 1), PROGRAM, 'program'), [], (old, new))
 

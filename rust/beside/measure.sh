@@ -25,6 +25,9 @@ for noise in 0, 9:
     inside = words(4, 4, 7, 0, 12, 8, 0x6C6C6568, 0x6F77206F, 0x646C72, 0) + pod + words(24, 13, 4, 4, 1, 2, 3, 4, 8, 10, 44100, 1, 8, 5, 1, 2)
     (room / f"object{noise}").write_bytes(pod * 200)
     (room / f"struct{noise}").write_bytes((words(len(inside), 14) + inside) * 200)
+small = b"".join(it.read_bytes() for it in sorted(pathlib.Path(sys.argv[1], "..", "examples").glob("*.pod")) if it.stat().st_size <= 240)
+(room / "mixed0").write_bytes(small * 40)
+(room / "mixed9").write_bytes(make.dirty(small * 40))
 (room / "surplus").write_bytes(words(72, 15, 0x40003, 4, 1, 0, 4, 3, 1, 0, 2, 0, 24, 19, 0, 0, 4, 4, 5, 6) * 200)
 PY
 count() {
@@ -39,7 +42,7 @@ for pods in mixed struct-of-ints struct-of-strings array-of-ints object-of-ints 
   echo
 done
 printf '%-18s %8s %8s\n' 'a pod' appended in-place
-for pods in object0 object9 surplus struct0 struct9; do
+for pods in object0 object9 surplus mixed0 mixed9 struct0 struct9; do
   printf '%-18s' $pods
   for work in appended in-place; do
     python3 -c "print(' %8.0f' % (($(count $work 3 $pods) - $(count $work 1 $pods)) / 2 / 200), end='')"

@@ -7,7 +7,7 @@ use Rattle.spa_recordings.specs.declared.streaming.NotMade.{NotMade}
 use Rattle.spa_text_commands.specs.Answers.{ShowsAll}
 use Rattle.spa_text_commands.specs.Texts.{Prints}
 use Rattle.spa_text_commands.specs.declared.showing.Printed.{Printed}
-use Rattle.pod_commands.specs.Colours.{InColours}
+use Rattle.pod_commands.specs.Colours.{InColours, colours_of}
 use Rattle.pod_commands.specs.Streaming.{MayRefuse, WritesOf}
 use Rattle.pod_commands.specs.declared.request.Printing.{Printing}
 use Rattle.pod_commands.specs.declared.request.Style.{Style}
@@ -33,13 +33,13 @@ pub texts_begun : (style : Style) (count place : ℕ) (block text out : List ℕ
 texts_begun style count place block text out old new p c w = begun (WritesOf (Json style) count place) block out 0 old new ((text, p, c), refl) w
 
 pub printed_written : (printing : Printing) (count place : ℕ) (block out : List ℕ) (printed : Printed) (old new : Option (List ℕ)) →
-    ShowsAll printing.printout count place block printed → InColours printing.colours printed.bytes.items out → Appends old new out →
+    ShowsAll printing.printout count place block printed → InColours (colours_of printing.printout.form printing.colours) printed.bytes.items out → Appends old new out →
     WritesMade (WritesOf (Print printing) count place) block old new printed.refused
 printed_written printing count place block out printed old new s c w =
     record { out = out; made = (printed.bytes.items, (s.whole, s.prints), c); written = w; few = s.few }
 
 pub printed_begun : (printing : Printing) (count place : ℕ) (block out : List ℕ) (printed : Printed) (old new : Option (List ℕ)) →
-    ShowsAll printing.printout count place block printed → InColours printing.colours printed.bytes.items out →
+    ShowsAll printing.printout count place block printed → InColours (colours_of printing.printout.form printing.colours) printed.bytes.items out →
     ((out ≢ []) × (n : ℕ) × Appends old new (take n out)) → BeginsBlock (WritesOf (Print printing) count place) block old new
 printed_begun printing count place block out printed old new s c w =
     begun (WritesOf (Print printing) count place) block out printed.refused old new (printed.bytes.items, (s.whole, s.prints), c) w

@@ -3,9 +3,11 @@ use Rattle.std.proofs.Common.{◌≡◌, ◌<◌, ◌∙◌, ◌++◌, [], ap, a
 use Rattle.spa_format.specs.Walk.{walk}
 use Rattle.spa_text_commands.specs.Answers.{ShowsAll}
 use Rattle.spa_text_commands.specs.Lines.{PrintsSelected}
+use Rattle.spa_text_commands.specs.Params.{PrintsParams}
 use Rattle.spa_text_commands.specs.Texts.{Prints}
+use Rattle.pod_commands.specs.declared.colours.Colours.{Colours}
 use Rattle.spa_text_commands.specs.declared.showing.Printed.{Printed}
-use Rattle.pod_commands.specs.Colours.{InColours, IsColoured, PrintsIn, ShowsIn, colour_of, further, nothing, piece_in, piece_len}
+use Rattle.pod_commands.specs.Colours.{InColours, IsColoured, PrintsIn, ShowsIn, colour_of, colours_of, further, nothing, piece_in, piece_len, DumpsIn}
 use Rattle.pod_commands.specs.declared.request.Printing.{Printing}
 use Rattle.pod_commands.specs.declared.request.Style.{Style}
 
@@ -34,8 +36,12 @@ ends text left out e so =
 pub printed_in : (style : Style) (pods text out : List ℕ) → Prints style.layout pods text → InColours style.colours text out → PrintsIn style pods out
 printed_in style pods text out p c = (text, p, c)
 
+-- what pw-dump prints
+pub dumped_in : (colours : Colours) (pods text out : List ℕ) → PrintsParams pods text → InColours colours text out → DumpsIn colours pods out
+dumped_in colours pods text out p c = (text, p, c)
+
 -- parts of pods, of which none is refused
 pub parts_in : (printing : Printing) (pods out : List ℕ) (printed : Printed) → ShowsAll printing.printout 0 0 pods printed → printed.refused ≡ 0 →
-    InColours printing.colours printed.bytes.items out → ShowsIn printing 0 0 pods out 0
+    InColours (colours_of printing.printout.form printing.colours) printed.bytes.items out → ShowsIn printing 0 0 pods out 0
 parts_in printing pods out printed s e c =
     (printed.bytes.items, (s.whole, subst (PrintsSelected printing.printout 0 0 (walk pods) printed.bytes.items) e s.prints), c)

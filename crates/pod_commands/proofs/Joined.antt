@@ -1,7 +1,7 @@
 -- What is made of an input whose refused pods are left out or kept is that of its parts.
-use Rattle.std.proofs.Common.{◌≡◌, ◌≢◌, ◌∙◌, ◌+◌, ◌≤◌, ℕ, List, [], ◌∷◌, ◌++◌, append_assoc, ap, ap₂, arith, drop, length, length-append, refl, subst, suc, sym, take}
+use Rattle.std.proofs.Common.{◌≡◌, ◌≢◌, ◌∙◌, ◌+◌, ◌≤◌, ℕ, List, [], ◌∷◌, ◌++◌, append_assoc, ap, ap₂, arith, drop, length, length-append, refl, subst, sym, take}
 use Rattle.std.specs.Prelude.{⊤}
-use Rattle.std.proofs.lemmas.List.{drop-append-le, drop-drop, drop_at, take-append-le}
+use Rattle.std.proofs.lemmas.List.{drop-append-le, drop-drop, drop_at, take_at}
 use Rattle.spa_format.specs.Front.{HasFront, front_of, rest_of}
 use Rattle.spa_format.specs.Pod.{AreMembers}
 use Rattle.spa_format.specs.Lenient.{ConveyMembers}
@@ -9,18 +9,19 @@ use Rattle.spa_format.specs.Tree.{Trees, join_members, member, no_trees}
 use Rattle.spa_format.specs.Walk.{walk}
 use Rattle.spa_format.specs.Words.{extent, word_at}
 use Rattle.spa_format.proofs.Fronts.{front_and_rest, front_of_whole}
+use Rattle.spa_format.proofs.WalkLemmas.{walk-there}
 use Rattle.spa_read.proofs.Conveying as conveying
 use Rattle.spa_recordings.specs.Blocks.{AreWhole, no_pods, one_more}
-use Rattle.spa_recordings.specs.GoingOn.{GoesOn, MakesOf, ends, kept_of, passes}
+use Rattle.spa_recordings.specs.GoingOn.{EndsBySize, GoesOn, GoesOnBehind, MakesOf, PassesPod, ends, kept_of, passes}
 use Rattle.spa_recordings.specs.Rewritings.{encodings_joined}
 use Rattle.spa_recordings.specs.declared.going_on.Refused.{Refused}
+use Rattle.spa_recordings.specs.declared.going_on.Refused.TheVariants.{LeftOut, Kept, Resynced}
 use Rattle.spa_recordings.specs.declared.going_on.RefusedPod.{RefusedPod}
 use Rattle.spa_recordings.specs.declared.reading.Reading.{Reading}
 use Rattle.spa_recordings.specs.declared.reading.Reading.TheVariants.{Exact, Lenient}
-use Rattle.spa_recordings.proofs.Holding.{count_joined, none_counted, whole_behind, whole_front}
-use Rattle.spa_refusals.specs.Refusals.{IsRefusalAt, IsRefusalOf}
-use Rattle.spa_refusals.specs.Several.{AreSaid, AreSaidSo, IsRefusalBehind}
-use Rattle.spa_refusals.specs.declared.refusal.Refusal.{Refusal}
+use Rattle.spa_recordings.proofs.Holding.{count_joined, whole_front}
+use Rattle.spa_refusals.specs.Refusals.{IsRefusalOf}
+use Rattle.spa_refusals.specs.Several.{AreSaid}
 use Rattle.spa_refusals.specs.declared.several.NamedRefusal.{NamedRefusal}
 use Rattle.pod_commands.proofs.Longer.{front_same, no_pod_longer, refusal_longer, size_longer}
 
@@ -43,12 +44,49 @@ whole_rest : (b : List ℕ) → AreWhole b → HasFront b → AreWhole (rest_of 
 whole_rest _ no_pods f = absurd (let h = f.header in omega (arith, h))
 whole_rest _ (one_more b g h) f = h
 
-conveyed_behind : (vs : Trees) (b first left : List ℕ) → AreWhole b → b ≡ first ++ left → ConveyMembers vs first → AreWhole left
-conveyed_behind no_trees b first left w e m = subst AreWhole (e ∙ ap (λ l. l ++ left) m) w
-conveyed_behind (member v vs) b first left w e m =
-    let parts : b ≡ m.0 ++ (m.1 ++ left) = e ∙ ap (λ l. l ++ left) m.2 ∙ append_assoc m.0 m.1 left in
-    let f = front_of_whole b m.0 (m.1 ++ left) (word_at m.0 4) (λ z. ⊤) parts (record { whole = m.3.whole; its_type = refl; content = tt }) in
-    conveyed_behind vs (rest_of b) m.1 left (whole_rest b w f.0) (sym f.2) m.4
+-- what follows whole pods
+whole_behind : (a left : List ℕ) → AreWhole a → AreWhole (a ++ left) → AreWhole left
+whole_behind _ left no_pods w = w
+whole_behind _ left (one_more a f h) w =
+    let some : a ++ left ≢ [] = λ e. let l = ap length e in let j = length-append a left in let k = f.header in omega (arith, l, j, k) in
+    whole_behind (rest_of a) left h (subst AreWhole (rest_longer a left f) (whole_rest (a ++ left) w (whole_front (a ++ left) w some)))
+
+-- what is read is whole pods
+accepted_whole : (vs : Trees) (b : List ℕ) → AreMembers vs b → AreWhole b
+accepted_whole no_trees b m = subst AreWhole (sym m) no_pods
+accepted_whole (member v vs) b m =
+    let f = front_of_whole b m.0 m.1 _ _ m.2 m.3 in one_more b f.0 (subst AreWhole f.2 (accepted_whole vs m.1 m.4))
+
+conveyed_whole : (vs : Trees) (b : List ℕ) → ConveyMembers vs b → AreWhole b
+conveyed_whole no_trees b m = subst AreWhole (sym m) no_pods
+conveyed_whole (member v vs) b m =
+    let f = front_of_whole b m.0 m.1 (word_at m.0 4) (λ z. ⊤) m.2 (record { whole = m.3.whole; its_type = refl; content = tt }) in
+    one_more b f.0 (subst AreWhole f.2 (conveyed_whole vs m.1 m.4))
+
+-- a refused pod that ends by its size word, in more bytes
+by_size : (refused : Refused) (left : List ℕ) (n : ℕ) → EndsBySize refused → GoesOnBehind refused left n → n ≡ length (front_of left)
+by_size LeftOut left n s g = g
+by_size Kept left n s g = g
+by_size Resynced left n s g = absurd s
+
+goes_on_by_size : (refused : Refused) (left : List ℕ) (n : ℕ) → EndsBySize refused → n ≡ length (front_of left) → GoesOnBehind refused left n
+goes_on_by_size LeftOut left n s e = e
+goes_on_by_size Kept left n s e = e
+goes_on_by_size Resynced left n s e = absurd s
+
+front_taken : (left more : List ℕ) (n : ℕ) → n ≡ length (front_of left) →
+    (take n (left ++ more) ≡ front_of left) × (drop n (left ++ more) ≡ rest_of left ++ more)
+front_taken left more n e =
+    let parts = ap (λ z. z ++ more) (front_and_rest left) ∙ append_assoc (front_of left) (rest_of left) more in (
+      ap (take n) parts ∙ take_at (front_of left) (rest_of left ++ more) n (sym e),
+      ap (drop n) parts ∙ drop_at (front_of left) (rest_of left ++ more) n (sym e),
+    )
+
+front_alone : (left : List ℕ) (n : ℕ) → n ≡ length (front_of left) → (take n left ≡ front_of left) × (drop n left ≡ rest_of left)
+front_alone left n e = (
+  ap (take n) (front_and_rest left) ∙ take_at (front_of left) (rest_of left) n (sym e),
+  ap (drop n) (front_and_rest left) ∙ drop_at (front_of left) (rest_of left) n (sym e),
+)
 
 module _ (name : List ℕ) (reading : Reading) (refused : Refused) (Makes : List ℕ → List ℕ → Type 0)
     (joins : (a b x y : List ℕ) → Makes a x → Makes b y → Makes (a ++ b) (x ++ y)) (members : (a x : List ℕ) → Makes a x → (vs : Trees) × AreMembers vs a) where
@@ -67,138 +105,176 @@ module _ (name : List ℕ) (reading : Reading) (refused : Refused) (Makes : List
         joins m.0 n.0 x y m.2 n.2,
       )
 
-  whole_left : (reading : Reading) (first left x : List ℕ) → AreWhole (first ++ left) → MakesOf reading Makes first x → AreWhole left
-  whole_left Exact first left x w m =
-      let vs = members first x (subst (λ z. Makes z x) m.1 m.2) in whole_behind vs.0 (first ++ left) first left w refl vs.1
-  whole_left Lenient first left x w m = conveyed_behind m.1.0 (first ++ left) first left w refl m.1.1
+  made_whole : (reading : Reading) (first x : List ℕ) → MakesOf reading Makes first x → AreWhole first
+  made_whole Exact first x m = let vs = members first x (subst (λ z. Makes z x) m.1 m.2) in accepted_whole vs.0 first vs.1
+  made_whole Lenient first x m = conveyed_whole m.1.0 first m.1.1
 
   -- what is made of all of a first part, and of what follows it
-  made_before : (place next : ℕ) (a b x y : List ℕ) (qs : List RefusedPod) → next ≡ place + length a → MakesOf reading Makes a x →
-      GoesOn name reading refused Makes next b y qs → GoesOn name reading refused Makes place (a ++ b) (x ++ y) qs
-  made_before place next a b x y qs e m (ends p i o n) = ends place (a ++ b) (x ++ y) (made_joined reading a b x y m n)
-  made_before place next a b x y qs e m (passes p behind first left made others pod pods n some none is named at on) =
+  made_before : (count place all next : ℕ) (a b x y : List ℕ) (qs : List RefusedPod) → all ≡ count + length (walk a) → next ≡ place + length a →
+      MakesOf reading Makes a x → GoesOn name reading refused Makes all next b y qs →
+      GoesOn name reading refused Makes count place (a ++ b) (x ++ y) qs
+  made_before count place all next a b x y qs c e m (ends _ p i o n) = ends count place (a ++ b) (x ++ y) (made_joined reading a b x y m n)
+  made_before count place all next a b x y qs c e m (passes _ p n first left made others pod pods k its on) =
       let l = length-append a first in
-      subst (λ z. GoesOn name reading refused Makes place z (x ++ y) qs) (append_assoc a first left)
-      (subst (λ z. GoesOn name reading refused Makes place ((a ++ first) ++ left) z qs) (append_assoc x made (kept_of refused (front_of left) ++ others))
-      (passes place behind (a ++ first) left (x ++ made) others pod pods (made_joined reading a first x made m n) some none (omega (arith, is, e, l))
-      named at on))
+      let j = count_joined a first (made_whole reading a x m) in
+      let number = its.its_number in
+      let is = its.its_place in
+      subst (λ z. GoesOn name reading refused Makes count place z (x ++ y) qs) (append_assoc a first left)
+      (subst (λ z. GoesOn name reading refused Makes count place ((a ++ first) ++ left) z qs) (append_assoc x made (kept_of refused (take n left) ++ others))
+      (passes count place n (a ++ first) left (x ++ made) others pod pods (made_joined reading a first x made m k)
+      (record {
+        some = its.some;
+        nothing = its.nothing;
+        passed = its.passed;
+        its_name = its.its_name;
+        its_number = omega (arith, number, c, j);
+        its_place = omega (arith, is, e, l);
+        left_out = its.left_out;
+      })
+      on))
 
-  pub joined : (place next : ℕ) (a b x y : List ℕ) (ps qs : List RefusedPod) → AreWhole a → next ≡ place + length a →
-      GoesOn name reading refused Makes place a x ps → GoesOn name reading refused Makes next b y qs →
-      GoesOn name reading refused Makes place (a ++ b) (x ++ y) (ps ++ qs)
-  joined place next a b x y ps qs w e (ends p i o m) g = made_before place next a b x y qs e m g
-  joined place next a b x y ps qs w e (passes p behind first left made others pod pods m some none is named at on) g =
-      let wl = whole_left reading first left made w m in
-      let f = whole_front left wl some in
-      let stays = kept_of refused (front_of left) in
-      let l = length-append first left in
-      let fr = ap length (front_and_rest left) ∙ length-append (front_of left) (rest_of left) in
-      let more = joined behind next (rest_of left) b others y pods qs (whole_rest left wl f) (omega (arith, e, is, at, l, fr)) on g in
-      let out : made ++ (kept_of refused (front_of (left ++ b)) ++ (others ++ y)) ≡ (made ++ (stays ++ others)) ++ y =
-      ap (λ z. made ++ (kept_of refused z ++ (others ++ y))) (front_same left b f)
-      ∙ ap (λ z. made ++ z) (sym (append_assoc stays others y)) ∙ sym (append_assoc made (stays ++ others) y) in
-      subst (λ z. GoesOn name reading refused Makes place z ((made ++ (stays ++ others)) ++ y) (pod ∷ (pods ++ qs))) (sym (append_assoc first left b))
-      (subst (λ z. GoesOn name reading refused Makes place (first ++ (left ++ b)) z (pod ∷ (pods ++ qs))) out
-      (passes place behind first (left ++ b) made (others ++ y) pod (pods ++ qs) m (some_longer left b some) (no_pod_longer left b f reading pod.kind.now none) is named
-      (at ∙ ap (λ z. pod.place + length z) (sym (front_same left b f)))
-      (subst (λ z. GoesOn name reading refused Makes behind z (others ++ y) (pods ++ qs)) (sym (rest_longer left b f)) more)))
+  module _ (sized : EndsBySize refused) where
+    -- the refused pod of a first part, in all
+    passes_longer : (count place n : ℕ) (first left b : List ℕ) (pod : RefusedPod) → HasFront left →
+        PassesPod name reading refused count place first left n pod → PassesPod name reading refused count place first (left ++ b) n pod
+    passes_longer count place n first left b pod f its = record {
+      some = some_longer left b its.some;
+      nothing = no_pod_longer left b f reading pod.kind.now its.nothing;
+      passed =
+          goes_on_by_size refused (left ++ b) n sized (by_size refused left n sized its.passed ∙ ap length (sym (front_same left b f)));
+      its_name = its.its_name;
+      its_number = its.its_number;
+      its_place = its.its_place;
+      left_out = its.left_out;
+    }
 
-  -- the refused pods of whole ones are whole
-  pub fronts : (a left x : List ℕ) (place : ℕ) (ps : List RefusedPod) → AreWhole left → drop place a ≡ left → place + length left ≡ length a →
-      GoesOn name reading refused Makes place left x ps → AreFronts a ps
-  fronts a left x place ps w e l (ends p i o m) = tt
-  fronts a left x place ps w e l (passes p behind first at made others pod pods m some none is named next on) =
-      let wl = whole_left reading first at made w m in
-      let f = whole_front at wl some in
-      let len = length-append first at in
-      let fr = ap length (front_and_rest at) ∙ length-append (front_of at) (rest_of at) in
-      let here : drop pod.place a ≡ at =
-      ap (λ z. drop z a) is ∙ sym (drop-drop (length first) place a) ∙ ap (drop (length first)) e ∙ drop_at first at (length first) refl in
-      let after : drop behind a ≡ rest_of at =
-      ap (λ z. drop z a) next ∙ sym (drop-drop (length (front_of at)) pod.place a)
-      ∙ ap (drop (length (front_of at))) (here ∙ front_and_rest at) ∙ drop_at (front_of at) (rest_of at) (length (front_of at)) refl in (
-        omega (arith, is, l, len),
-        subst HasFront (sym here) f,
-        fronts a (rest_of at) others behind pods (whole_rest at wl f) after (omega (arith, is, l, len, fr, next)) on,
-      )
+    -- where it ends, so many pods and bytes stand before what follows it
+    behind_it : (count place n : ℕ) (first left x : List ℕ) (pod : RefusedPod) → MakesOf reading Makes first x → HasFront left →
+        PassesPod name reading refused count place first left n pod →
+        (pod.number + length (walk (rest_of left)) ≡ count + length (walk (first ++ left)))
+        × ((pod.place + n) + length (rest_of left) ≡ place + length (first ++ left))
+    behind_it count place n first left x pod m f its =
+        let size = by_size refused left n sized its.passed in
+        let number = its.its_number in
+        let is = its.its_place in
+        let j = count_joined first left (made_whole reading first x m) in
+        let t = ap length (walk-there left f) in
+        let l = length-append first left in
+        let fr = ap length (front_and_rest left) ∙ length-append (front_of left) (rest_of left) in
+        (omega (arith, number, j, t), omega (arith, is, l, fr, size))
+
+    pub joined : (count place all next : ℕ) (a b x y : List ℕ) (ps qs : List RefusedPod) → AreWhole a → all ≡ count + length (walk a) →
+        next ≡ place + length a → GoesOn name reading refused Makes count place a x ps → GoesOn name reading refused Makes all next b y qs →
+        GoesOn name reading refused Makes count place (a ++ b) (x ++ y) (ps ++ qs)
+    joined count place all next a b x y ps qs w c e (ends _ p i o m) g = made_before count place all next a b x y qs c e m g
+    joined count place all next a b x y ps qs w c e (passes _ p n first left made others pod pods m its on) g =
+        let wl = whole_behind first left (made_whole reading first made m) w in
+        let f = whole_front left wl its.some in
+        let size = by_size refused left n sized its.passed in
+        let alone = front_alone left n size in
+        let both = front_taken left b n size in
+        let behind = behind_it count place n first left made pod m f its in
+        let counted = behind.0 in
+        let placed = behind.1 in
+        let pods_left = ap (λ z. length (walk z)) alone.1 in
+        let bytes_left = ap length alone.1 in
+        let more : GoesOn name reading refused Makes pod.number (pod.place + n) (drop n left ++ b) (others ++ y) (pods ++ qs) =
+        joined pod.number (pod.place + n) all next (drop n left) b others y pods qs (subst AreWhole (sym alone.1) (whole_rest left wl f))
+        (omega (arith, c, counted, pods_left)) (omega (arith, e, placed, bytes_left)) on g in
+        let out : made ++ (kept_of refused (take n (left ++ b)) ++ (others ++ y)) ≡ (made ++ (kept_of refused (take n left) ++ others)) ++ y =
+        ap (λ z. made ++ (kept_of refused z ++ (others ++ y))) (both.0 ∙ sym alone.0)
+        ∙ ap (λ z. made ++ z) (sym (append_assoc (kept_of refused (take n left)) others y))
+        ∙ sym (append_assoc made (kept_of refused (take n left) ++ others) y) in
+        subst
+        (λ z. GoesOn name reading refused Makes count place z ((made ++ (kept_of refused (take n left) ++ others)) ++ y) (pod ∷ (pods ++ qs)))
+        (sym (append_assoc first left b))
+        (subst (λ z. GoesOn name reading refused Makes count place (first ++ (left ++ b)) z (pod ∷ (pods ++ qs))) out
+        (passes count place n first (left ++ b) made (others ++ y) pod (pods ++ qs) m (passes_longer count place n first left b pod f its)
+        (subst (λ z. GoesOn name reading refused Makes pod.number (pod.place + n) z (others ++ y) (pods ++ qs))
+        (ap (λ z. z ++ b) alone.1 ∙ sym both.1) more)))
+
+    -- the refused pods of whole ones are whole
+    pub fronts : (a left x : List ℕ) (count place : ℕ) (ps : List RefusedPod) → AreWhole left → drop place a ≡ left → place + length left ≡ length a →
+        GoesOn name reading refused Makes count place left x ps → AreFronts a ps
+    fronts a left x count place ps w e l (ends _ p i o m) = tt
+    fronts a left x count place ps w e l (passes _ p n first at made others pod pods m its on) =
+        let wl = whole_behind first at (made_whole reading first made m) w in
+        let f = whole_front at wl its.some in
+        let size = by_size refused at n sized its.passed in
+        let alone = front_alone at n size in
+        let placed = (behind_it count place n first at made pod m f its).1 in
+        let is = its.its_place in
+        let len = length-append first at in
+        let here : drop pod.place a ≡ at =
+        ap (λ z. drop z a) is ∙ sym (drop-drop (length first) place a) ∙ ap (drop (length first)) e ∙ drop_at first at (length first) refl in
+        let bytes_left = ap length alone.1 in
+        let after : drop (pod.place + n) a ≡ drop n at = sym (drop-drop n pod.place a) ∙ ap (drop n) here in (
+          omega (arith, is, l, len),
+          subst HasFront (sym here) f,
+          fronts a (drop n at) others pod.number (pod.place + n) pods (subst AreWhole (sym alone.1) (whole_rest at wl f)) after
+              (omega (arith, placed, l, bytes_left)) on,
+        )
 
 -- ---- What is said of refused pods
 
-refusal_at_longer : (reading : Reading) (a b : List ℕ) (place : ℕ) (r : Refusal) → r.place ≡ place → HasFront (drop place a) →
-    IsRefusalAt reading a r → IsRefusalAt reading (a ++ b) r
-refusal_at_longer reading a b place r e f h =
-    let l = length-append a b in
-    let w = h.within in
-    record {
-      within = omega (arith, l, w);
-      number = h.number ∙ ap (λ z. length (walk z) + 1) (sym (take-append-le r.place a b w));
-      its =
-          subst (λ z. IsRefusalOf reading z r) (sym (drop-append-le r.place a b w))
-          (refusal_longer (drop r.place a) b (subst (λ z. HasFront (drop z a)) (sym e) f) reading r h.its);
-    }
-
-said_longer : (reading : Reading) (a b : List ℕ) (ps : List RefusedPod) (said : List NamedRefusal) → AreFronts a ps → AreSaid reading a ps said →
-    AreSaid reading (a ++ b) ps said
+said_longer : (reading : Reading) (a b : List ℕ) (ps : List RefusedPod) (said : List NamedRefusal) → AreFronts a ps → AreSaid reading 0 a ps said →
+    AreSaid reading 0 (a ++ b) ps said
 said_longer reading a b [] said f h = h
 said_longer reading a b (pod ∷ ps) [] f h = absurd h
-said_longer reading a b (pod ∷ ps) (s ∷ said) f h = (
-  record {
-    name = h.0.name;
-    place = h.0.place;
-    refusal = refusal_at_longer reading a b pod.place s.refusal h.0.place f.1 h.0.refusal;
-  },
-  said_longer reading a b ps said f.2 h.1,
-)
+said_longer reading a b (pod ∷ ps) (s ∷ said) f h =
+    let is = h.0 in
+    let within = is.within in
+    let l = length-append a b in
+    let place = is.its_place in
+    let there : HasFront (drop is.at a) = subst (λ z. HasFront (drop z a)) (let e : pod.place ≡ is.at = omega (arith, place) in e) f.1 in (
+      record {
+        name = is.name;
+        number = is.number;
+        place = is.place;
+        left_out = is.left_out;
+        at = is.at;
+        its_place = is.its_place;
+        within = omega (arith, within, l);
+        refusal =
+            subst (λ z. IsRefusalOf reading z s.refusal) (sym (drop-append-le is.at a b within))
+            (refusal_longer (drop is.at a) b there reading s.refusal is.refusal);
+      },
+      said_longer reading a b ps said f.2 h.1,
+    )
 
 -- what is said of pods of a part is said of those of the input
-said_behind : (reading : Reading) (a b : List ℕ) (count place : ℕ) (ps : List RefusedPod) (said : List NamedRefusal) → AreWhole a →
-    count ≡ length (walk a) → place ≡ length a → AreSaidSo (IsRefusalBehind reading count place b) ps said → AreSaid reading (a ++ b) ps said
-said_behind reading a b count place [] said w c p h = h
-said_behind reading a b count place (pod ∷ ps) [] w c p h = absurd h
-said_behind reading a b count place (pod ∷ ps) (s ∷ said) w c p h =
-    let r = h.0.refusal in
-    let at = r.at in
-    let e : s.refusal.place ≡ length a + at = let i = r.its_place in omega (arith, i, p) in
-    let l = length-append a b in
-    let j = count_joined a (take at b) w in
-    let n = r.number in
-    let first : take s.refusal.place (a ++ b) ≡ a ++ take at b = ap (λ z. take z (a ++ b)) e ∙ take_behind a b at in
-    let walked = ap (λ z. length (walk z)) first in
-    let left : drop s.refusal.place (a ++ b) ≡ drop at b =
-    ap (λ z. drop z (a ++ b)) e ∙ sym (drop-drop at (length a) (a ++ b)) ∙ ap (drop at) (drop_at a b (length a) refl) in
-    let within = r.within in (
+said_behind : (reading : Reading) (a b : List ℕ) (place : ℕ) (ps : List RefusedPod) (said : List NamedRefusal) → place ≡ length a →
+    AreSaid reading place b ps said → AreSaid reading 0 (a ++ b) ps said
+said_behind reading a b place [] said p h = h
+said_behind reading a b place (pod ∷ ps) [] p h = absurd h
+said_behind reading a b place (pod ∷ ps) (s ∷ said) p h =
+    let is = h.0 in
+    let at = is.its_place in
+    let within = is.within in
+    let l = length-append a b in (
       record {
-        name = h.0.name;
-        place = h.0.place;
-        refusal = record {
-          within = omega (arith, e, l, within);
-          number = omega (arith, n, c, j, walked);
-          its = subst (λ z. IsRefusalOf reading z s.refusal) (sym left) r.its;
-        };
+        name = is.name;
+        number = is.number;
+        place = is.place;
+        left_out = is.left_out;
+        at = length a + is.at;
+        its_place = omega (arith, at, p);
+        within = omega (arith, within, l);
+        refusal =
+            subst (λ z. IsRefusalOf reading z s.refusal)
+            (sym (sym (drop-drop is.at (length a) (a ++ b)) ∙ ap (drop is.at) (drop_at a b (length a) refl))) is.refusal;
       },
-      said_behind reading a b count place ps said w c p h.1,
+      said_behind reading a b place ps said p h.1,
     )
-  where
-    take_behind : (xs ys : List ℕ) (n : ℕ) → take (length xs + n) (xs ++ ys) ≡ xs ++ take n ys
-    take_behind [] ys n = ap (λ m. take m ys) (let e : 0 + n ≡ n = omega arith in e)
-    take_behind (x ∷ xs) ys n =
-        ap (λ m. take m (x ∷ (xs ++ ys))) (let e : suc (length xs) + n ≡ suc (length xs + n) = omega arith in e)
-        ∙ ap (λ l. x ∷ l) (take_behind xs ys n)
 
-said_both : (reading : Reading) (input : List ℕ) (ps qs : List RefusedPod) (s t : List NamedRefusal) → AreSaid reading input ps s →
-    AreSaid reading input qs t → AreSaid reading input (ps ++ qs) (s ++ t)
-said_both reading input [] qs s t h k = subst (λ z. AreSaid reading input qs (z ++ t)) (sym h) k
+said_both : (reading : Reading) (input : List ℕ) (ps qs : List RefusedPod) (s t : List NamedRefusal) → AreSaid reading 0 input ps s →
+    AreSaid reading 0 input qs t → AreSaid reading 0 input (ps ++ qs) (s ++ t)
+said_both reading input [] qs s t h k = subst (λ z. AreSaid reading 0 input qs (z ++ t)) (sym h) k
 said_both reading input (p ∷ ps) qs [] t h k = absurd h
 said_both reading input (p ∷ ps) qs (x ∷ s) t h k = (h.0, said_both reading input ps qs s t h.1 k)
 
 -- what is said of the pods of some whole ones and of those behind them
-pub said_joined : (reading : Reading) (a b : List ℕ) (count place : ℕ) (ps qs : List RefusedPod) (s t : List NamedRefusal) → AreWhole a →
-    count ≡ length (walk a) → place ≡ length a → AreFronts a ps → AreSaid reading a ps s → AreSaidSo (IsRefusalBehind reading count place b) qs t →
-    AreSaid reading (a ++ b) (ps ++ qs) (s ++ t)
-said_joined reading a b count place ps qs s t w c p f h k =
-    said_both reading (a ++ b) ps qs s t (said_longer reading a b ps s f h) (said_behind reading a b count place qs t w c p k)
-
--- all of an input is a part of it
-pub said_of_all : (reading : Reading) (input : List ℕ) (ps : List RefusedPod) (said : List NamedRefusal) →
-    AreSaidSo (IsRefusalBehind reading 0 0 input) ps said → AreSaid reading input ps said
-said_of_all reading input ps said h = said_behind reading [] input 0 0 ps said no_pods (sym none_counted) refl h
+pub said_joined : (reading : Reading) (a b : List ℕ) (place : ℕ) (ps qs : List RefusedPod) (s t : List NamedRefusal) → place ≡ length a →
+    AreFronts a ps → AreSaid reading 0 a ps s → AreSaid reading place b qs t → AreSaid reading 0 (a ++ b) (ps ++ qs) (s ++ t)
+said_joined reading a b place ps qs s t p f h k =
+    said_both reading (a ++ b) ps qs s t (said_longer reading a b ps s f h) (said_behind reading a b place qs t p k)

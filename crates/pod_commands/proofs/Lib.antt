@@ -6,8 +6,10 @@ mod Known
 mod Leniently
 mod Listed
 mod Longer
+mod Formless
 mod Made
 mod Missing
+mod Numbered
 mod Requested
 mod Paired
 mod Passed

@@ -22,8 +22,8 @@ use Rattle.pod_commands.specs.Inputs.{IsKnown, IsOpened, content_of, left_behind
 use Rattle.pod_commands.specs.Making.{Makes}
 use Rattle.pod_commands.specs.Passing.{WorksOnBlock}
 use Rattle.pod_commands.specs.StreamLaws.{nothing_written, written_more}
-use Rattle.pod_commands.specs.Streaming.{EndsInPart, HasNoPod, IsBrokenInPart, IsBrokenInPartAt, IsFailureOf, IsMadeOfEach, MakesFirstInPart, MakesInPart, PassesOver}
-use Rattle.pod_commands.specs.Working.{AreWorked, WorksOn, WorksOnAll}
+use Rattle.pod_commands.specs.Streaming.{EndsInPart, HasNoPod, IsBrokenInPart, IsBrokenInPartAt, IsFailureOf, IsMadeInBlocks, IsMadeOfEach, MakesFirstInPart, MakesInPart, PassesOver}
+use Rattle.pod_commands.specs.Working.{AreWorked, WorksOn}
 use Rattle.pod_commands.specs.declared.answer.Answer.TheVariants.{Done, Passed, Refused as RefusedFor}
 use Rattle.pod_commands.specs.declared.answer.Failure.{Failure}
 use Rattle.pod_commands.specs.declared.passing.Worker.{Worker}
@@ -42,6 +42,7 @@ use Rattle.pod_commands.proofs.Worked as worked
 
 joins : (m : Making) → IsMadeOfEach m → (a b x y : List ℕ) → Makes m a x → Makes m b y → Makes m (a ++ b) (x ++ y)
 joins (making.Json style) e a b x y h k = (written_more (streaming.Json style) 0 0 a b x y 0 0 (h, refl) (k, refl)).0
+joins (making.Dump colours) e a b x y h k = absurd e
 joins (making.Read strictness) e a b x y h k = absurd e
 joins making.Rewrite e a b x y h k = (written_more streaming.Rewrite 0 0 a b x y 0 0 (h, refl) (k, refl)).0
 joins making.Fixate e a b x y h k = absurd e
@@ -52,6 +53,7 @@ joins making.Check e a b x y h k =
 
 members : (m : Making) → IsMadeOfEach m → (a x : List ℕ) → Makes m a x → (vs : Trees) × AreMembers vs a
 members (making.Json style) e a x h = (h.1.0, h.1.1)
+members (making.Dump colours) e a x h = absurd e
 members (making.Read strictness) e a x h = absurd e
 members making.Rewrite e a x h = (h.0, h.1)
 members making.Fixate e a x h = absurd e
@@ -61,6 +63,7 @@ members making.Check e a x h = h.1
 
 nothing_made : (m : Making) → IsMadeOfEach m → Makes m [] []
 nothing_made (making.Json style) e = (nothing_written (streaming.Json style) 0 0).0
+nothing_made (making.Dump colours) e = absurd e
 nothing_made (making.Read strictness) e = absurd e
 nothing_made making.Rewrite e = (nothing_written streaming.Rewrite 0 0).0
 nothing_made making.Fixate e = absurd e
@@ -79,9 +82,9 @@ pub record WorkedTo (start state : Worker) (first out : List ℕ) : Type 0 where
   pub making : state.making ≡ start.making
   pub manner : state.manner ≡ start.manner
   pub name : state.name.now ≡ start.name.now
-  pub works : WorksOnAll start.manner.reading start.manner.refused start.making start.name.now first out start.said.items state.said.items
+  pub works : WorksOn start.manner.reading start.manner.refused start.making start.name.now 0 0 first out start.said.items state.said.items
 
-pub blocks_worked : (start state : Worker) (first out : List ℕ) → IsMadeOfEach start.making → AreBlocks WorksOnBlock start state first out →
+pub blocks_worked : (start state : Worker) (first out : List ℕ) → IsMadeInBlocks start.manner.refused start.making → AreBlocks WorksOnBlock start state first out →
     WorkedTo start state first out
 blocks_worked start _ _ _ e nothing = record {
   making = refl;
@@ -90,7 +93,7 @@ blocks_worked start _ _ _ e nothing = record {
   works = record {
     pods = [];
     these = [];
-    goes_on = ends 0 [] [] (none_made start.manner.reading start.making e);
+    goes_on = ends 0 0 [] [] (none_made start.manner.reading start.making e.0);
     said = refl;
     added = sym (append-nil start.said.items);
   };
@@ -115,11 +118,12 @@ blocks_worked start _ _ _ e (one_more mid new first block out made before whole 
         pods = w.pods ++ its.pods;
         these = w.these ++ its.these;
         goes_on =
-            joined name reading refused m (joins start.making e) (members start.making e) 0 (length first) first block out made w.pods its.pods whole (omega arith)
-            w.goes_on its.goes_on;
+            joined name reading refused m (joins start.making e.0) (members start.making e.0) e.1 0 0 (length (walk first)) (length first) first block out made
+            w.pods its.pods whole (omega arith) (omega arith) w.goes_on its.goes_on;
         said =
-            said_joined reading first block (length (walk first)) (length first) w.pods its.pods w.these its.these whole refl refl
-            (fronts name reading refused m (joins start.making e) (members start.making e) first first out 0 w.pods whole refl (omega arith) w.goes_on) w.said its.said;
+            said_joined reading first block (length first) w.pods its.pods w.these its.these refl
+            (fronts name reading refused m (joins start.making e.0) (members start.making e.0) e.1 first first out 0 0 w.pods whole refl (omega arith)
+            w.goes_on) w.said its.said;
         added = its.added ∙ ap (λ z. z ++ its.these) w.added ∙ append_assoc start.said.items w.these its.these;
       };
     }
@@ -127,14 +131,14 @@ blocks_worked start _ _ _ e (one_more mid new first block out made before whole 
 -- ---- One input
 
 -- all of it was worked on
-pub passed : (start end : Worker) (content old new : Option (List ℕ)) → IsMadeOfEach start.making → WorksThrough WorksOnBlock start end content old new →
+pub passed : (start end : Worker) (content old new : Option (List ℕ)) → IsMadeInBlocks start.manner.refused start.making → WorksThrough WorksOnBlock start end content old new →
     PassesOver start.manner.reading start.manner.refused start.making start.name.now content old new start.said.items end.said.items
 passed start end content old new e w =
     let so = blocks_worked start end w.input w.out e w.made in
     record { input = w.input; its = w.read; out = w.out; works = so.works; written = w.written }
 
 -- the work ended before
-pub broken : (start : Worker) (name : Bor (List ℕ)) (content old new : Option (List ℕ)) (why : Stop) (failure : Failure) → IsMadeOfEach start.making →
+pub broken : (start : Worker) (name : Bor (List ℕ)) (content old new : Option (List ℕ)) (why : Stop) (failure : Failure) → IsMadeInBlocks start.manner.refused start.making →
     name.now ≡ start.name.now → IsFailureOf name why failure → StopsWork WorksOnBlock start content old new why →
     IsBrokenInPartAt start.manner.reading start.manner.refused start.making start.name.now content old new failure
 broken start name content old new why failure e same t h = of why t h.written
@@ -166,7 +170,7 @@ no_pod start content old new stop.WriteFailed h = tt
 
 module _ (reading : Reading) (refused : Refused) (making : Making) where
   -- it isn't read
-  pub unread : (name : List ℕ) (content old : Option (List ℕ)) (why : Failure) → IsMadeOfEach making → IsUnread why →
+  pub unread : (name : List ℕ) (content old : Option (List ℕ)) (why : Failure) → IsMadeInBlocks refused making → IsUnread why →
       IsBrokenInPartAt reading refused making name content old old why
   unread name content old why e u = of (known content) u
     where
@@ -176,7 +180,7 @@ module _ (reading : Reading) (refused : Refused) (making : Making) where
 
       none_of : (input : List ℕ) → MakesFirstInPart reading refused making name input []
       none_of input =
-          record { first = []; left = input; parts = refl; whole = inl no_pods; pods = []; made = ends 0 [] [] (none_made reading making e) }
+          record { first = []; left = input; parts = refl; whole = inl no_pods; pods = []; made = ends 0 0 [] [] (none_made reading making e.0) }
 
       of : (input : List ℕ) × IsAllOf content input → IsUnread why → IsBrokenInPartAt reading refused making name content old old why
       of k (inl u) =

@@ -1,5 +1,5 @@
 -- What a parse found, as a request.
-use Rattle.std.proofs.Common.{◌≡◌, ◌∙◌, ◌∷◌, ◌++◌, [], inl, inr, ap, ap₂, refl, sym, subst, arith, length, Bool, codes, List, Option, Some, None, true, true≢false}
+use Rattle.std.proofs.Common.{false, ◌≡◌, ◌∙◌, ◌∷◌, ◌++◌, [], inl, inr, ap, ap₂, refl, sym, subst, arith, length, Bool, codes, List, Option, Some, None, true, true≢false}
 use Rattle.std.specs.Prelude.{Box, is_some, map, option_map, unwrap_or}
 use Rattle.std.specs.Borrow.{Bor}
 use Rattle.std.specs.Prelude.{Result, Ok, Err, IfErr, IfOk}
@@ -18,10 +18,15 @@ use Rattle.clap.specs.declared.parser.matches.ArgMatches.{ArgMatches}
 use Rattle.clap.specs.declared.parser.matches.ArgMatches.TheViews.{out-ArgMatches, out-SubCommand}
 use Rattle.clap.specs.declared.parser.matches.SubCommand.{SubCommand}
 use Rattle.pod_commands.specs.Program.{program}
-use Rattle.pod_commands.specs.Requests.{AreRead, AreTextsIn, AreUnread, HasNoTexts, HasTexts, ReadsAs, is_given, name_of, or_input}
+use Rattle.pod_commands.specs.Requests.{AreRead, AreTextsIn, AreUnread, HasNoFate, HasNoTexts, HasTexts, IsFate, IsFateIn, IsNoFate, ReadsAs, is_given, name_of, or_input, AsksForDump, DumpsAs, HasDump, IsOfJson, word_of_form}
 use Rattle.pod_commands.specs.declared.misuse.Misuse.{Misuse}
+use Rattle.pod_commands.specs.declared.request.Fate.{Fate}
 use Rattle.pod_commands.specs.declared.request.Making.TheVariants.{Json, Read, Rewrite, Fixate, Check}
 use Rattle.pod_commands.specs.declared.request.Making.TheVariants as Making
+use Rattle.pod_commands.specs.declared.request.Streaming.TheVariants as Streaming
+use Rattle.spa_text_commands.specs.declared.selection.Form.{Form}
+use Rattle.spa_text_commands.specs.declared.selection.Form.TheVariants.{Lines, LinesAndBytes, Bytes, Pods}
+use Rattle.spa_text_commands.specs.declared.selection.Form.TheVariants as form
 use Rattle.pod_commands.specs.declared.request.Texts.{Texts}
 use Rattle.pod_commands.specs.declared.request.Word.{Word}
 use Rattle.pod_commands.specs.declared.request.Word.TheVariants.{Print, Make, Stream, Diff, Agree}
@@ -105,6 +110,7 @@ pub has_texts : (rows : List Row) (name : Text) (word : Word) (texts : Texts) �
     (name ≡ codes "read" → AreTextsIn rows texts) → HasTexts rows word
 has_texts rows name (Make (Read its) manner) texts e r h = subst (AreTextsIn rows) (sym r) (h e)
 has_texts rows name (Make (Json style) manner) texts e r h = tt
+has_texts rows name (Make (Making.Dump colours) manner) texts e r h = tt
 has_texts rows name (Make Rewrite manner) texts e r h = tt
 has_texts rows name (Make Fixate manner) texts e r h = tt
 has_texts rows name (Make Making.Settle manner) texts e r h = tt
@@ -114,6 +120,51 @@ has_texts rows name (Print printing manner) texts e r h = tt
 has_texts rows name (Stream streaming manner) texts e r h = tt
 has_texts rows name (Diff reading) texts e r h = tt
 has_texts rows name (Agree work reading) texts e r h = tt
+
+-- what becomes of an input is what the rows say
+module _ (rows : List Row) (resyncs keeps goes_on : Bool) (r : resyncs ≡ is_given (codes "resync") rows)
+    (k : keeps ≡ is_given (codes "keep-refused") rows) (g : goes_on ≡ is_given (codes "keep-going") rows) where
+  pub fate_given : (fate : Fate) → IsFate resyncs keeps goes_on fate → IsFateIn rows fate
+  fate_given fate h =
+      subst (λ b. IsFate b (is_given (codes "keep-refused") rows) (is_given (codes "keep-going") rows) fate) r
+      (subst (λ b. IsFate resyncs b (is_given (codes "keep-going") rows) fate) k (subst (λ b. IsFate resyncs keeps b fate) g h))
+
+  pub no_fate_given : (why : Misuse) → IsNoFate resyncs keeps goes_on why → HasNoFate rows why
+  no_fate_given why h =
+      subst (λ b. IsNoFate b (is_given (codes "keep-refused") rows) (is_given (codes "keep-going") rows) why) r
+      (subst (λ b. IsNoFate resyncs b (is_given (codes "keep-going") rows) why) k (subst (λ b. IsNoFate resyncs keeps b why) g h))
+
+-- a value is there where what it says is
+pub same_some : {A B : Type 0} (f : A → B) (o : Option A) → is_some o ≡ is_some (option_map f o)
+same_some f None = refl
+same_some f (Some x) = refl
+
+-- the word prints as pw-dump does, or doesn't, as it is asked to
+is_json : (rows : List Row) (name : Text) (form : Form) (dumps : Bool) → name ≡ word_of_form form → (name ≡ codes "json" → AsksForDump rows dumps) →
+    (IsOfJson form → dumps ≡ false) → IsOfJson form → AsksForDump rows false
+is_json rows name Lines dumps e h d j = absurd j
+is_json rows name LinesAndBytes dumps e h d j = absurd j
+is_json rows name (form.Text layout) dumps e h d j = subst (AsksForDump rows) (d j) (h e)
+is_json rows name Bytes dumps e h d j = subst (AsksForDump rows) (d j) (h e)
+is_json rows name Pods dumps e h d j = absurd j
+
+pub has_dump : (rows : List Row) (name : Text) (word : Word) (dumps : Bool) → name ≡ name_of word → DumpsAs dumps word →
+    (name ≡ codes "json" → AsksForDump rows dumps) → HasDump rows word
+has_dump rows name (Make (Making.Dump colours) manner) dumps e d h = subst (AsksForDump rows) d (h e)
+has_dump rows name (Make (Json style) manner) dumps e d h = subst (AsksForDump rows) d (h e)
+has_dump rows name (Make (Read its) manner) dumps e d h = tt
+has_dump rows name (Make Rewrite manner) dumps e d h = tt
+has_dump rows name (Make Fixate manner) dumps e d h = tt
+has_dump rows name (Make Making.Settle manner) dumps e d h = tt
+has_dump rows name (Make (Making.Print printing) manner) dumps e d h = tt
+has_dump rows name (Make Check manner) dumps e d h = tt
+has_dump rows name (Print printing manner) dumps e d h = is_json rows name printing.printout.form dumps e h d
+has_dump rows name (Stream (Streaming.Json style) manner) dumps e d h = subst (AsksForDump rows) d (h e)
+has_dump rows name (Stream Streaming.Rewrite manner) dumps e d h = tt
+has_dump rows name (Stream (Streaming.Print printing) manner) dumps e d h = is_json rows name printing.printout.form dumps e h d
+has_dump rows name (Stream Streaming.Check manner) dumps e d h = tt
+has_dump rows name (Diff reading) dumps e d h = tt
+has_dump rows name (Agree work reading) dumps e d h = tt
 
 -- options are those that the rows have
 module _ (rows : List Row) (hex loose dump : Bool) (type id : Option Text) (x : hex ≡ is_given (codes "from-hex") rows)

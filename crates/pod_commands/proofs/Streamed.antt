@@ -13,7 +13,7 @@ use Rattle.pod_commands.specs.Answers.{Gets, Gives, IsExcluded, IsShownIn, IsStr
 use Rattle.pod_commands.specs.Inputs.{AreMade, IsKnown, IsOpened, content_of, left_behind}
 use Rattle.pod_commands.specs.Sending.{IsSent}
 use Rattle.pod_commands.specs.StreamLaws.{nothing_written}
-use Rattle.pod_commands.specs.Streaming.{EndsIn, HasNoPod, IsBroken, IsBrokenAt, IsFailureOf, IsRefusedAs, IsWritten, MayRefuse, StreamsAs, made_as}
+use Rattle.pod_commands.specs.Streaming.{EndsIn, HasNoPod, IsBroken, IsBrokenAt, IsFailureOf, IsMadeInBlocks, IsMadeOfEach, IsRefusedAs, IsWritten, MayRefuse, StreamsAs, made_as}
 use Rattle.pod_commands.specs.declared.request.Printing.{Printing}
 use Rattle.pod_commands.specs.declared.answer.Failure.{Failure}
 use Rattle.pod_commands.specs.declared.answer.Failure.TheVariants.{Pods, Texts, Pair, Lists, OutOfMemory, Unread, Unwritten}
@@ -237,6 +237,11 @@ pub passed_by : (s : Streaming) (reading : Reading) (fate : Fate) (refused : OfR
     IsStreamedInPart reading refused making answer remaining names o → IsStreamedBy s reading fate answer remaining names o
 passed_by s reading fate refused making answer remaining names o e m w =
     subst (λ z. IsStreamedBy s reading z answer remaining names o) (sym e) (subst (λ z. IsPassed z reading refused answer remaining names o) m w)
+
+-- the work is done block by block
+pub blocks_by : (reading : Reading) (fate : Fate) (refused : OfRefused) (making : Making) → fate ≡ GoesOn refused → IsExact reading fate →
+    IsMadeOfEach making → IsMadeInBlocks refused making
+blocks_by reading fate refused making e plain each = (each, subst (IsExact reading) e plain)
 
 pub parts_by : (s : Streaming) (reading : Reading) (fate : Fate) (refused : OfRefused) (target : Option (Bor (List ℕ))) (remaining : Option (List ℕ))
     (holds : List ℕ → Option (List ℕ)) (names : List (Bor (List ℕ))) (old : Option (List ℕ)) → fate ≡ GoesOn refused → None ≡ made_as s →

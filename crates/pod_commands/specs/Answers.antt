@@ -12,7 +12,10 @@ use Rattle.clap.specs.declared.error.Error.{Error}
 use Rattle.clap.specs.declared.error.kind.ErrorKind.{ErrorKind}
 use Rattle.clap.specs.declared.error.kind.ErrorKind.TheVariants as kind
 use Rattle.spa_device.specs.Whole.{IsAllOf}
+use Rattle.spa_recordings.specs.GoingOn.{EndsBySize}
+use Rattle.spa_recordings.specs.declared.going_on.Gap.{Gap}
 use Rattle.spa_recordings.specs.declared.going_on.Refused.{Refused as OfRefused}
+use Rattle.spa_recordings.specs.declared.going_on.Refused.TheVariants.{Resynced}
 use Rattle.spa_recordings.specs.declared.reading.Reading.{Reading}
 use Rattle.spa_recordings.specs.declared.reading.Reading.TheVariants.{Exact, Lenient}
 use Rattle.spa_refusals.specs.Refusals.{refusal_text}
@@ -27,7 +30,7 @@ use Rattle.spa_meet_commands.specs.Lists.{AreListsRefused, ListsGive}
 use Rattle.spa_meet_commands.specs.declared.answer.Failure.{Failure as MeetFailure}
 use Rattle.spa_meet_commands.specs.declared.pair.Work.{Work}
 use Rattle.pod_commands.specs.Inputs.{AreMade, OfOne, OfTwo, StopsAt, left_behind}
-use Rattle.pod_commands.specs.Making.{AreNoPods, IsNotRead, MakesAll, RefusesBy}
+use Rattle.pod_commands.specs.Making.{AreNoPods, HasNoForm, IsNotRead, MakesAll, RefusesBy}
 use Rattle.pod_commands.specs.Program.{program}
 use Rattle.pod_commands.specs.Requests.{Asks, AsksNothing, dash, file_of, fills_terminal}
 use Rattle.pod_commands.specs.Streaming.{EndsIn, IsBroken, IsBrokenInPart, StreamsAs, made_as}
@@ -113,6 +116,10 @@ Refuses IsSo IsRefused o why = (IsRefused why × IsUntouched o) ⊎ (IsUnwritten
 abbrev pub IsUnread : Failure → Type 0
 IsUnread why = (why ≡ OutOfMemory) ⊎ ((name : Bor (List ℕ)) × (words : Bor (List ℕ)) × (why ≡ Unread name words))
 
+-- so, or pw-dump has no form for a pod of one
+abbrev pub IsUnworked : Making → Failure → Type 0
+IsUnworked making why = IsUnread why ⊎ ((name : List ℕ) × (input : List ℕ) × HasNoForm making name input why)
+
 -- the work on several inputs stops at one of them, which isn't read or is refused
 abbrev pub AreUnmade : Reading → Making → (remaining : Option (List ℕ)) → (holds : List ℕ → Option (List ℕ)) → List (Bor (List ℕ)) → Failure → Type 0
 AreUnmade reading making remaining holds names why =
@@ -161,6 +168,7 @@ AreTwoApart work reading remaining holds n m why =
 abbrev pub IsExcluded : Reading → Fate → Option (Bor (List ℕ)) → Excluded → Type 0
 IsExcluded reading fate target excluded.Lenient = (reading ≡ Lenient) × (fate ≡ Stops)
 IsExcluded reading fate target excluded.Output = ¬ (target ≡ None)
+IsExcluded reading fate target excluded.Resync = fate ≡ GoesOn Resynced
 
 -- what is wrong with another number of inputs than a word takes
 abbrev pub misuse_of : List (Bor (List ℕ)) → Misuse
@@ -228,7 +236,7 @@ IsMadeInPart reading refused making Done remaining names o = Gives (λ out. AreW
 IsMadeInPart reading refused making (Passed pods) remaining names o =
     (pods.items ≢ []) × Gives (λ out. AreWorked reading refused making remaining o.before names out pods.items) o
 IsMadeInPart reading refused making (Refused why) remaining names o =
-    Refuses (λ out. (pods : List NamedRefusal) × AreWorked reading refused making remaining o.before names out pods) IsUnread o why
+    Refuses (λ out. (pods : List NamedRefusal) × AreWorked reading refused making remaining o.before names out pods) (IsUnworked making) o why
 IsMadeInPart reading refused making _ remaining names o = ⊥
 
 abbrev pub IsMadeBy : Reading → Fate → Making → Answer → (remaining : Option (List ℕ)) → List (Bor (List ℕ)) → Outlet → Type 0
@@ -287,10 +295,10 @@ IsStreamed streaming reading fate answer remaining names o =
     ((o.target ≡ None) × IsStreamedBy streaming reading fate answer remaining names o)
     ⊎ ((other : Excluded) × IsExcluded reading fate o.target other × IsMisuse (WithStream other) answer o)
 
--- input that comes is read leniently only where refused pods are left out or kept; only private clauses cite it
+-- input that comes is read leniently only where refused pods are left out or kept, and these end by their size words; only private clauses cite it
 abbrev pub IsExact : Reading → Fate → Type 0
 IsExact reading Stops = reading ≡ Exact
-IsExact reading (GoesOn refused) = ⊤
+IsExact reading (GoesOn refused) = EndsBySize refused
 
 -- why not all inputs are printed in a file: the work stops at one of them, or memory for what is printed ran out
 abbrev pub AreUnshown : Printing → (remaining : Option (List ℕ)) → (holds : List ℕ → Option (List ℕ)) → List (Bor (List ℕ)) → Failure → Type 0
@@ -392,9 +400,15 @@ failure_text OutOfMemory = codes "out of memory"
 failure_text (Unread name words) = name_text name.now ++ (codes ": " ++ words.now)
 failure_text (Unwritten target) = target_text target ++ codes ": write failed"
 
+-- what is said of bytes that are left out with a refused pod, where its size word doesn't say it
+abbrev pub left_out_text : Option Gap → List ℕ
+left_out_text None = []
+left_out_text (Some gap) = codes "; " ++ (decimal gap.len ++ (codes " bytes are left out, up to byte " ++ decimal gap.end))
+
 -- the line that is written of a refused pod
 abbrev pub line_of_pod : NamedRefusal → List ℕ
-line_of_pod pod = codes "pod: " ++ (name_text pod.name.now ++ (codes ": " ++ (refusal_text pod.refusal ++ 10 ∷ [])))
+line_of_pod pod =
+    codes "pod: " ++ (name_text pod.name.now ++ (codes ": " ++ (refusal_text pod.refusal ++ (left_out_text pod.left_out ++ 10 ∷ []))))
 
 -- a line of each refused pod, and one that says how many they are
 abbrev pub lines_of_pods : List NamedRefusal → List ℕ
@@ -417,8 +431,13 @@ missing_text (Some key) None None = codes "value has the key '" ++ (key.now ++ c
 missing_text (Some key) type id = codes "value has the key '" ++ (key.now ++ (codes "' in an object with " ++ objects_text type id))
 missing_text None type id = codes "object has " ++ objects_text type id
 
+-- what isn't there: the pod at a path, where one is given
+abbrev pub absent_text : (path key type id : Option (Bor (List ℕ))) → List ℕ
+absent_text (Some path) key type id = codes "pod stands at " ++ shown_text path.now
+absent_text None key type id = missing_text key type id
+
 abbrev pub missing_line : Selection → List ℕ
-missing_line s = codes "pod: no " ++ (missing_text s.key s.type_ s.id ++ 10 ∷ [])
+missing_line s = codes "pod: no " ++ (absent_text s.path s.key s.type_ s.id ++ 10 ∷ [])
 
 -- the line that is written of a refusal
 abbrev pub line_of : Failure → List ℕ

@@ -1,15 +1,15 @@
 -- Texts in colours are made line by line.
-use Rattle.std.proofs.Common.{◌≡◌, ◌≢◌, ◌≤◌, ◌+◌, ◌-◌, ◌/◌, ◌∙◌, ◌∷◌, ◌++◌, [], ap, append_assoc, append-nil, arith, drop, inl, inr, length, map, refl, suc, subst, sym, take, zero, Bool, List, ℕ, None, Some}
+use Rattle.std.proofs.Common.{◌≡◌, ◌≢◌, ◌≤◌, ◌+◌, ◌-◌, ◌/◌, ◌∙◌, ◌∷◌, ◌++◌, [], ap, append_assoc, append-nil, arith, drop, inl, inr, length, map, refl, suc, subst, sym, take, true≢false, zero, Bool, List, ℕ, None, Some}
 use Rattle.std.specs.Char.{is_ascii_uppercase}
 use Rattle.std.specs.Prelude.{◌&&◌, ⊤, false, true, not, if◌then◌else◌, nat_eq}
 use Rattle.std.proofs.lemmas.Bool.Decides.{nat_tests}
 use Rattle.pod_commands.specs.Colours.{IsColoured, backslash, colour_of, further, goes_on, is_key, is_number, line_feed, nothing, piece_in, piece_len, quote, quoted_len, word_len}
-use Rattle.spa_format.specs.Tree.{Trees, no_trees, member}
+use Rattle.spa_format.specs.Tree.{Tree, Trees, no_trees, member}
 use Rattle.spa_text_commands.specs.Dump.{blanks, hex_lines, letter_of, place_text, row_line, rows, spaced}
-use Rattle.spa_text_commands.specs.Lines.{ArePodLines, PrintsPart, PrintsParts, head_line}
+use Rattle.spa_text_commands.specs.Lines.{ArePodLines, PrintsPart, PrintsParts, head_line, is_pods}
 use Rattle.spa_text_commands.specs.Selection.{Part}
-use Rattle.spa_text_commands.specs.Texts.{AreTexts}
-use Rattle.spa_text_commands.specs.declared.printing.Layout.{Layout}
+use Rattle.spa_text_commands.specs.Paths.{numbered}
+use Rattle.spa_text_commands.specs.Texts.{AreTexts, IsTextAt}
 use Rattle.spa_text_commands.specs.declared.selection.Form.{Form}
 use Rattle.spa_text_commands.specs.declared.selection.Form.TheVariants as form
 use Rattle.pod_commands.specs.declared.colours.Colour.TheVariants.{Name, Quoted, Number}
@@ -125,13 +125,13 @@ ends_both xs [] h k = subst EndsLine (sym (append-nil xs)) h
 ends_both xs (y ∷ ys) h k = ends_after xs y ys k
 
 -- texts of pods, and what is shown of them
-pub texts_end : (layout : Layout) (vs : Trees) (out : List ℕ) → AreTexts layout [] vs out → EndsLine out
-texts_end layout no_trees out h = subst EndsLine (sym h) tt
-texts_end layout (member v vs) out h = subst EndsLine (sym h.2) (ends_line h.0 h.1 (texts_end layout vs h.1 h.4))
+pub texts_end : (IsText : Tree → List ℕ → Type 0) (vs : Trees) (out : List ℕ) → AreTexts IsText vs out → EndsLine out
+texts_end IsText no_trees out h = subst EndsLine (sym h) tt
+texts_end IsText (member v vs) out h = subst EndsLine (sym h.2) (ends_line h.0 h.1 (texts_end IsText vs h.1 h.4))
 
 pod_lines_end : (part : Part) (out : List ℕ) → ArePodLines part out → EndsLine out
 pod_lines_end part out h =
-    let head = head_line part.count part.place in
+    let head = head_line part.count part.place part.path in
     let lines = h.1 in
     subst EndsLine (sym (h.2 ∙ ap (λ z. head ++ z) lines.1 ∙ sym (append_assoc head lines.0 (line_feed ∷ []))))
     (ends_line (head ++ lines.0) [] tt)
@@ -150,19 +150,21 @@ rows_end zero place bytes = tt
 rows_end (suc n) place bytes =
     ends_both (row_line place (take 16 bytes)) (rows n (place + 16) (drop 16 bytes)) (row_ends place (take 16 bytes)) (rows_end n (place + 16) (drop 16 bytes))
 
-quoted_end : (text out : List ℕ) → out ≡ quote ∷ (text ++ (quote ∷ line_feed ∷ [])) → EndsLine out
-quoted_end text out h = subst EndsLine (sym h) (ends_after (quote ∷ text) quote (line_feed ∷ []) refl)
+line_ends : (line out : List ℕ) → out ≡ line ++ (line_feed ∷ []) → EndsLine out
+line_ends line out h = subst EndsLine (sym h) (ends_line line [] tt)
 
-part_ends : (f : Form) (part : Part) (out : List ℕ) (refused : ℕ) → PrintsPart f part out refused → EndsLine out
-part_ends form.Lines part out refused h = pod_lines_end part out h
-part_ends form.LinesAndBytes part out refused h =
+part_ends : (f : Form) (part : Part) (out : List ℕ) (refused : ℕ) → is_pods f ≡ false → PrintsPart f part out refused → EndsLine out
+part_ends form.Lines part out refused e h = pod_lines_end part out h
+part_ends form.LinesAndBytes part out refused e h =
     subst EndsLine (sym h.2)
     (ends_both h.0 (hex_lines part.place part.pod) (pod_lines_end part h.0 h.1) (rows_end ((length part.pod + 15) / 16) part.place part.pod))
-part_ends (form.Text layout) part out refused (inl h) = let p = h.1 in texts_end layout p.0 out p.2
-part_ends (form.Text layout) part out refused (inr h) = subst EndsLine (sym h.1) tt
-part_ends form.Bytes part out refused h = quoted_end _ out h
+part_ends (form.Text layout) part out refused e (inl h) = let p = h.1 in texts_end (IsTextAt layout (numbered part.count part.path)) p.0 out p.2
+part_ends (form.Text layout) part out refused e (inr h) = subst EndsLine (sym h.1) tt
+part_ends form.Bytes part out refused e h = line_ends _ out h
+part_ends form.Pods part out refused e h = absurd (true≢false e)
 
-pub parts_end : (f : Form) (parts : List Part) (out : List ℕ) (refused : ℕ) → PrintsParts f parts out refused → EndsLine out
-parts_end f [] out refused h = subst EndsLine (sym h.0) tt
-parts_end f (part ∷ parts) out refused h =
-    subst EndsLine (sym h.4) (ends_both h.0 h.1 (part_ends f part h.0 h.2 h.7) (parts_end f parts h.1 h.3 h.8))
+-- what is printed ends with its last line, unless it is pods
+pub parts_end : (f : Form) (parts : List Part) (out : List ℕ) (refused : ℕ) → is_pods f ≡ false → PrintsParts f parts out refused → EndsLine out
+parts_end f [] out refused e h = subst EndsLine (sym h.0) tt
+parts_end f (part ∷ parts) out refused e h =
+    subst EndsLine (sym h.4) (ends_both h.0 h.1 (part_ends f part h.0 h.2 e h.7) (parts_end f parts h.1 h.3 e h.8))

@@ -3,8 +3,11 @@ use Rattle.std.specs.Prelude.{◌≡◌, ◌≢◌, ◌||◌, ◌&&◌, ℕ, suc
 use Rattle.std.specs.Char.{is_ascii_alphabetic, is_ascii_alphanumeric, is_ascii_digit, is_ascii_hexdigit, is_ascii_uppercase}
 use Rattle.std.specs.List.{list_all, list_any}
 use Rattle.std.specs.Str.{bytes_eq}
+use Rattle.spa_text_commands.specs.Lines.{is_pods}
+use Rattle.spa_text_commands.specs.Params.{PrintsParams}
 use Rattle.spa_text_commands.specs.Parts.{ShowsPods}
 use Rattle.spa_text_commands.specs.Texts.{Prints}
+use Rattle.spa_text_commands.specs.declared.selection.Form.{Form}
 use Rattle.pod_commands.specs.declared.colours.Colour.{Colour}
 use Rattle.pod_commands.specs.declared.colours.Colour.TheVariants.{Name, Quoted, Number}
 use Rattle.pod_commands.specs.declared.colours.Colours.{Colours}
@@ -91,12 +94,20 @@ abbrev pub InColours : Colours → (text out : List ℕ) → Type 0
 InColours Off text out = out ≡ text
 InColours On text out = IsColoured text out
 
+-- pods themselves are printed without colours
+abbrev pub colours_of : Form → Colours → Colours
+colours_of form colours = if is_pods form then Off else colours
+
 -- the texts of pods, in this style
 abbrev pub PrintsIn : Style → (pods out : List ℕ) → Type 0
 PrintsIn style pods out = (text : List ℕ) × Prints style.layout pods text × InColours style.colours text out
+
+-- what pw-dump prints of pods, in colours if it is to have them
+abbrev pub DumpsIn : Colours → (pods out : List ℕ) → Type 0
+DumpsIn colours pods out = (text : List ℕ) × PrintsParams pods text × InColours colours text out
 
 -- what is printed of pods, which so many pods and bytes of the input stand before, in colours if it is to have them; so many
 -- of them are refused
 abbrev pub ShowsIn : Printing → (count place : ℕ) → (pods out : List ℕ) → (refused : ℕ) → Type 0
 ShowsIn printing count place pods out refused =
-    (text : List ℕ) × ShowsPods printing.printout count place pods text refused × InColours printing.colours text out
+    (text : List ℕ) × ShowsPods printing.printout count place pods text refused × InColours (colours_of printing.printout.form printing.colours) text out

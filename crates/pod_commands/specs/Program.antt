@@ -12,7 +12,7 @@ files = record (new_rule (codes "FILE")) { action = Some Append }
 abbrev pub output : Rule
 output = record (new_rule (codes "output")) { short = Some 111; long = Some (codes "output"); value_names = 1 }
 
--- a flag, such as `--lenient`, `--keep-going`, `--keep-refused`, `--pretty`, `--hex`, `--loose`
+-- a flag, such as `--lenient`, `--keep-going`, `--keep-refused`, `--resync`, `--pretty`, `--hex`, `--loose`
 abbrev pub flag : Text → Rule
 flag name = record (new_rule name) { long = Some name; action = Some SetTrue }
 
@@ -32,12 +32,12 @@ stream = flag (codes "stream")
 abbrev pub word : Text → App
 word name = with_rule (with_rule (new_app name) files) output
 
--- a word that reads pods takes `--lenient` too, and one that goes over pods `--keep-going`
+-- a word that reads pods takes `--lenient` too, and one that goes over pods `--keep-going` and `--resync`
 abbrev pub reading_pods : App → App
 reading_pods app = with_rule app (flag (codes "lenient"))
 
 abbrev pub over_pods : App → App
-over_pods app = with_rule (reading_pods app) (flag (codes "keep-going"))
+over_pods app = with_rule (with_rule (reading_pods app) (flag (codes "keep-going"))) (flag (codes "resync"))
 
 -- one that writes pods for pods takes `--keep-refused` too
 abbrev pub to_pods : Text → App
@@ -54,9 +54,12 @@ with_parts app = with_rule (with_rule (with_names (with_rule app nth)) (flag (co
 abbrev pub show : App
 show = with_rule (with_parts (reading_pods (word (codes "show")))) stream
 
--- `json` takes `--pretty`, too
+-- `json` takes `--pretty` and `--pw-dump`, too
+abbrev pub with_layouts : App → App
+with_layouts app = with_rule (with_rule app (flag (codes "pretty"))) (flag (codes "pw-dump"))
+
 abbrev pub json : App
-json = with_rule (with_parts (with_rule (over_pods (word (codes "json"))) (flag (codes "pretty")))) stream
+json = with_rule (with_parts (with_layouts (over_pods (word (codes "json"))))) stream
 
 -- `show`, `json` and `rewrite` take `--stream`
 abbrev pub rewrite : App
@@ -73,6 +76,13 @@ with_params app = with_rule (with_rule (with_rule app (flag (codes "pw-dump"))) 
 abbrev pub read : App
 read = with_params (with_rule (with_rule (word (codes "read")) (flag (codes "loose"))) (flag (codes "from-hex")))
 
+-- `get` takes a PATH before its files
+abbrev pub path : Rule
+path = record (new_rule (codes "PATH")) { required = true }
+
+abbrev pub get : App
+get = with_rule (with_rule (with_rule (new_app (codes "get")) path) files) output
+
 -- the program without its words: it wants one, and has a version
 abbrev pub bare : App
 bare =
@@ -86,7 +96,7 @@ with_pair app name = with_subcommand app (reading_pods (word name)).top
 
 -- the program's words, in order
 abbrev pub with_json : App → App
-with_json app = with_subcommand (with_subcommand app json.top) read.top
+with_json app = with_subcommand (with_subcommand (with_subcommand app json.top) get.top) read.top
 
 abbrev pub with_writers : App → App
 with_writers app =

@@ -1,5 +1,6 @@
 -- What the words ask for.
-use Rattle.std.specs.Prelude.{◌≡◌, ◌≢◌, ◌<◌, ◌^◌, ◌⊎◌, ◌||◌, ◌&&◌, ⊤, ℕ, codes, Bool, true, false, not, List, [], ◌∷◌, Option, Some, None, IfSome, is_some, if◌then◌else◌, option_map, unwrap_or}
+use Rattle.std.specs.Prelude.{◌≡◌, ◌≢◌, ◌<◌, ◌^◌, ◌⊎◌, ◌||◌, ◌&&◌, ◌==◌, ⊤, ℕ, codes, Bool, true, false, not, List, [], ◌∷◌, Option, Some, None, IfSome, is_some, if◌then◌else◌, option_map, unwrap_or}
+use Rattle.std.specs.List.{before_first}
 use Rattle.std.specs.Str.{bytes_eq}
 use Rattle.std.specs.Str.Parse.{IsNumeral, digits_value, without_leading_plus}
 use Rattle.std.specs.Borrow.{Bor}
@@ -8,7 +9,7 @@ use Rattle.clap.specs.Words.{Row, Text, all_of, first_of, subcommand_of}
 use Rattle.clap.specs.Faults.{fault_of}
 use Rattle.pod_commands.specs.Program.{program}
 use Rattle.pod_commands.specs.declared.misuse.Misuse.{Misuse}
-use Rattle.pod_commands.specs.declared.misuse.Misuse.TheVariants.{NoWord, Nth, Color, Name}
+use Rattle.pod_commands.specs.declared.misuse.Misuse.TheVariants.{NoWord, Nth, Path, Color, Name}
 use Rattle.pod_commands.specs.declared.misuse.Misuse.TheVariants as misuse
 use Rattle.pod_commands.specs.declared.misuse.OfRead.TheVariants as read
 use Rattle.pod_commands.specs.declared.colours.Colours.{Colours}
@@ -30,11 +31,12 @@ use Rattle.pod_commands.specs.declared.request.Style.{Style}
 use Rattle.pod_commands.specs.declared.request.Texts.{Texts}
 use Rattle.pod_commands.specs.declared.request.Texts.TheVariants.{Named, Dump, Hex}
 use Rattle.pod_commands.specs.declared.screen.Screen.{Screen}
-use Rattle.spa_recordings.specs.declared.going_on.Refused.TheVariants.{LeftOut, Kept}
+use Rattle.spa_recordings.specs.declared.going_on.Refused.TheVariants.{LeftOut, Kept, Resynced}
 use Rattle.spa_recordings.specs.declared.reading.Reading.{Reading}
 use Rattle.spa_recordings.specs.declared.reading.Reading.TheVariants.{Exact, Lenient}
 use Rattle.spa_meet_commands.specs.declared.pair.Work.TheVariants.{Negotiate, Filter}
 use Rattle.spa_text_commands.specs.Naming.{AreNames}
+use Rattle.spa_text_commands.specs.Lines.{is_pods}
 use Rattle.spa_text_commands.specs.Selection.{looks_inside}
 use Rattle.spa_text_commands.specs.declared.naming.Named.{Named as OfNames}
 use Rattle.spa_text_commands.specs.declared.naming.Named.TheVariants as named
@@ -47,7 +49,7 @@ use Rattle.spa_text_read.specs.Names.{ids_of}
 use Rattle.spa_text_read.specs.declared.fitting.Strictness.{Strictness}
 use Rattle.spa_text_read.specs.declared.fitting.Strictness.TheVariants.{Plain, Strict}
 use Rattle.spa_text_commands.specs.declared.selection.Form.{Form}
-use Rattle.spa_text_commands.specs.declared.selection.Form.TheVariants.{Lines, LinesAndBytes, Bytes}
+use Rattle.spa_text_commands.specs.declared.selection.Form.TheVariants.{Lines, LinesAndBytes, Bytes, Pods}
 use Rattle.spa_text_commands.specs.declared.selection.Form.TheVariants as form
 
 -- the word that prints pods in a form
@@ -56,11 +58,13 @@ word_of_form Lines = codes "show"
 word_of_form LinesAndBytes = codes "show"
 word_of_form (form.Text layout) = codes "json"
 word_of_form Bytes = codes "json"
+word_of_form Pods = codes "get"
 
 -- the text of a word
 abbrev pub name_of : Word → Text
 name_of (Print printing manner) = word_of_form printing.printout.form
 name_of (Make (Json style) manner) = codes "json"
+name_of (Make (Making.Dump colours) manner) = codes "json"
 name_of (Make (Read texts) manner) = codes "read"
 name_of (Make Rewrite manner) = codes "rewrite"
 name_of (Make Fixate manner) = codes "fixate"
@@ -94,12 +98,13 @@ layout_in rows = layout_by (is_given (codes "pretty") rows)
 abbrev pub is_plain : Options → Bool
 is_plain options = not ((options.hex || is_some options.selection.nth) || looks_inside options.selection)
 
--- the form that is asked for, by `show` and by `json`
+-- the form that is asked for, by `show` and by `json`; `get` has one alone
 abbrev pub HasForm : Options → Form → Type 0
 HasForm options Lines = options.hex ≡ false
 HasForm options LinesAndBytes = options.hex ≡ true
 HasForm options (form.Text layout) = (options.hex ≡ false) × (layout ≡ options.layout) × (is_plain options ≡ false)
 HasForm options Bytes = options.hex ≡ true
+HasForm options Pods = ⊤
 
 -- how texts are printed, and what is printed in a form
 abbrev pub style_of : Options → Style
@@ -117,6 +122,7 @@ HasPrintout options (Print printing manner) = HasPrinting options printing
 HasPrintout options (Stream (Streaming.Print printing) manner) = HasPrinting options printing
 HasPrintout options (Make (Making.Print printing) manner) = HasPrinting options printing
 HasPrintout options (Make (Json style) manner) = (style ≡ style_of options) × (is_plain options ≡ true)
+HasPrintout options (Make (Making.Dump colours) manner) = colours ≡ options.colours
 HasPrintout options (Stream (Streaming.Json style) manner) = (style ≡ style_of options) × (is_plain options ≡ true)
 HasPrintout options _ = ⊤
 
@@ -150,9 +156,19 @@ AreNamesOf kind given names = (names ≡ given) × IfSome given (AreNames kind)
 abbrev pub text_of : Option (Bor Text) → Option Text
 text_of given = option_map (λ s. s.now) given
 
+-- the number at the front of a path, before the first of its steps
+abbrev pub number_in : Text → Text
+number_in path = before_first (λ b. b == 46) (before_first (λ b. b == 91) path)
+
+-- the number of the only pod in which something is printed: that of a path, or of `--nth`
+abbrev pub number_given : (path nth : Option Text) → Option Text
+number_given None nth = nth
+number_given (Some path) nth = Some (number_in path)
+
 -- what is looked for in which pods
 pub record IsSelected (rows : List Row) (selection : Selection) : Type 0 where
-  pub nth : IsNumber (first_of (codes "nth") rows) selection.nth
+  pub nth : IsNumber (number_given (first_of (codes "PATH") rows) (first_of (codes "nth") rows)) selection.nth
+  pub path : text_of selection.path ≡ first_of (codes "PATH") rows
   pub key : AreNamesOf named.Keys (first_of (codes "key") rows) (text_of selection.key)
   pub type_ : AreNamesOf named.Types (first_of (codes "type") rows) (text_of selection.type_)
   pub id : AreNamesOf named.Ids (first_of (codes "id") rows) (text_of selection.id)
@@ -165,11 +181,17 @@ pub record AreGiven (rows : List Row) (screen : Screen) (options : Options) : Ty
   pub selection : IsSelected rows options.selection
 
 -- the N of `--nth` is no number, or one that is too large
+abbrev pub IsNoNumber : Text → Type 0
+IsNoNumber text = ¬ (IsNumeral 10 (without_leading_plus text) × (digits_value 10 (without_leading_plus text) < 2 ^ 64))
+
 abbrev pub HasNoNumber : Option Text → Misuse → Type 0
-HasNoNumber given (Nth text) =
-    (given ≡ Some text.now)
-    × ¬ (IsNumeral 10 (without_leading_plus text.now) × (digits_value 10 (without_leading_plus text.now) < 2 ^ 64))
+HasNoNumber given (Nth text) = (given ≡ Some text.now) × IsNoNumber text.now
 HasNoNumber given _ = ⊥
+
+-- so is what stands at the front of a path
+abbrev pub HasNoPath : Option Text → Misuse → Type 0
+HasNoPath given (Path text) = (given ≡ Some text.now) × IsNoNumber (number_in text.now)
+HasNoPath given _ = ⊥
 
 -- the WHEN of `--color` is another word
 abbrev pub HasUnknownWhen : Option Text → Misuse → Type 0
@@ -185,7 +207,7 @@ HasUnknownName kind given _ = ⊥
 -- an option for parts of inputs has a value that is none of its own
 abbrev pub HasNoSelection : List Row → Misuse → Type 0
 HasNoSelection rows why =
-    HasNoNumber (first_of (codes "nth") rows) why ⊎ HasUnknownName named.Keys (first_of (codes "key") rows) why
+    (HasNoNumber (first_of (codes "nth") rows) why ⊎ HasNoPath (first_of (codes "PATH") rows) why) ⊎ HasUnknownName named.Keys (first_of (codes "key") rows) why
     ⊎ HasUnknownName named.Types (first_of (codes "type") rows) why ⊎ HasUnknownName named.Ids (first_of (codes "id") rows) why
 
 -- An option has a value that is none of its own. That of `--nth` doesn't come so far: clap refuses it itself, by its
@@ -201,12 +223,27 @@ reading_by is_lenient = if is_lenient then Lenient else Exact
 abbrev pub reading_in : List Row → Reading
 reading_in rows = reading_by (is_given (codes "lenient") rows)
 
--- what becomes of an input with a refused pod: it is refused, but where `--keep-refused` or `--keep-going` is given
-abbrev pub fate_by : (goes_on keeps : Bool) → Fate
-fate_by goes_on keeps = if keeps then GoesOn Kept else (if goes_on then GoesOn LeftOut else Stops)
+-- what becomes of an input with a refused pod: it is refused, but where `--keep-going`, `--keep-refused` or `--resync` is given
+abbrev pub IsFate : (resyncs keeps goes_on : Bool) → Fate → Type 0
+IsFate false false false fate = fate ≡ Stops
+IsFate false false true fate = fate ≡ GoesOn LeftOut
+IsFate false true goes_on fate = fate ≡ GoesOn Kept
+IsFate true false false fate = fate ≡ GoesOn Resynced
+IsFate true false true fate = ⊥
+IsFate true true goes_on fate = ⊥
 
-abbrev pub fate_in : List Row → Fate
-fate_in rows = fate_by (is_given (codes "keep-going") rows) (is_given (codes "keep-refused") rows)
+-- `--resync` excludes both others
+abbrev pub IsNoFate : (resyncs keeps goes_on : Bool) → Misuse → Type 0
+IsNoFate false keeps goes_on why = ⊥
+IsNoFate true false false why = ⊥
+IsNoFate true false true why = why ≡ misuse.WithResync LeftOut
+IsNoFate true true goes_on why = why ≡ misuse.WithResync Kept
+
+abbrev pub IsFateIn : List Row → Fate → Type 0
+IsFateIn rows = IsFate (is_given (codes "resync") rows) (is_given (codes "keep-refused") rows) (is_given (codes "keep-going") rows)
+
+abbrev pub HasNoFate : List Row → Misuse → Type 0
+HasNoFate rows = IsNoFate (is_given (codes "resync") rows) (is_given (codes "keep-refused") rows) (is_given (codes "keep-going") rows)
 
 -- pods are read so; where lines are shown of them, refused ones are shown, too
 abbrev pub HasMannerOf : Reading → Fate → Form → Manner → Type 0
@@ -287,6 +324,45 @@ abbrev pub ReadsAs : Texts → Word → Type 0
 ReadsAs texts (Make (Read its) manner) = its ≡ texts
 ReadsAs texts _ = ⊤
 
+-- an option is given that doesn't go with the `--pw-dump` of `json`
+abbrev pub excludes_dump : List Row → Bool
+excludes_dump rows =
+    is_given (codes "pretty") rows
+    || (is_given (codes "hex") rows || (is_given (codes "stream") rows || (is_some (first_of (codes "nth") rows)
+    || (is_some (first_of (codes "type") rows) || (is_some (first_of (codes "id") rows) || is_some (first_of (codes "key") rows))))))
+
+-- `json` prints as pw-dump does where that is asked for, and then no such option is given
+abbrev pub AsksForDump : List Row → (dumps : Bool) → Type 0
+AsksForDump rows true = (is_given (codes "pw-dump") rows ≡ true) × (excludes_dump rows ≡ false)
+AsksForDump rows false = is_given (codes "pw-dump") rows ≡ false
+
+abbrev pub ExcludesDump : List Row → Misuse → Type 0
+ExcludesDump rows why = (why ≡ misuse.WithDump) × (is_given (codes "pw-dump") rows ≡ true) × (excludes_dump rows ≡ true)
+
+-- whether a form is one of `json`
+abbrev pub IsOfJson : Form → Type 0
+IsOfJson Lines = ⊥
+IsOfJson LinesAndBytes = ⊥
+IsOfJson (form.Text layout) = ⊤
+IsOfJson Bytes = ⊤
+IsOfJson Pods = ⊥
+
+-- this holds of whether `json` prints as pw-dump does; other words don't
+abbrev pub HasDumpBy : (Bool → Type 0) → Word → Type 0
+HasDumpBy Dumps (Make (Making.Dump colours) manner) = Dumps true
+HasDumpBy Dumps (Make (Json style) manner) = Dumps false
+HasDumpBy Dumps (Stream (Streaming.Json style) manner) = Dumps false
+HasDumpBy Dumps (Print printing manner) = IsOfJson printing.printout.form → Dumps false
+HasDumpBy Dumps (Stream (Streaming.Print printing) manner) = IsOfJson printing.printout.form → Dumps false
+HasDumpBy Dumps _ = ⊤
+
+abbrev pub HasDump : List Row → Word → Type 0
+HasDump rows word = HasDumpBy (AsksForDump rows) word
+
+-- Only private clauses cite it.
+abbrev pub DumpsAs : (dumps : Bool) → Word → Type 0
+DumpsAs dumps word = HasDumpBy (λ its. dumps ≡ its) word
+
 -- objects are fixated, and with plain values in place of choices where `--settle` is given
 abbrev pub fixating : (settles : Bool) → OfMaking
 fixating settles = if settles then Settle else Fixate
@@ -315,31 +391,39 @@ pub record Asks (words : List (Bor (List ℕ))) (screen : Screen) (request : Req
   pub options : Options
   pub given : AreGiven rows screen options
   pub printout : HasPrintout options request.word
-  pub manner : HasManner (reading_in rows) (fate_in rows) request.word
+  pub fate : Fate
+  pub its_fate : IsFateIn rows fate
+  pub manner : HasManner (reading_in rows) fate request.word
   pub stream : HasStream (is_given (codes "stream") rows) request.word
   pub read_as : HasTexts rows request.word
+  pub dump : HasDump rows request.word
   pub settle : HasSettle (is_given (codes "settle") rows) request.word
   pub names : texts request.names.items ≡ names_in rows
   pub target : option_map (λ s. s.now) request.target ≡ first_of (codes "output") rows
 
+-- pods themselves are printed
+abbrev pub prints_pods : Printing → Bool
+prints_pods printing = is_pods printing.printout.form
+
 -- a word that writes pods, and no text
 abbrev pub makes_pods : OfMaking → Bool
 makes_pods (Json style) = false
+makes_pods (Making.Dump colours) = false
 makes_pods (Read texts) = true
 makes_pods Rewrite = true
 makes_pods Fixate = true
 makes_pods Settle = true
-makes_pods (Making.Print printing) = false
+makes_pods (Making.Print printing) = prints_pods printing
 makes_pods Check = false
 
 abbrev pub streams_pods : OfStreaming → Bool
 streams_pods (Streaming.Json style) = false
 streams_pods Streaming.Rewrite = true
-streams_pods (Streaming.Print printing) = false
+streams_pods (Streaming.Print printing) = prints_pods printing
 streams_pods Streaming.Check = false
 
 abbrev pub writes_pods : Word → Bool
-writes_pods (Print printing manner) = false
+writes_pods (Print printing manner) = prints_pods printing
 writes_pods (Make making manner) = makes_pods making
 writes_pods (Stream streaming manner) = streams_pods streaming
 writes_pods (Diff reading) = false
@@ -360,12 +444,12 @@ NamesNoWord words =
     (word : Word) (rows : List Row) → subcommand_of program (texts words) ≡ Some (name_of word, rows) → ⊥
 
 -- clap accepts the words, and they name no word of the program's, which clap never does, or an option has a value that is
--- none of its own, or options of `read` are wrong
+-- none of its own, options of `read` are wrong, options for refused pods exclude each other, or one of `json` excludes another
 pub record AsksNothing (words : List (Bor (List ℕ))) (why : Misuse) : Type 0 where
   pub accepted : fault_of program (texts words) ≡ []
   pub nothing : ((why ≡ NoWord) × NamesNoWord words)
       ⊎ ((name : Text) × (rows : List Row) × (subcommand_of program (texts words) ≡ Some (name, rows))
-      × (HasUnknownValue rows why ⊎ HasNoTexts rows why))
+      × (HasUnknownValue rows why ⊎ HasNoTexts rows why ⊎ HasNoFate rows why ⊎ ExcludesDump rows why))
 
 -- All of each input is printed as JSON. Only private clauses cite it.
 abbrev pub IsAllAsJson : Style → Manner → (streams : Bool) → Word → Type 0

@@ -9,7 +9,7 @@ use Rattle.spa_format.specs.Tree.{Trees}
 use Rattle.spa_recordings.specs.Rewritings.{RewritesAll}
 use Rattle.spa_recordings.specs.Streaming.{EndsAtPod, MakesFirst}
 use Rattle.spa_recordings.specs.Blocks.{AreWhole}
-use Rattle.spa_recordings.specs.GoingOn.{GoesOn}
+use Rattle.spa_recordings.specs.GoingOn.{EndsBySize, GoesOn}
 use Rattle.spa_recordings.specs.declared.going_on.Refused.{Refused}
 use Rattle.spa_recordings.specs.declared.going_on.RefusedPod.{RefusedPod}
 use Rattle.spa_recordings.specs.declared.reading.Reading.{Reading}
@@ -21,7 +21,7 @@ use Rattle.pod_commands.specs.Colours.{PrintsIn, ShowsIn}
 use Rattle.pod_commands.specs.Inputs.{StopsAt}
 use Rattle.spa_refusals.specs.declared.several.NamedRefusal.{NamedRefusal}
 use Rattle.pod_commands.specs.Making.{Makes}
-use Rattle.pod_commands.specs.Working.{WorksOnAll}
+use Rattle.pod_commands.specs.Working.{WorksOn}
 use Rattle.pod_commands.specs.declared.request.Making.{Making}
 use Rattle.pod_commands.specs.declared.request.Making.TheVariants as making
 use Rattle.pod_commands.specs.declared.answer.Failure.{Failure}
@@ -88,7 +88,7 @@ pub record MakesFirstInPart (reading : Reading) (refused : Refused) (making : Ma
   pub parts : input ≡ first ++ left
   pub whole : AreWhole first ⊎ (left ≡ [])
   pub pods : List RefusedPod
-  pub made : GoesOn name reading refused (Makes making) 0 first out pods
+  pub made : GoesOn name reading refused (Makes making) 0 0 first out pods
 
 -- why the work on an input of this name ends before that does, and what was made of it till then
 abbrev pub EndsInPart : Reading → Refused → Making → (name input out : List ℕ) → Failure → Type 0
@@ -99,7 +99,7 @@ EndsInPart reading refused making name input out _ = ⊥
 
 -- all of an input was worked on
 abbrev pub MakesInPart : Reading → Refused → Making → (input out : List ℕ) → Type 0
-MakesInPart reading refused making input out = (name : List ℕ) × (pods : List RefusedPod) × GoesOn name reading refused (Makes making) 0 input out pods
+MakesInPart reading refused making input out = (name : List ℕ) × (pods : List RefusedPod) × GoesOn name reading refused (Makes making) 0 0 input out pods
 
 -- why the work on several inputs ends in one of them, and what was written: what was made of those before it, and of its first pods
 abbrev pub IsBrokenInPart : Reading → Refused → Making → (remaining : Option (List ℕ)) → (holds : List ℕ → Option (List ℕ)) → List (Bor (List ℕ)) →
@@ -136,6 +136,7 @@ IsFailureOf name (stop.Pod number place read) why = IsRefusedAs name.now number 
 -- what is made of pods is what is made of each
 abbrev pub IsMadeOfEach : Making → Type 0
 IsMadeOfEach (making.Json style) = ⊤
+IsMadeOfEach (making.Dump colours) = ⊥
 IsMadeOfEach (making.Read strictness) = ⊥
 IsMadeOfEach making.Rewrite = ⊤
 IsMadeOfEach making.Fixate = ⊥
@@ -143,13 +144,17 @@ IsMadeOfEach making.Settle = ⊥
 IsMadeOfEach (making.Print printing) = ⊥
 IsMadeOfEach making.Check = ⊤
 
+-- and what is made of blocks is what is made of all, where refused pods end by their size words
+abbrev pub IsMadeInBlocks : Refused → Making → Type 0
+IsMadeInBlocks refused making = IsMadeOfEach making × EndsBySize refused
+
 -- what is made of an input of this name was written, and what is said of its refused pods was added
 pub record PassesOver (reading : Reading) (refused : Refused) (making : Making) (name : List ℕ) (content old new : Option (List ℕ))
     (olds news : List NamedRefusal) : Type 0 where
   pub input : List ℕ
   pub its : IsAllOf content input
   pub out : List ℕ
-  pub works : WorksOnAll reading refused making name input out olds news
+  pub works : WorksOn reading refused making name 0 0 input out olds news
   pub written : Appends old new out
 
 -- why the work on it ends before that does, and what was written of it

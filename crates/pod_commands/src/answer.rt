@@ -7,6 +7,7 @@ ghost use Rattle.pod_commands.specs.Misuses.{misuse_line};
 use crate::misuse::Misuse;
 use crate::plain::Plain;
 use clap::Error;
+use spa_recordings::going_on::Gap;
 use spa_refusals::{NamedRefusal, Refusal};
 use spa_text_commands::selection::Selection;
 use std::alloc::AllocError;
@@ -135,6 +136,30 @@ impl fmt::Display for Objects<'_> {
     }
 }
 
+/// What is said of bytes that are left out.
+#[derive(Clone, Copy)]
+struct LeftOut(Option<Gap>);
+
+impl fmt::Display for LeftOut {
+    ghost use Rattle.std.specs.Prelude.{Some};
+    ghost use Rattle.pod_commands.specs.Answers.{left_out_text};
+
+    ghost output = { λ it. Some (left_out_text it.0) };
+
+    fn fmt<W: fmt::Write>(&self, f: &mut fmt::Formatter<W>) -> fmt::Result {
+        match self.0 {
+            Some(gap) => {
+                write!(
+                    f,
+                    "; {} bytes are left out, up to byte {}",
+                    gap.len, gap.end
+                )
+            }
+            None => Ok(()),
+        }
+    }
+}
+
 impl fmt::Display for Failure<'_> {
     ghost use Rattle.std.specs.Prelude.{Some};
     ghost use Rattle.pod_commands.specs.Answers.{failure_text};
@@ -215,13 +240,26 @@ fn report_count<E: Write>(faults: &mut E, count: usize) -> io::Result<()>
 pub fn report_missing<E: Write>(faults: &mut E, selection: Selection<'_>) -> io::Result<()>
     ensures written { OnOk result (Appends (E.contents faults.old) (E.contents faults.new) (missing_line selection.entry)) }
 {
-    match selection.key {
-        Some(key) => report_no_value(faults, key, selection.type_, selection.id),
+    match selection.path {
+        Some(path) => writeln!(faults, "pod: no pod stands at {}", Plain(path)),
+        None => report_none_of(faults, selection.key, selection.type_, selection.id),
+    }
+}
+
+/// Writes the line that says that no object has this type and this id, or no value this key in such objects, of those that are given.
+fn report_none_of<E: Write>(
+    faults: &mut E,
+    key: Option<&str>,
+    type_: Option<&str>,
+    id: Option<&str>,
+) -> io::Result<()>
+    ensures written { OnOk result (Appends (E.contents faults.old) (E.contents faults.new)
+        (codes "pod: no " ++ (missing_text key.entry type_.entry id.entry ++ 10 ∷ []))) }
+{
+    match key {
+        Some(key) => report_no_value(faults, key, type_, id),
         None => {
-            let objects = Objects {
-                type_: selection.type_,
-                id: selection.id,
-            };
+            let objects = Objects { type_, id };
             writeln!(faults, "pod: no object has {objects}")
         }
     }
@@ -270,7 +308,8 @@ fn report_no_value_in<E: Write>(faults: &mut E, key: &str, objects: Objects<'_>)
 fn report_pod<E: Write>(faults: &mut E, pod: &NamedRefusal<'_>) -> io::Result<()>
     ensures written { OnOk result (Appends (E.contents faults.old) (E.contents faults.new) (line_of_pod pod.now)) }
 {
-    writeln!(faults, "pod: {}: {}", Name(pod.name), pod.refusal)
+    let left_out = LeftOut(pod.left_out);
+    writeln!(faults, "pod: {}: {}{left_out}", Name(pod.name), pod.refusal)
 }
 
 /// Writes the line of a wrong command line.

@@ -5,6 +5,7 @@ ghost use Rattle.std.specs.List.{list_all};
 ghost use Rattle.pod_commands.specs.Colours as spec;
 ghost use Rattle.pod_commands.specs.Colours.{InColours, IsColoured, piece_in, start_of};
 
+use spa_text_commands::selection::Form;
 use std::alloc::{AllocError, Global};
 
 /// Whether texts are coloured.
@@ -57,6 +58,17 @@ pub(crate) fn in_colours(
     match colours {
         Colours::Off => Ok(text),
         Colours::On => coloured(alloc, text.as_slice()),
+    }
+}
+
+/// The colours of what is printed in this form: pods themselves have none.
+pub(crate) fn colours_of(form: Form, colours: Colours) -> Colours
+    ensures { result ≡ spec.colours_of form colours }
+{
+    if form.is_pods() {
+        Colours::Off
+    } else {
+        colours
     }
 }
 

@@ -12,13 +12,13 @@ use std::alloc::{AllocError, Global};
 const VERSION: &str = "0.2.0";
 
 const ABOUT: &str =
-    "Shows, prints, reads, rewrites, fixates, checks and compares pods of PipeWire, and finds what two objects agree on";
+    "Shows, prints, cuts out, reads, rewrites, fixates, checks and compares pods of PipeWire, and finds what two objects agree on";
 
 /// What stands behind the help of the program.
 const EXAMPLES: &str =
-    "Without a FILE, or where FILE is -, the standard input is read. show, --stream, --nth, --type, --id, --key and --hex write as input is read, unless --lenient is given. Other output is written once all input is accepted, or with --keep-going and --keep-refused once it is read.
+    "Without a FILE, or where FILE is -, the standard input is read. show, --stream, --nth, --type, --id, --key and --hex write as input is read, unless --lenient is given. Other output is written once all input is accepted, or with --keep-going, --keep-refused and --resync once it is read.
 
-Status: 0 the work is done; 1 a pod is refused, two inputs differ, nothing has the type, id or key that is looked for, or something can't be read or written; 2 the command line is wrong.
+Status: 0 the work is done; 1 a pod is refused, two inputs differ, nothing has the type, id, key or path that is looked for, or something can't be read or written; 2 the command line is wrong.
 
 Example: cat props.pod route.pod | pod rewrite -o clean.pod
 
@@ -130,11 +130,17 @@ fn over_pods<'a>(alloc: Global, command: Command<'a>) -> Result<Command<'a>, All
     ensures local { IfOk result (λ it. (out-Command it).has_globals ≡ false) }
 {
     let with_lenient = reading_pods(alloc, command)?;
-    with_flag(
+    let going_on = with_flag(
         alloc,
         with_lenient,
         "keep-going",
         "Leaves refused pods out and names each of them on standard error; the status is 1 then",
+    )?;
+    with_flag(
+        alloc,
+        going_on,
+        "resync",
+        "Leaves refused pods out and, where one's size word may be wrong, all up to where the next pod plausibly begins; says what is left out, and the status is 1 then",
     )
 }
 
@@ -254,7 +260,7 @@ fn fixate<'a>(alloc: Global) -> Result<Command<'a>, AllocError>
     let plain = to_pods(
         alloc,
         "fixate",
-        "Sets each choice in a top-level object to its default, unless its property is marked not to be fixated",
+        "Sets each choice in a top-level object, as get cuts one out, to its default, unless its property is marked not to be fixated",
         "Example: pod fixate buffers.pod -o fixed.pod",
     )?;
     with_flag(
@@ -291,9 +297,47 @@ fn json<'a>(alloc: Global) -> Result<Command<'a>, AllocError>
         "Example: pod json --key rate formats.pods",
     )?;
     let plain = over_pods(alloc, bare)?;
-    let with_pretty = plain.arg(flag(alloc, "pretty", "Indents the JSON"))?;
-    let with_parts = with_parts(alloc, with_pretty)?;
+    let with_layouts = with_layouts(alloc, plain)?;
+    let with_parts = with_parts(alloc, with_layouts)?;
     with_parts.arg(stream(alloc))
+}
+
+/// A word that prints texts, which may be indented, or as `pw-dump` prints objects.
+fn with_layouts<'a>(alloc: Global, command: Command<'a>) -> Result<Command<'a>, AllocError>
+    requires { (out-Command command).has_globals ≡ false }
+    ensures app { IfOk result (λ it. app_of it ≡ spec.with_layouts (app_of command.entry)) }
+    ensures local { IfOk result (λ it. (out-Command it).has_globals ≡ false) }
+{
+    let with_pretty = with_flag(alloc, command, "pretty", "Indents the JSON")?;
+    with_flag(
+        alloc,
+        with_pretty,
+        "pw-dump",
+        "Prints each object as pw-dump prints one of params, for read --pw-dump; a pod for which that has no form is refused",
+    )
+}
+
+/// `PATH`
+fn path<'a>(alloc: Global) -> Arg<'a>
+    ensures rule { rule_of result ≡ spec.path }
+    ensures local { result.global ≡ false }
+{
+    Arg::new(alloc, "PATH").required(true).help(
+        "The path to a pod as show and json print it, such as '3[2].rate'; 3 is the third pod itself",
+    )
+}
+
+/// The word `get`.
+fn get<'a>(alloc: Global) -> Result<Command<'a>, AllocError>
+    ensures app { IfOk result (λ it. app_of it ≡ spec.get) }
+    ensures local { IfOk result (λ it. (out-Command it).has_globals ≡ false) }
+{
+    let bare = Command::new(alloc, "get")
+        .about("Writes the bytes of the pod at a path, also of a refused one; the status is 1 then")
+        .after_help("Example: pod get '3[9][2]' recording.pods | pod fixate | pod json");
+    let with_path = bare.arg(path(alloc))?;
+    let with_all = with_path.arg(files(alloc))?;
+    with_all.arg(output(alloc))
 }
 
 /// The word `read`.
@@ -391,8 +435,10 @@ fn with_json<'a>(alloc: Global, command: Command<'a>) -> Result<Command<'a>, All
 {
     let one = json(alloc)?;
     let first = command.subcommand(one)?;
-    let two = read(alloc)?;
-    first.subcommand(two)
+    let two = get(alloc)?;
+    let second = first.subcommand(two)?;
+    let three = read(alloc)?;
+    second.subcommand(three)
 }
 
 fn with_writers<'a>(alloc: Global, command: Command<'a>) -> Result<Command<'a>, AllocError>
@@ -420,14 +466,14 @@ fn with_pairs<'a>(alloc: Global, command: Command<'a>) -> Result<Command<'a>, Al
         alloc,
         first,
         "meet",
-        "Negotiates: writes the object on which two top-level objects agree, those of one FILE or the first pair of two FILEs that does",
+        "Negotiates: writes the object on which two top-level objects agree, as get cuts them out, those of one FILE or the first pair of two FILEs that does",
         "Example: pod meet ours.pods theirs.pods | pod show",
     )?;
     with_pair(
         alloc,
         second,
         "filter",
-        "Filters: writes the object of the values that two top-level objects share, those of one FILE or the first pair of two FILEs that does",
+        "Filters: writes the object of the values that two top-level objects share, as get cuts them out, those of one FILE or the first pair of two FILEs that does",
         "Example: pod filter ours.pods theirs.pods | pod fixate",
     )
 }

@@ -19,3 +19,4 @@ pub mod screen;
 mod sending;
 mod streaming;
 mod suggesting;
+mod texts;

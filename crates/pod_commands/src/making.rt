@@ -1,9 +1,9 @@
 //! What is made of each input.
 ghost use Rattle.std.specs.Prelude.{◌≡◌, ◌+◌, ◌<◌, ◌^◌, ◌++◌, IfErr, IfOk, OnOk, length};
-ghost use Rattle.pod_commands.specs.Answers.{AreUnmade, IsUnread};
-ghost use Rattle.pod_commands.specs.Colours.{PrintsIn, ShowsIn};
+ghost use Rattle.pod_commands.specs.Answers.{AreUnmade, IsUnworked};
+ghost use Rattle.pod_commands.specs.Colours.{DumpsIn, PrintsIn, ShowsIn};
 ghost use Rattle.pod_commands.specs.Inputs.{AreMade};
-ghost use Rattle.pod_commands.specs.Making.{AreNoPods, AreNoTexts, AreUnread, IsNoHexadecimal, Makes, MakesAll, Reads, RefusesBy, RefusesIn};
+ghost use Rattle.pod_commands.specs.Making.{AreNoDumps, AreNoPods, AreNoTexts, AreUnread, IsNoHexadecimal, Makes, MakesAll, Reads, RefusesBy, RefusesIn};
 ghost use Rattle.pod_commands.specs.Working.{AreWorked, WorksOn};
 ghost use Rattle.spa_meet_commands.specs.Settling.{SettlesAll};
 ghost use Rattle.spa_pod_commands.specs.Answers.{Fixates, Rewrites};
@@ -13,10 +13,10 @@ ghost use Rattle.spa_text_commands.specs.Texts.{ReadsTexts};
 ghost use Rattle.spa_recordings.specs.declared.reading.Reading as Reading;
 
 use crate::answer::Failure;
-use crate::colours::in_colours;
+use crate::colours::{Colours, colours_of, in_colours};
 use crate::files::{Files, read_named};
 use crate::reading::read_leniently;
-use crate::refusing::refused;
+use crate::refusing::{formless, refused, unmade};
 use crate::request::{Making, Printing, Style, Texts};
 use crate::streaming::check_all;
 use spa_in_place::rewrite_in_place;
@@ -27,6 +27,7 @@ use spa_recordings::reading::Reading;
 use spa_refusals::{NamedRefusal, add_refusals};
 use spa_text_commands::answer::Failure as TextFailure;
 use spa_text_commands::hexadecimal::read_hexadecimal;
+use spa_text_commands::params::{Unprinted, print_params};
 use spa_text_commands::printing::print_all;
 use spa_text_commands::reading::read_all;
 use spa_text_commands::showing::show_pods;
@@ -95,10 +96,9 @@ fn make_leniently<'a>(
         Ok(pods) => pods,
         Err(why) => return Err(why),
     };
-    // What was read is refused for lack of memory alone.
     match make(alloc, making, name, pods) {
         Ok(made) => Ok(made),
-        Err(_) => Err(Failure::OutOfMemory),
+        Err(_) => Err(unmade(alloc, making, Reading::Lenient, name, bytes.as_slice())),
     }
 }
 
@@ -114,6 +114,7 @@ fn make<'a>(
 {
     match making {
         Making::Json(style) => print(alloc, style, name, bytes.as_slice()),
+        Making::Dump(colours) => dump(alloc, colours, name, bytes.as_slice()),
         Making::Read(texts) => read(alloc, texts, name, bytes.as_slice()),
         Making::Rewrite => rewrite(alloc, name, bytes),
         Making::Fixate => fixate(alloc, name, bytes),
@@ -190,6 +191,29 @@ fn print<'a>(
     }
 }
 
+/// What `pw-dump` prints of the pods that these bytes consist of, in colours if it is to have them.
+#[tactic(auto, using(crate::proofs::Coloured::dumped_in))]
+fn dump<'a>(
+    alloc: Global,
+    colours: Colours,
+    name: &'a str,
+    bytes: &[u8],
+) -> Result<Vec<u8>, Failure<'a>>
+    ensures made { IfOk result (λ out. DumpsIn colours bytes.now out.items) }
+    ensures refused { IfErr result (AreNoDumps name.entry.now bytes.now) }
+{
+    let lines = match print_params(alloc, bytes) {
+        Ok(lines) => lines,
+        Err(Unprinted::NoForm) => return Err(formless(alloc, Reading::Exact, name, bytes)),
+        Err(Unprinted::NoPods) => return Err(refused(alloc, Reading::Exact, name, bytes)),
+        Err(Unprinted::OutOfMemory) => return Err(Failure::OutOfMemory),
+    };
+    match in_colours(alloc, colours, lines) {
+        Ok(out) => Ok(out),
+        Err(_) => Err(Failure::OutOfMemory),
+    }
+}
+
 /// What is printed of the pods that these bytes consist of, where none of those that are printed is refused.
 #[tactic(auto, using(crate::proofs::Coloured::parts_in))]
 fn print_parts<'a>(
@@ -207,7 +231,8 @@ fn print_parts<'a>(
     if printed.refused != 0 {
         return Err(refused(alloc, Reading::Exact, name, bytes));
     }
-    match in_colours(alloc, printing.colours, printed.bytes) {
+    let colours = colours_of(printing.printout.form, printing.colours);
+    match in_colours(alloc, colours, printed.bytes) {
         Ok(out) => Ok(out),
         Err(_) => Err(Failure::OutOfMemory),
     }
@@ -296,22 +321,16 @@ pub(crate) fn make_what_is_read<'a, R: Read, S: Files>(
 ) -> Result<Worked<'a>, Failure<'a>>
     ensures made { IfOk result (λ worked. AreWorked manner.reading manner.refused making.entry
         (R.remaining input.old) (S.holds files.now) names.now worked.out.items worked.refused.items) }
-    ensures refused { IfErr result IsUnread }
+    ensures refused { IfErr result (IsUnworked making.entry) }
 {
     let mut out = Vec::new(alloc);
     let mut refused = Vec::new(alloc);
     for name in names {
         let bytes = read_named(alloc, *name, input, files)?;
-        let made = work_on(
-            alloc,
-            making,
-            manner,
-            *name,
-            0,
-            0,
-            bytes.as_slice(),
-            &mut refused,
-        )?;
+        let bytes = bytes.as_slice();
+        let Ok(made) = work_on(alloc, making, manner, *name, 0, 0, bytes, &mut refused) else {
+            return Err(unmade(alloc, making, manner.reading, *name, bytes));
+        };
         add(&mut out, made)?;
     }
     Ok(Worked { out, refused })
@@ -337,8 +356,14 @@ pub(crate) fn work_on<'a>(
         out: Vec::new(alloc),
         refused: Vec::new(alloc),
     };
-    make_each(alloc, &making, manner, name, place, part, &mut made)?;
-    let pods = made.refused.as_slice();
-    add_refusals(alloc, manner.reading, count, place, part, pods, said)?;
+    make_each(alloc, &making, manner, name, count, place, part, &mut made)?;
+    add_refusals(
+        alloc,
+        manner.reading,
+        place,
+        part,
+        made.refused.as_slice(),
+        said,
+    )?;
     Ok(made.out)
 }

@@ -14,6 +14,8 @@ pub enum Excluded {
     Lenient,
     /// `-o`
     Output,
+    /// `--resync`
+    Resync,
 }
 
 /// What is wrong with the options of `read`.
@@ -40,6 +42,8 @@ pub enum Misuse<'a> {
     NoWord,
     /// The value of `--nth` is no number, which `clap` refuses itself.
     Nth(&'a str),
+    /// No number stands at the front of this path.
+    Path(&'a str),
     /// The value of `--color` isn't `auto`, `always` or `never`.
     Color(&'a str),
     /// The value of `--type`, `--id` or `--key` names none of these, nor has one such a number, and nearly this name is one's.
@@ -54,6 +58,10 @@ pub enum Misuse<'a> {
     WithStream(Excluded),
     /// `--nth`, `--type`, `--id`, `--key` and `--hex` exclude the option by which this becomes of refused pods.
     WithPart(Refused),
+    /// `--resync` excludes the option by which this becomes of refused pods.
+    WithResync(Refused),
+    /// `json` is given `--pw-dump`, and an option that goes by other texts, parts of inputs or blocks.
+    WithDump,
     /// Options of `read` are wrong, for this reason.
     Read(OfRead<'a>),
 }
@@ -68,6 +76,7 @@ impl fmt::Display for Excluded {
         match self {
             Excluded::Lenient => f.write_str("--lenient"),
             Excluded::Output => f.write_str("--output"),
+            Excluded::Resync => f.write_str("--resync"),
         }
     }
 }
@@ -80,6 +89,7 @@ fn stream_reason(excluded: Excluded) -> &'static str
         Excluded::Lenient =>
             "an input is held whole for that, but by rewrite and json with --keep-going",
         Excluded::Output => "it writes as input comes, and a file is written at the end",
+        Excluded::Resync => "an input is held whole to find where the next pod begins",
     }
 }
 
@@ -101,6 +111,7 @@ fn option_of(refused: Refused) -> &'static str
     match refused {
         Refused::LeftOut => "--keep-going",
         Refused::Kept => "--keep-refused",
+        Refused::Resynced => "--resync",
     }
 }
 
@@ -157,6 +168,40 @@ impl fmt::Display for OfRead<'_> {
     }
 }
 
+/// Two options that exclude each other. Of another misuse it prints nothing.
+#[derive(Clone, Copy)]
+struct Conflict<'a>(Misuse<'a>);
+
+impl fmt::Display for Conflict<'_> {
+    ghost use Rattle.std.specs.Prelude.{Some};
+    ghost use Rattle.pod_commands.specs.Misuses.{conflict_text};
+
+    ghost output = { λ conflict. Some (conflict_text conflict.0) };
+
+    fn fmt<W: fmt::Write>(&self, f: &mut fmt::Formatter<W>) -> fmt::Result {
+        match self.0 {
+            Misuse::WithStream(other) => {
+                let why = stream_reason(other);
+                write!(f, "--stream can't be used with {other}: {why}")
+            }
+            Misuse::WithResync(refused) => write!(
+                f,
+                "--resync can't be used with {}: that goes on where a refused pod's size word says",
+                option_of(refused)
+            ),
+            Misuse::WithDump => f.write_str(
+                "--pretty, --hex, --nth, --type, --id, --key and --stream can't be used with json --pw-dump: it prints each pod of whole inputs on a line",
+            ),
+            Misuse::WithPart(refused) => write!(
+                f,
+                "--nth, --type, --id, --key and --hex can't be used with {}: they count refused pods, too; 'pod rewrite --keep-going' leaves these out",
+                option_of(refused)
+            ),
+            _ => Ok(()),
+        }
+    }
+}
+
 impl fmt::Display for Misuse<'_> {
     ghost use Rattle.std.specs.Prelude.{Some};
     ghost use Rattle.pod_commands.specs.Misuses.{misuse_text};
@@ -169,12 +214,16 @@ impl fmt::Display for Misuse<'_> {
             Misuse::Nth(value) => {
                 write!(f, "--nth takes a number from 1 on, not '{}'", Plain(*value))
             }
-            Misuse::Color(value) => {
+            Misuse::Path(path) => {
                 write!(
                     f,
-                    "--color takes auto, always or never, not '{}'",
-                    Plain(*value)
+                    "PATH begins with the number of a pod, such as 3 or '3[2].rate', not '{}'",
+                    Plain(*path)
                 )
+            }
+            Misuse::Color(value) => {
+                let value = Plain(*value);
+                write!(f, "--color takes auto, always or never, not '{value}'")
             }
             Misuse::Name(named, value, similar) => {
                 let word = word_of(*named);
@@ -193,15 +242,10 @@ impl fmt::Display for Misuse<'_> {
             Misuse::ToTerminal => f.write_str(
                 "pods are bytes, and the standard output is a terminal: -o FILE writes a file, -o - writes there all the same",
             ),
-            Misuse::WithStream(other) => {
-                let why = stream_reason(*other);
-                write!(f, "--stream can't be used with {other}: {why}")
-            }
-            Misuse::WithPart(refused) => write!(
-                f,
-                "--nth, --type, --id, --key and --hex can't be used with {}: they count refused pods, too; 'pod rewrite --keep-going' leaves these out",
-                option_of(*refused)
-            ),
+            Misuse::WithStream(_)
+            | Misuse::WithResync(_)
+            | Misuse::WithDump
+            | Misuse::WithPart(_) => write!(f, "{}", Conflict(*self)),
         }
     }
 }

@@ -2,7 +2,7 @@
 ghost use Rattle.std.specs.Prelude.{◌≡◌, ◌+◌, ◌<◌, ◌^◌, ℕ, IfErr, IfOk, List};
 ghost use Rattle.std.specs.Io.KnownBytes.{Appends};
 ghost use Rattle.pod_commands.specs.Inputs.{IsKnown, content_of, left_behind};
-ghost use Rattle.pod_commands.specs.Streaming.{IsBrokenInPart, IsBrokenInPartAt, IsMadeOfEach, PassesOver};
+ghost use Rattle.pod_commands.specs.Streaming.{IsBrokenInPart, IsBrokenInPartAt, IsMadeInBlocks, PassesOver};
 ghost use Rattle.pod_commands.specs.Working.{AreWorked};
 
 use crate::answer::Failure;
@@ -27,7 +27,7 @@ pub(crate) fn pass_all<'a, R: Read, S: Files, W: Write>(
     files: &S,
     output: &mut W,
 ) -> Result<Vec<NamedRefusal<'a>>, Failure<'a>>
-    requires { IsMadeOfEach making }
+    requires { IsMadeInBlocks manner.refused making }
     ensures passed { IfOk result (λ said. (out : List ℕ)
         × AreWorked manner.reading manner.refused making.entry (R.remaining input.old) (S.holds files.now) names.now out said.items
         × Appends (W.contents output.old) (W.contents output.new) out) }
@@ -55,7 +55,7 @@ fn pass_named<'a, R: Read, S: Files, W: Write>(
     output: &mut W,
     said: Vec<NamedRefusal<'a>>,
 ) -> Result<Vec<NamedRefusal<'a>>, Failure<'a>>
-    requires { IsMadeOfEach making }
+    requires { IsMadeInBlocks manner.refused making }
     ensures passed { IfOk result (λ more. PassesOver manner.reading manner.refused making.entry name.entry.now
         (content_of (R.remaining input.old) (S.holds files.now) name.entry.now)
         (W.contents output.old) (W.contents output.new) said.entry.items more.items) }
@@ -80,7 +80,7 @@ fn pass_file<'a, S: Files, W: Write>(
     output: &mut W,
     said: Vec<NamedRefusal<'a>>,
 ) -> Result<Vec<NamedRefusal<'a>>, Failure<'a>>
-    requires { IsMadeOfEach making }
+    requires { IsMadeInBlocks manner.refused making }
     ensures passed { IfOk result (λ more. PassesOver manner.reading manner.refused making.entry name.entry.now
         (S.holds files.now name.entry.now)
         (W.contents output.old) (W.contents output.new) said.entry.items more.items) }
@@ -104,7 +104,7 @@ fn pass_reader<'a, R: Read, W: Write>(
     output: &mut W,
     said: Vec<NamedRefusal<'a>>,
 ) -> Result<Vec<NamedRefusal<'a>>, Failure<'a>>
-    requires { IsMadeOfEach making }
+    requires { IsMadeInBlocks manner.refused making }
     ensures passed { IfOk result (λ more. PassesOver manner.reading manner.refused making.entry name.entry.now
         (R.remaining input.old)
         (W.contents output.old) (W.contents output.new) said.entry.items more.items) }

@@ -1,12 +1,14 @@
 //! What the program's words ask for.
-ghost use Rattle.std.specs.Prelude.{◌≡◌, codes, Bool, false, true, IfErr, IfNone, IfOk, IfSome, option_map};
+ghost use Rattle.std.specs.Prelude.{◌≡◌, ◌⊎◌, codes, Bool, false, true, IfErr, IfNone, IfOk, IfSome, option_map, is_some, ◌==◌};
+ghost use Rattle.std.specs.List.{before_first};
 ghost use Rattle.pod_commands.specs.Requests as spec;
 ghost use Rattle.clap.specs.Faults.{fault_of};
 ghost use Rattle.clap.specs.Kinds.{HasKind};
 ghost use Rattle.clap.specs.Walk.{rows_of, texts};
+ghost use Rattle.clap.specs.Words.{first_of};
 ghost use Rattle.clap.specs.Matches.{found_of};
 ghost use Rattle.pod_commands.specs.Program.{program};
-ghost use Rattle.pod_commands.specs.Requests.{AreColours, AreGiven, HasNoSelection, HasUnknownValue, Asks, AsksNothing, HasManner, HasNoNumber, HasPrintout, HasSettle, HasStream, HasNoTexts, HasUnknownName, HasUnknownWhen, IsAllAsJson, AreNamesOf, IsNumber, IsSelected, ReadsAs, AreNoParams, AreParams, AreRead, AreTextsIn, AreUnread, fate_in, is_given, is_true_text, layout_in, name_of, names_in, reading_in};
+ghost use Rattle.pod_commands.specs.Requests.{AreColours, AreGiven, HasNoSelection, HasUnknownValue, Asks, AsksNothing, HasManner, HasNoFate, HasNoNumber, HasPrintout, HasSettle, HasStream, HasUnknownName, HasUnknownWhen, IsAllAsJson, IsFate, IsFateIn, IsNoFate, AreNamesOf, IsNumber, IsSelected, ReadsAs, is_given, is_true_text, layout_in, name_of, names_in, reading_in, HasNoPath, AsksForDump, DumpsAs, ExcludesDump};
 ghost use Rattle.pod_commands.specs.declared.request.Word.{Word};
 ghost use Rattle.pod_commands.specs.declared.request.Fate.{Fate as FateOf};
 ghost use Rattle.pod_commands.specs.declared.request.Options.{Options as OptionsOf};
@@ -14,20 +16,18 @@ ghost use Rattle.pod_commands.specs.declared.request.Texts.{Texts as TextsOf};
 
 use crate::colours::Colours;
 use crate::command::program;
-use crate::misuse::{Misuse, OfRead};
+use crate::misuse::Misuse;
 use crate::screen::Screen;
 use crate::suggesting::similar_name;
+use crate::texts::texts_for;
 use clap::{ArgMatches, Error};
 use spa_meet_commands::pair::Work;
-use spa_names::Table;
 use spa_recordings::going_on::Refused;
 use spa_recordings::reading::Reading;
 use spa_text_commands::naming::{Named, are_names};
 use spa_text_commands::printing::Layout;
 use spa_text_commands::selection::{Form, Printout, Selection};
-use spa_text_forms::key_number;
 use spa_text_read::Strictness;
-use spa_text_read::names::ids_of;
 use std::alloc::{AllocError, Global};
 
 /// How texts are printed.
@@ -60,6 +60,8 @@ pub enum Texts {
 pub enum Making<'a> {
     /// The texts of its pods, as JSON in this style.
     Json(Style),
+    /// What `pw-dump` prints of its pods, in colours or without.
+    Dump(Colours),
     /// The pods of its texts, which are read so, or the bytes that they have in hexadecimal.
     Read(Texts),
     /// The rewritings of its pods.
@@ -154,13 +156,22 @@ pub(crate) fn request_of<'a>(
         Ok(read_as) => read_as,
         Err(wrong) => return Ok(Err(wrong)),
     };
+    let manner = match manner_of(given) {
+        Ok(manner) => manner,
+        Err(two) => return Ok(Err(two)),
+    };
+    let dumps = match dump_for(name, given) {
+        Ok(dumps) => dumps,
+        Err(excluded) => return Ok(Err(excluded)),
+    };
     let Some(word) = word_of(
         name,
         options,
-        manner_of(given),
+        manner,
         is_set(given, "stream"),
         read_as,
         is_set(given, "settle"),
+        dumps,
     ) else {
         return Ok(Err(Misuse::NoWord));
     };
@@ -180,6 +191,7 @@ fn word_of<'a>(
     streams: bool,
     read_as: Texts,
     settles: bool,
+    dumps: bool,
 ) -> Option<Word<'a>>
     ensures word { IfSome result (λ word. name.now ≡ name_of word) }
     ensures printout { IfSome result (HasPrintout options.entry) }
@@ -187,11 +199,13 @@ fn word_of<'a>(
     ensures stream { IfSome result (HasStream streams) }
     ensures texts { IfSome result (ReadsAs read_as) }
     ensures settle { IfSome result (HasSettle settles) }
+    ensures dump { IfSome result (DumpsAs dumps) }
     ensures none { IfNone result ((word : Word) → ¬ (name.now ≡ name_of word)) }
 {
     match name {
+        "get" => Some(cut_out(options, manner, streams)),
         "show" => Some(shown(options, manner.reading, streams)),
-        "json" => Some(as_json(options, manner, streams)),
+        "json" => Some(json_or_dump(options, manner, streams, dumps)),
         "read" => Some(Word::Make(Making::Read(read_as), PLAIN)),
         "rewrite" => Some(rewriting(manner, streams)),
         "fixate" => Some(Word::Make(fixating(settles), manner)),
@@ -273,7 +287,8 @@ fn selection_of<'a>(given: &ArgMatches<'a>) -> Result<Selection<'a>, Misuse<'a>>
     ensures given { IfOk result (IsSelected (rows_of (found_of given.now))) }
     ensures unknown { IfErr result (HasNoSelection (rows_of (found_of given.now))) }
 {
-    let nth = match number_of(given.get_str("nth")) {
+    let path = given.get_str("PATH");
+    let nth = match number_given(path, given.get_str("nth")) {
         Ok(nth) => nth,
         Err(why) => return Err(why),
     };
@@ -291,6 +306,7 @@ fn selection_of<'a>(given: &ArgMatches<'a>) -> Result<Selection<'a>, Misuse<'a>>
     };
     Ok(Selection {
         nth,
+        path,
         key,
         type_,
         id,
@@ -347,7 +363,7 @@ fn writes_pods(word: Word<'_>) -> bool
     ensures { result ≡ spec.writes_pods word.entry }
 {
     match word {
-        Word::Print(_, _) => false,
+        Word::Print(printing, _) => printing.printout.form.is_pods(),
         Word::Make(making, _) => makes_pods(making),
         Word::Stream(streaming, _) => streams_pods(streaming),
         Word::Diff(_) => false,
@@ -361,11 +377,12 @@ fn makes_pods(making: Making<'_>) -> bool
 {
     match making {
         Making::Json(_) => false,
+        Making::Dump(_) => false,
         Making::Read(_) => true,
         Making::Rewrite => true,
         Making::Fixate => true,
         Making::Settle => true,
-        Making::Print(_) => false,
+        Making::Print(printing) => printing.printout.form.is_pods(),
         Making::Check => false,
     }
 }
@@ -377,7 +394,7 @@ fn streams_pods(streaming: Streaming<'_>) -> bool
     match streaming {
         Streaming::Json(_) => false,
         Streaming::Rewrite => true,
-        Streaming::Print(_) => false,
+        Streaming::Print(printing) => printing.printout.form.is_pods(),
         Streaming::Check => false,
     }
 }
@@ -416,6 +433,52 @@ fn colours_by(to_terminal: bool) -> Colours
     }
 }
 
+/// The number of the only pod in which something is printed: that of this path, or the value of `--nth`, if one of them is given.
+fn number_given<'a>(
+    path: Option<&'a str>,
+    nth: Option<&'a str>,
+) -> Result<Option<usize>, Misuse<'a>>
+    ensures number { IfOk result
+        (IsNumber (spec.number_given (option_map (λ s. s.now) path.entry) (option_map (λ s. s.now) nth.entry))) }
+    ensures unknown { IfErr result (λ why. HasNoNumber (option_map (λ s. s.now) nth.entry) why
+        ⊎ HasNoPath (option_map (λ s. s.now) path.entry) why) }
+{
+    let Some(path) = path else {
+        return number_of(nth);
+    };
+    match number_of(Some(number_in(path))) {
+        Ok(number) => Ok(number),
+        Err(_) => Err(Misuse::Path(path)),
+    }
+}
+
+/// The number at the front of a path, before the first of its steps.
+fn number_in(path: &str) -> &str
+    ensures { result.now ≡ spec.number_in path.now }
+{
+    before_point(before_bracket(path))
+}
+
+/// What stands before the first bracket.
+fn before_bracket(path: &str) -> &str
+    ensures { result.now ≡ before_first (λ b. b == 91) path.now }
+{
+    match path.split_once('[') {
+        Some((front, _)) => front,
+        None => path,
+    }
+}
+
+/// What stands before the first point.
+fn before_point(path: &str) -> &str
+    ensures { result.now ≡ before_first (λ b. b == 46) path.now }
+{
+    match path.split_once('.') {
+        Some((front, _)) => front,
+        None => path,
+    }
+}
+
 /// The number that the value of `--nth` says, if it is given.
 fn number_of<'a>(text: Option<&'a str>) -> Result<Option<usize>, Misuse<'a>>
     ensures number { IfOk result (IsNumber (option_map (λ s. s.now) text.entry)) }
@@ -438,6 +501,7 @@ fn shown<'a>(options: Options<'a>, reading: Reading, streams: bool) -> Word<'a>
     ensures stream { HasStream streams result }
     ensures texts { (read_as : TextsOf) → ReadsAs read_as result }
     ensures settle { (settles : Bool) → HasSettle settles result }
+    ensures dump { (dumps : Bool) → DumpsAs dumps result }
 {
     let form = if options.hex {
         Form::LinesAndBytes
@@ -457,6 +521,40 @@ fn shown<'a>(options: Options<'a>, reading: Reading, streams: bool) -> Word<'a>
     }
 }
 
+/// The word `get` with these options, with `--stream` or without it: `clap` refuses that option of this word.
+fn cut_out<'a>(options: Options<'a>, manner: Manner, streams: bool) -> Word<'a>
+    ensures word { codes "get" ≡ name_of result }
+    ensures printout { HasPrintout options.entry result }
+    ensures manner { HasManner manner.reading manner.fate result }
+    ensures stream { HasStream streams result }
+    ensures texts { (read_as : TextsOf) → ReadsAs read_as result }
+    ensures settle { (settles : Bool) → HasSettle settles result }
+    ensures dump { (dumps : Bool) → DumpsAs dumps result }
+{
+    let printing = options.printing(Form::Pods);
+    if streams {
+        Word::Stream(Streaming::Print(printing), manner)
+    } else {
+        Word::Print(printing, manner)
+    }
+}
+
+/// The word `json` with these options, with `--stream` or without it, and with `--pw-dump` or without it.
+fn json_or_dump<'a>(options: Options<'a>, manner: Manner, streams: bool, dumps: bool) -> Word<'a>
+    ensures word { codes "json" ≡ name_of result }
+    ensures printout { HasPrintout options.entry result }
+    ensures manner { HasManner manner.reading manner.fate result }
+    ensures stream { HasStream streams result }
+    ensures texts { (read_as : TextsOf) → ReadsAs read_as result }
+    ensures settle { (settles : Bool) → HasSettle settles result }
+    ensures dump { DumpsAs dumps result }
+{
+    if dumps {
+        return Word::Make(Making::Dump(options.colours), manner);
+    }
+    as_json(options, manner, streams)
+}
+
 /// The word `json` with these options, with `--stream` or without it.
 fn as_json<'a>(options: Options<'a>, manner: Manner, streams: bool) -> Word<'a>
     ensures word { codes "json" ≡ name_of result }
@@ -465,6 +563,7 @@ fn as_json<'a>(options: Options<'a>, manner: Manner, streams: bool) -> Word<'a>
     ensures stream { HasStream streams result }
     ensures texts { (read_as : TextsOf) → ReadsAs read_as result }
     ensures settle { (settles : Bool) → HasSettle settles result }
+    ensures dump { DumpsAs false result }
 {
     if options.is_plain() {
         return all_as_json(options.style(), manner, streams);
@@ -501,6 +600,7 @@ fn rewriting<'a>(manner: Manner, streams: bool) -> Word<'a>
     ensures stream { HasStream streams result }
     ensures texts { (read_as : TextsOf) → ReadsAs read_as result }
     ensures settle { (settles : Bool) → HasSettle settles result }
+    ensures dump { (dumps : Bool) → DumpsAs dumps result }
 {
     if streams {
         Word::Stream(Streaming::Rewrite, manner)
@@ -526,19 +626,25 @@ const PLAIN: Manner = Manner {
     fate: Fate::Stops,
 };
 
-/// How inputs are to be read.
-fn manner_of(given: &ArgMatches<'_>) -> Manner
-    ensures reading { result.reading ≡ reading_in (rows_of (found_of given.now)) }
-    ensures fate { result.fate ≡ fate_in (rows_of (found_of given.now)) }
+/// How inputs are to be read; or options for refused pods that exclude each other.
+fn manner_of<'a>(given: &ArgMatches<'a>) -> Result<Manner, Misuse<'a>>
+    ensures reading { IfOk result (λ manner. manner.reading ≡ reading_in (rows_of (found_of given.now))) }
+    ensures fate { IfOk result (λ manner. IsFateIn (rows_of (found_of given.now)) manner.fate) }
+    ensures wrong { IfErr result (HasNoFate (rows_of (found_of given.now))) }
 {
-    Manner {
-        reading: reading_by(is_set(given, "lenient")),
-        fate: fate_by(is_set(given, "keep-going"), is_set(given, "keep-refused")),
+    let reading = reading_by(is_set(given, "lenient"));
+    match fate_by(
+        is_set(given, "resync"),
+        is_set(given, "keep-refused"),
+        is_set(given, "keep-going"),
+    ) {
+        Ok(fate) => Ok(Manner { reading, fate }),
+        Err(why) => Err(why),
     }
 }
 
 /// Whether the flag of this name is given.
-fn is_set(given: &ArgMatches<'_>, name: &str) -> bool
+pub(crate) fn is_set(given: &ArgMatches<'_>, name: &str) -> bool
     ensures { result ≡ is_given name.now (rows_of (found_of given.now)) }
 {
     is_true(given.get_str(name))
@@ -565,16 +671,18 @@ fn reading_by(is_lenient: bool) -> Reading
     }
 }
 
-/// What becomes of an input with a refused pod where `--keep-going` is given, or isn't, and `--keep-refused`.
-fn fate_by(goes_on: bool, keeps: bool) -> Fate
-    ensures { result ≡ spec.fate_by goes_on keeps }
+/// What becomes of an input with a refused pod where `--resync` is given, or isn't, `--keep-refused` and `--keep-going`.
+fn fate_by<'a>(resyncs: bool, keeps: bool, goes_on: bool) -> Result<Fate, Misuse<'a>>
+    ensures fate { IfOk result (IsFate resyncs keeps goes_on) }
+    ensures wrong { IfErr result (IsNoFate resyncs keeps goes_on) }
 {
-    if keeps {
-        Fate::GoesOn(Refused::Kept)
-    } else if goes_on {
-        Fate::GoesOn(Refused::LeftOut)
-    } else {
-        Fate::Stops
+    match (resyncs, keeps, goes_on) {
+        (false, false, false) => Ok(Fate::Stops),
+        (false, false, true) => Ok(Fate::GoesOn(Refused::LeftOut)),
+        (false, true, _) => Ok(Fate::GoesOn(Refused::Kept)),
+        (true, false, false) => Ok(Fate::GoesOn(Refused::Resynced)),
+        (true, false, true) => Err(Misuse::WithResync(Refused::LeftOut)),
+        (true, true, _) => Err(Misuse::WithResync(Refused::Kept)),
     }
 }
 
@@ -596,103 +704,38 @@ fn layout_by(is_pretty: bool) -> Layout
     }
 }
 
-/// How texts are read without `--pw-dump`, where `--from-hex` is given, or isn't, and `--loose`.
-fn texts_by(from_hex: bool, is_loose: bool) -> Texts
-    ensures { result ≡ spec.texts_by from_hex is_loose }
+/// Whether the word of this name prints as `pw-dump` does, which only `json` can; or an option is given that excludes it.
+fn dump_for<'a>(name: &str, given: &ArgMatches<'a>) -> Result<bool, Misuse<'a>>
+    ensures dumps { IfOk result (λ dumps. name.now ≡ codes "json" → AsksForDump (rows_of (found_of given.now)) dumps) }
+    ensures excluded { IfErr result (ExcludesDump (rows_of (found_of given.now))) }
 {
-    if from_hex {
-        Texts::Hex
-    } else {
-        Texts::Named(strictness_by(is_loose))
+    if name != "json" || !is_set(given, "pw-dump") {
+        return Ok(false);
     }
+    if excludes_dump(given) {
+        return Err(Misuse::WithDump);
+    }
+    Ok(true)
 }
 
-/// How the word of this name reads texts; only `read` does.
-fn texts_for<'a>(name: &str, given: &ArgMatches<'a>) -> Result<Texts, Misuse<'a>>
-    ensures texts { IfOk result (λ read_as. name.now ≡ codes "read" → AreTextsIn (rows_of (found_of given.now)) read_as) }
-    ensures wrong { IfErr result (HasNoTexts (rows_of (found_of given.now))) }
+/// Whether an option is given that doesn't go with `--pw-dump`.
+fn excludes_dump(given: &ArgMatches<'_>) -> bool
+    ensures { result ≡ spec.excludes_dump (rows_of (found_of given.now)) }
 {
-    if name != "read" {
-        return Ok(Texts::Named(Strictness::Strict));
-    }
-    texts_of(
-        is_set(given, "from-hex"),
-        is_set(given, "loose"),
-        is_set(given, "pw-dump"),
-        given.get_str("type"),
-        given.get_str("id"),
-    )
+    is_set(given, "pretty")
+        || is_set(given, "hex")
+        || is_set(given, "stream")
+        || has_value(given, "nth")
+        || has_value(given, "type")
+        || has_value(given, "id")
+        || has_value(given, "key")
 }
 
-/// How texts are read where `--from-hex` is given, or isn't, `--loose` and `--pw-dump`, and `--type` and `--id` have these values.
-fn texts_of<'a>(
-    from_hex: bool,
-    is_loose: bool,
-    is_dump: bool,
-    type_: Option<&'a str>,
-    id: Option<&'a str>,
-) -> Result<Texts, Misuse<'a>>
-    ensures texts { IfOk result (AreRead from_hex is_loose is_dump (option_map (λ s. s.now) type_.entry) (option_map (λ s. s.now) id.entry)) }
-    ensures wrong { IfErr result (AreUnread from_hex is_loose is_dump (option_map (λ s. s.now) type_.entry) (option_map (λ s. s.now) id.entry)) }
+/// Whether the option of this name is given with a value.
+fn has_value(given: &ArgMatches<'_>, name: &str) -> bool
+    ensures { result ≡ is_some (first_of name.now (rows_of (found_of given.now))) }
 {
-    match (is_dump, from_hex, is_loose) {
-        (false, _, _) => plain_texts(from_hex, is_loose, type_, id),
-        (true, true, _) => Err(Misuse::Read(OfRead::HexDump)),
-        (true, false, true) => Err(Misuse::Read(OfRead::LooseDump)),
-        (true, false, false) => params_in(type_, id),
-    }
-}
-
-/// How texts are read without `--pw-dump`, which `--type` and `--id` need.
-fn plain_texts<'a>(
-    from_hex: bool,
-    is_loose: bool,
-    type_: Option<&str>,
-    id: Option<&str>,
-) -> Result<Texts, Misuse<'a>>
-    ensures texts { IfOk result (AreRead from_hex is_loose false (option_map (λ s. s.now) type_.entry) (option_map (λ s. s.now) id.entry)) }
-    ensures wrong { IfErr result (AreUnread from_hex is_loose false (option_map (λ s. s.now) type_.entry) (option_map (λ s. s.now) id.entry)) }
-{
-    match (type_, id) {
-        (None, None) => Ok(texts_by(from_hex, is_loose)),
-        _ => Err(Misuse::Read(OfRead::WithoutDump)),
-    }
-}
-
-/// How texts are read with `--pw-dump`, where `--type` and `--id` have these values.
-fn params_in<'a>(type_: Option<&'a str>, id: Option<&'a str>) -> Result<Texts, Misuse<'a>>
-    ensures texts { IfOk result (AreRead false false true (option_map (λ s. s.now) type_.entry) (option_map (λ s. s.now) id.entry)) }
-    ensures wrong { IfErr result (AreUnread false false true (option_map (λ s. s.now) type_.entry) (option_map (λ s. s.now) id.entry)) }
-{
-    match (type_, id) {
-        (Some(type_), Some(id)) => params_of(type_, id),
-        _ => Err(Misuse::Read(OfRead::DumpAlone)),
-    }
-}
-
-/// Params of the type and the id of these names.
-fn params_of<'a>(type_: &'a str, id: &'a str) -> Result<Texts, Misuse<'a>>
-    ensures texts { IfOk result (AreParams type_.entry.now id.entry.now) }
-    ensures wrong { IfErr result (AreNoParams type_.entry.now id.entry.now) }
-{
-    let Some(number) = key_number(Table::Types, type_) else {
-        return Err(Misuse::Read(OfRead::TypeName(type_)));
-    };
-    match key_number(ids_of(number), id) {
-        Some(id) => Ok(Texts::Dump { type_: number, id }),
-        None => Err(Misuse::Read(OfRead::IdName(id))),
-    }
-}
-
-/// The strictness where `--loose` is given, or isn't.
-fn strictness_by(is_loose: bool) -> Strictness
-    ensures { result ≡ spec.strictness_by is_loose }
-{
-    if is_loose {
-        Strictness::Plain
-    } else {
-        Strictness::Strict
-    }
+    given.get_str(name).is_some()
 }
 
 /// The inputs' names.

@@ -3,7 +3,7 @@ ghost use Rattle.std.specs.Prelude.{◌≡◌, ◌≢◌, ◌⊎◌, IfNone, IfS
 ghost use Rattle.pod_commands.specs.Answers as spec;
 ghost use Rattle.pod_commands.specs.Answers.{AreFiles, AreUnmade, Gives, IsAgreed, IsAnswer, IsCompared, IsDone, IsExact, IsExcluded, IsMadeBy, IsMadeInPart, IsPrinted, IsPrintedAs, IsPrintedLeniently, IsShown, IsShownIn, IsStreamed, IsStreamedBy, IsStreamedInPart, IsOutcome, IsWrittenAs, MayReadTwice, OnAnswer, Refuses, outlet};
 ghost use Rattle.pod_commands.specs.Streaming as streams;
-ghost use Rattle.pod_commands.specs.Streaming.{IsMadeOfEach};
+ghost use Rattle.pod_commands.specs.Streaming.{IsMadeInBlocks, IsMadeOfEach};
 ghost use Rattle.pod_commands.specs.declared.request.Fate.TheVariants.{Stops};
 ghost use Rattle.pod_commands.specs.declared.request.Making.TheVariants.{Rewrite};
 ghost use Rattle.spa_recordings.specs.declared.reading.Reading.TheVariants.{Exact};
@@ -239,7 +239,10 @@ fn excluded_in(manner: Manner, target: Option<&str>) -> Option<Excluded>
     match (manner.reading, manner.fate, target) {
         (_, _, Some(_)) => Some(Excluded::Output),
         (Reading::Lenient, Fate::Stops, None) => Some(Excluded::Lenient),
-        (_, _, None) => None,
+        (Reading::Exact, Fate::Stops, None) => None,
+        (_, Fate::GoesOn(Refused::Resynced), None) => Some(Excluded::Resync),
+        (_, Fate::GoesOn(Refused::LeftOut), None) => None,
+        (_, Fate::GoesOn(Refused::Kept), None) => None,
     }
 }
 
@@ -280,7 +283,7 @@ fn stream<'a, R: Read, S: Files, W: Write + Drop>(
 }
 
 /// Writes this of the inputs of these names as they come; no file is written.
-#[tactic(auto, using(crate::proofs::Streamed::stopped_by, crate::proofs::Streamed::passed_by, crate::proofs::Streamed::parts_by))]
+#[tactic(auto, using(crate::proofs::Streamed::stopped_by, crate::proofs::Streamed::passed_by, crate::proofs::Streamed::parts_by, crate::proofs::Streamed::blocks_by))]
 fn stream_by<'a, R: Read, S: Files, W: Write + Drop>(
     alloc: Global,
     streaming: Streaming<'a>,
@@ -324,7 +327,7 @@ fn pass<'a, R: Read, S: Files, W: Write + Drop>(
     mut device: W,
 ) -> (Answer<'a>, W)
     requires to_output { target ≡ None }
-    requires each { IsMadeOfEach making }
+    requires each { IsMadeInBlocks manner.refused making }
     ensures { IsStreamedInPart manner.reading manner.refused making.entry result.0 (R.remaining input.old) names.now
         (outlet target.entry (W.contents device) (W.contents result.1) (S.holds files.old) (S.holds files.new)) }
 {

@@ -12,7 +12,7 @@ ghost use Rattle.spa_recordings.specs.declared.reading.Reading.TheVariants.{Exac
 ghost use Rattle.spa_recordings.specs.Streaming.{IsNotMade, Streams, WritesMade};
 
 use crate::answer::Failure;
-use crate::colours::in_colours;
+use crate::colours::{colours_of, in_colours};
 use crate::files::{Files, open_named};
 use crate::request::{Printing, Streaming, Style};
 use spa_pod_commands::making::check;
@@ -259,7 +259,8 @@ fn write_printed<W: Write>(
         return Err(NotMade::OutOfMemory);
     };
     let Printed { bytes, refused } = printed;
-    let Ok(made) = in_colours(alloc, printing.colours, bytes) else {
+    let colours = colours_of(printing.printout.form, printing.colours);
+    let Ok(made) = in_colours(alloc, colours, bytes) else {
         return Err(NotMade::OutOfMemory);
     };
     match write_made(output, made.as_slice()) {

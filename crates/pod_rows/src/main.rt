@@ -131,7 +131,7 @@ fn answer_run(
     write!(answers, " |")?;
     let is_help = words.last() == Some(&"--help");
     match words.first() {
-        Some(&"read" | &"rewrite" | &"fixate" | &"meet" | &"filter") if !is_help => {
+        Some(&"get" | &"read" | &"rewrite" | &"fixate" | &"meet" | &"filter") if !is_help => {
             add_words(answers, device.taken())?
         }
         _ => add_text(answers, device.taken())?,

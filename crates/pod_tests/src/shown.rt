@@ -1,5 +1,5 @@
-//! Inputs shown.
-use crate::streams::{Broken, NO_SCREEN, WANTING};
+//! Inputs shown, and params read.
+use crate::streams::{Broken, INPUT_WANTING, NO_SCREEN, WANTING};
 use pod_commands::answer::report;
 use pod_commands::run::run;
 use spa_meet_commands::progress::Unwatched;
@@ -11,9 +11,10 @@ use test_streams::{ALL, Device, PIECE, Source};
 /// What is wanted of a run: the end of what it writes, what it says, and its status.
 type Wanted<'a> = (&'a [u8], &'a [u8], u8);
 
-/// Whether `show` answers so over this input, with this room for what it writes, unless it says that memory is wanting.
-fn shows(
+/// Whether a run of these words answers so over this input, with this room for what it writes, unless it says that memory is wanting.
+fn answers(
     rt: &HostRuntime,
+    words: &[&str],
     mut source: Source<'_>,
     room: &mut [u8],
     wanted: Wanted<'_>,
@@ -21,7 +22,7 @@ fn shows(
     let device = Device::new(room, ALL);
     let (answer, mut device) = run(
         rt.alloc(),
-        &["show"],
+        words,
         &mut source,
         &mut Broken,
         &mut Unwatched,
@@ -31,7 +32,7 @@ fn shows(
     let mut line = [0; 100];
     let mut faults = Device::new(&mut line, PIECE);
     let is_reported = report(&mut device, &mut faults, &answer).is_ok();
-    if faults.taken() == WANTING.as_bytes() {
+    if faults.taken() == WANTING.as_bytes() || faults.taken() == INPUT_WANTING.as_bytes() {
         return Err(AllocError);
     }
     let (end, said, status) = wanted;
@@ -43,8 +44,9 @@ fn shows(
 fn an_input_that_breaks_off_is_refused(rt: HostRuntime) -> Result<(), AllocError> {
     let source = Source::broken(&[0, 0, 0, 0, 1, 0, 0, 0], ErrorKind::Other, PIECE);
     // What was read is shown.
-    let holds = shows(
+    let holds = answers(
         &rt,
+        &["show"],
         source,
         &mut [0; 100],
         (
@@ -75,7 +77,7 @@ fn are_blocks_shown(rt: &HostRuntime) -> Result<bool, AllocError> {
     let mut room = vec![in rt.alloc(); 0; COUNT * 50]?;
     let source = Source::whole(given.as_slice(), ALL);
     let wanted: Wanted<'_> = (SHOWN, b"pod: refused pods: 1\n", 1);
-    shows(rt, source, room.as_mut_slice(), wanted)
+    answers(rt, &["show"], source, room.as_mut_slice(), wanted)
 }
 
 #[test]
@@ -97,12 +99,38 @@ fn is_deep_shown(rt: &HostRuntime) -> Result<bool, AllocError> {
     let mut room = vec![in rt.alloc(); 0; ROOM]?;
     let source = Source::whole(bytes.as_slice(), ALL);
     let wanted: Wanted<'_> = (b"(99999) Struct: size 0\n", b"", 0);
-    shows(rt, source, room.as_mut_slice(), wanted)
+    answers(rt, &["show"], source, room.as_mut_slice(), wanted)
 }
 
 #[test]
 fn deep_pods_are_shown(rt: HostRuntime) -> Result<(), AllocError> {
     let holds = is_deep_shown(&rt)?;
+    assert!(rt; holds);
+    Ok(())
+}
+
+/// Two params as pw-dump prints them: one without properties, and one whose channels are an Enum.
+const PARAMS: &[u8] = b"[{},\n{\"channels\":{\"default\":2,\"alt1\":1}}]\n";
+
+/// The pod of the second as a format among those that may be chosen: type 0x40003, id 3, key 0x10004.
+const SECOND_PARAM: [u8; 56] = [
+    48, 0, 0, 0, 15, 0, 0, 0, 3, 0, 4, 0, 3, 0, 0, 0, 4, 0, 1, 0, 0, 0, 0, 0, 24, 0, 0, 0, 19, 0,
+    0, 0, 3, 0, 0, 0, 0, 0, 0, 0, 4, 0, 0, 0, 4, 0, 0, 0, 2, 0, 0, 0, 1, 0, 0, 0,
+];
+
+#[test]
+fn params_are_read(rt: HostRuntime) -> Result<(), AllocError> {
+    let words = [
+        "read",
+        "--pw-dump",
+        "--type",
+        "Format",
+        "--id",
+        "EnumFormat",
+    ];
+    let source = Source::whole(PARAMS, PIECE);
+    let wanted: Wanted<'_> = (&SECOND_PARAM, b"", 0);
+    let holds = answers(&rt, &words, source, &mut [0; 100], wanted)?;
     assert!(rt; holds);
     Ok(())
 }

@@ -55,7 +55,7 @@ pub(crate) const NO_SCREEN: Screen = Screen {
 pub(crate) const WANTING: &str = "pod: out of memory\n";
 
 /// What is said where it is refused to what reads or changes the input.
-const INPUT_WANTING: &str = "pod: standard input: out of memory\n";
+pub(crate) const INPUT_WANTING: &str = "pod: standard input: out of memory\n";
 
 /// What is wanted of a run: its status, what it says, and what it writes.
 type Wanted<'a> = (u8, &'a str, &'a [u8]);

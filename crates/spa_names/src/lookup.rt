@@ -80,6 +80,12 @@ pub fn key_named(keys: Table, name: &str) -> Option<(u32, Expected)>
     ensures { MatchOption result (number_of keys name.now ≡ None)
         (λ key. (number_of keys name.now ≡ Some key.0) × (key.1 ≡ expected_under keys key.0)) }
 {
+    let entries = entries_of(keys);
+    if let Some(key) = entries.get(guess_of(name, entries.len())) {
+        if has_name(key, name) {
+            return Some((key.0, expected_at(key.3)));
+        }
+    }
     match number_of(keys, name) {
         Some(number) => Some((number, expected_under(keys, number))),
         None => None,

@@ -1,15 +1,20 @@
 -- How far the work on an input is.
-use Rattle.std.proofs.Common.{◌≡◌, ◌≢◌, ◌∙◌, ◌+◌, ◌-◌, ◌<◌, ◌≤◌, ℕ, List, [], ◌∷◌, ◌++◌, append_assoc, append-nil, ap, arith, length, length-append, length-drop, refl, subst, sym, take}
-use Rattle.std.proofs.lemmas.List.{take_at}
-use Rattle.spa_format.specs.Front.{front_of, rest_of}
+use Rattle.std.proofs.Common.{◌≡◌, ◌≢◌, ◌∙◌, ◌+◌, ◌-◌, ◌^◌, ◌<◌, ◌≤◌, Bool, true, inl, inr, ℕ, List, [], ◌∷◌, ◌++◌, append_assoc, append-nil, ap, arith, drop, length, length-append, length-drop, length-take, refl, subst, sym, take}
+use Rattle.std.specs.Prelude.{Decides}
+use Rattle.std.proofs.lemmas.List.{nil_from_length, take_at}
+use Rattle.spa_format.specs.Front.{front_of}
+use Rattle.spa_format.specs.Walk.{walk}
 use Rattle.spa_format.specs.Words.{extent, word_at}
-use Rattle.spa_format.proofs.Fronts.{front_and_rest}
+use Rattle.spa_bytes.specs.Opening.{Opens}
+use Rattle.spa_recordings.specs.Plausible.{IsPlausible, a_struct, an_object}
 use Rattle.spa_recordings.specs.Reading.{IsNoPod, IsUnreadAt}
-use Rattle.spa_recordings.specs.GoingOn.{AddsMade, GoesOn, MakesLast, MakesNext, MakesOf, ends, kept_of, passes}
+use Rattle.spa_recordings.specs.GoingOn.{AddsMade, GoesOn, GoesOnBehind, IsWellFollowed, MakesLast, MakesNext, MakesOf, PassesPod, Resyncs, at_end, at_plausible, behind_pod, ends, kept_of, left_out_by, passes}
 use Rattle.spa_recordings.specs.declared.going_on.Refused.{Refused}
+use Rattle.spa_recordings.specs.declared.going_on.Refused.TheVariants.{LeftOut, Kept, Resynced}
 use Rattle.spa_recordings.specs.declared.going_on.RefusedPod.{RefusedPod}
 use Rattle.spa_recordings.specs.declared.reading.Reading.{Reading}
 use Rattle.spa_recordings.specs.declared.reading.Reading.TheVariants.{Exact, Lenient}
+use Rattle.spa_recordings.proofs.Holding.{few_whole}
 
 -- what is left from a pod on that isn't read isn't empty, and some bytes stand before it
 pub before_unread : (reading : Reading) (input left kind : List ℕ) → IsUnreadAt reading input left kind →
@@ -17,74 +22,143 @@ pub before_unread : (reading : Reading) (input left kind : List ℕ) → IsUnrea
 before_unread Exact input left kind h = (h.0.1, h.0.2, h.0.4)
 before_unread Lenient input left kind h = (h.0.1, h.0.2, h.0.4)
 
--- what follows a front is shorter
-pub rest_shorter : (left : List ℕ) → left ≢ [] → length (rest_of left) < length left
-rest_shorter [] n = absurd (n refl)
-rest_shorter (x ∷ xs) n = let l = length-drop (extent (word_at (x ∷ xs) 0)) (x ∷ xs) in omega (arith, l)
+-- ---- How far it goes on
 
--- one step
-pub steps : (name : List ℕ) (reading : Reading) (refused : Refused) (Makes : List ℕ → List ℕ → Type 0) (place : ℕ) (left at rest before pod kind : List ℕ)
-    (old mid new : List ℕ) (olds news : List RefusedPod) (its : RefusedPod) → IsUnreadAt reading left at kind → before ≡ take (length left - length at) left →
-    rest ≡ rest_of at → pod ≡ take (length at - length rest) at → AddsMade reading Makes before old mid → new ≡ mid ++ kept_of refused pod →
-    its.kind.now ≡ kind → its.name.now ≡ name → its.place ≡ place + length before → news ≡ olds ++ (its ∷ []) →
-    MakesNext name reading refused Makes place left rest old new olds news
-steps name reading refused Makes place left at rest before pod kind old mid new olds news its u b r p m w k n pl t =
+some_bytes : (left : List ℕ) → left ≢ [] → 0 < length left
+some_bytes [] n = absurd (n refl)
+some_bytes (x ∷ xs) n = omega arith
+
+front_some : (left : List ℕ) (n : ℕ) → 0 < length left → n ≡ length (front_of left) → (0 < n) × (n ≤ length left)
+front_some left n s e = let t = length-take (extent (word_at left 0)) left in (omega (arith, s, e, t), omega (arith, e, t))
+
+plausible_fits : (left : List ℕ) (n : ℕ) → IsPlausible (drop n left) → n ≤ length left
+plausible_fits left n (a_struct front is whole) = let h = front.header in let d = length-drop n left in omega (arith, h, d)
+plausible_fits left n (an_object there is whole) = let h = there.front.header in let d = length-drop n left in omega (arith, h, d)
+
+resyncs_some : (left : List ℕ) (n : ℕ) → 0 < length left → Resyncs left n → (0 < n) × (n ≤ length left)
+resyncs_some left n s (behind_pod m f e) = front_some left n s e
+resyncs_some left n s (at_plausible m f next) =
+    let b = next.behind in (omega (arith, b), plausible_fits left n next.plausible)
+resyncs_some left n s (at_end m f none e) = (omega (arith, s, e), omega (arith, e))
+
+-- some bytes are passed with a refused pod, at most all that are left
+pub passed_some : (refused : Refused) (left : List ℕ) (n : ℕ) → left ≢ [] → GoesOnBehind refused left n → (0 < n) × (n ≤ length left)
+passed_some LeftOut left n s g = front_some left n (some_bytes left s) g
+passed_some Kept left n s g = front_some left n (some_bytes left s) g
+passed_some Resynced left n s g = resyncs_some left n (some_bytes left s) g
+
+-- whether it is well followed
+pub followed_end : (left body rest : List ℕ) (type : ℕ) (is : Bool) → Opens left type body rest → length rest ≡ 0 → is ≡ true →
+    Decides is (IsWellFollowed left)
+followed_end left body rest type is o none t = (λ e. (o.there, inl (sym o.its_rest ∙ nil_from_length rest none)), λ w. t)
+
+pub followed_by : (left body rest : List ℕ) (type : ℕ) (is : Bool) → Opens left type body rest → length rest ≢ 0 → Decides is (IsPlausible rest) →
+    Decides is (IsWellFollowed left)
+followed_by left body rest type is o some d = (
+  λ e. (o.there, inr (subst IsPlausible o.its_rest (d.0 e))),
+  λ w. elim w.1 [
+    | inl e ↦ absurd (some (ap length (o.its_rest ∙ e)))
+    | inr p ↦ d.1 (subst IsPlausible (sym o.its_rest) p)
+  ],
+)
+
+-- ---- Steps
+
+-- what is counted fits
+pub numbered : (reading : Reading) (left at before kind : List ℕ) (count pods : ℕ) → IsUnreadAt reading left at kind →
+    length before ≡ length left - length at → pods ≡ length (walk before) → count + length left < 2 ^ 64 → (count + pods) + 1 < 2 ^ 64
+numbered reading left at before kind count pods u b p r =
     let parts = before_unread reading left at kind u in
+    let e = ap length parts.1 ∙ length-append parts.0 at in
+    let s = some_bytes at parts.2 in
+    let f = few_whole before in
+    omega (arith, e, s, f, b, p, r)
+
+pub gap_fits : (reading : Reading) (left at kind : List ℕ) (place before n : ℕ) → IsUnreadAt reading left at kind → before ≡ length left - length at →
+    n ≤ length at → place + length left < 2 ^ 64 → (place + before) + n < 2 ^ 64
+gap_fits reading left at kind place before n u b l r =
+    let parts = before_unread reading left at kind u in
+    let e = ap length parts.1 ∙ length-append parts.0 at in
+    omega (arith, e, b, l, r)
+
+pub steps : (name : List ℕ) (reading : Reading) (refused : Refused) (Makes : List ℕ → List ℕ → Type 0) (count place n pods number : ℕ)
+    (left at rest before passed kind old mid new : List ℕ) (olds news : List RefusedPod) (its : RefusedPod) → IsUnreadAt reading left at kind →
+    before ≡ take (length left - length at) left → GoesOnBehind refused at n → passed ≡ take n at → rest ≡ drop n at →
+    AddsMade reading Makes before old mid → new ≡ mid ++ kept_of refused passed → pods ≡ length (walk before) → number ≡ count + pods + 1 →
+    its.kind.now ≡ kind → its.name.now ≡ name → its.number ≡ number → its.place ≡ place + length before → its.left_out ≡ left_out_by refused its.place n →
+    news ≡ olds ++ (its ∷ []) → MakesNext name reading refused Makes count place left number rest old new olds news
+steps name reading refused Makes count place n pods number left at rest before passed kind old mid new olds news its u b g p r m w c nu k na ni pl lo t =
+    let parts = before_unread reading left at kind u in
+    let some = passed_some refused at n parts.2 g in
+    let more = some.0 in
+    let fits = some.1 in
     let e : length left ≡ length parts.0 + length at = ap length parts.1 ∙ length-append parts.0 at in
     let is_first : before ≡ parts.0 =
     b ∙ ap (λ z. take z left) (let z : length left - length at ≡ length parts.0 = omega (arith, e) in z) ∙ ap (take (length parts.0)) parts.1
     ∙ take_at parts.0 at (length parts.0) refl in
-    let whole = front_and_rest at in
-    let el : length at ≡ length (front_of at) + length (rest_of at) = ap length whole ∙ length-append (front_of at) (rest_of at) in
-    let is_front : pod ≡ front_of at =
-    p ∙ ap (λ z. take z at) (let lr = ap length r in let z : length at - length rest ≡ length (front_of at) = omega (arith, el, lr) in z)
-    ∙ ap (take (length (front_of at))) whole ∙ take_at (front_of at) (rest_of at) (length (front_of at)) refl in
+    let lb = ap length is_first in
+    let lr = ap length r ∙ length-drop n at in
+    let few = few_whole before in
+    let its_pod : PassesPod name reading refused count place parts.0 at n its = record {
+      some = parts.2;
+      nothing = subst (IsNoPod reading at) (sym k) u.1;
+      passed = g;
+      its_name = na;
+      its_number = ni ∙ nu ∙ ap (λ z. count + z + 1) (c ∙ ap (λ z. length (walk z)) is_first);
+      its_place = pl ∙ ap (λ z. place + length z) is_first;
+      left_out = lo;
+    } in
     record {
-      made = m.0 ++ kept_of refused pod;
+      made = m.0 ++ kept_of refused passed;
       pod = its;
-      written = w ∙ ap (λ z. z ++ kept_of refused pod) m.2 ∙ append_assoc old m.0 (kept_of refused pod);
+      written = w ∙ ap (λ z. z ++ kept_of refused passed) m.2 ∙ append_assoc old m.0 (kept_of refused passed);
       listed = t;
-      shorter = let s = rest_shorter at parts.2 in let lr = ap length r in omega (arith, e, s, lr);
-      goes_on = λ next others pods h g.
-          subst (λ z. GoesOn name reading refused Makes place left z (its ∷ pods)) (sym (append_assoc m.0 (kept_of refused pod) others))
-          (subst (λ z. GoesOn name reading refused Makes place left (m.0 ++ (kept_of refused z ++ others)) (its ∷ pods)) (sym is_front)
-          (subst (λ z. GoesOn name reading refused Makes place z (m.0 ++ (kept_of refused (front_of at) ++ others)) (its ∷ pods)) (sym parts.1)
-          (passes place next parts.0 at m.0 others its pods (subst (λ z. MakesOf reading Makes z m.0) is_first m.1) parts.2
-          (subst (IsNoPod reading at) (sym k) u.1) (pl ∙ ap (λ z. place + length z) is_first) n
-          (let lb = ap length is_first in let lr = ap length r in omega (arith, h, e, el, lb, lr, pl))
-          (subst (λ z. GoesOn name reading refused Makes next z others pods) r g))));
+      shorter = omega (arith, e, lr, more, fits);
+      few = omega (arith, e, lr, lb, few, c, nu, more, fits);
+      goes_on = λ next others rests h g.
+          subst (λ z. GoesOn name reading refused Makes count place left z (its ∷ rests)) (sym (append_assoc m.0 (kept_of refused passed) others))
+          (subst (λ z. GoesOn name reading refused Makes count place left (m.0 ++ (kept_of refused z ++ others)) (its ∷ rests)) (sym p)
+          (subst (λ z. GoesOn name reading refused Makes count place z (m.0 ++ (kept_of refused (take n at) ++ others)) (its ∷ rests)) (sym parts.1)
+          (passes count place n parts.0 at m.0 others its rests (subst (λ z. MakesOf reading Makes z m.0) is_first m.1) its_pod
+          (subst (λ z. GoesOn name reading refused Makes z (its.place + n) (drop n at) others rests) (sym ni)
+          (subst (λ z. GoesOn name reading refused Makes number z (drop n at) others rests)
+          (let z : next ≡ its.place + n = omega (arith, h, e, lb, lr, pl, fits) in z)
+          (subst (λ z. GoesOn name reading refused Makes number next z others rests) r g))))));
     }
 
-module _ (name : List ℕ) (reading : Reading) (refused : Refused) (Makes : List ℕ → List ℕ → Type 0) (before : ℕ) (input old : List ℕ)
+module _ (name : List ℕ) (reading : Reading) (refused : Refused) (Makes : List ℕ → List ℕ → Type 0) (count before : ℕ) (input old : List ℕ)
     (olds : List RefusedPod) where
   -- something was made and pods were listed; with what is made and listed of what is left it is all
-  pub record MadeSoFar (left new : List ℕ) (news : List RefusedPod) : Type 0 where
+  pub record MadeSoFar (number : ℕ) (left new : List ℕ) (news : List RefusedPod) : Type 0 where
     pub made : List ℕ
     pub pods : List RefusedPod
     pub written : new ≡ old ++ made
     pub listed : news ≡ olds ++ pods
     pub fits : length left ≤ length input
+    pub few : number + length left ≤ count + length input
     pub goes_on : (place : ℕ) (others : List ℕ) (more : List RefusedPod) → place + length left ≡ before + length input →
-        GoesOn name reading refused Makes place left others more → GoesOn name reading refused Makes before input (made ++ others) (pods ++ more)
+        GoesOn name reading refused Makes number place left others more →
+        GoesOn name reading refused Makes count before input (made ++ others) (pods ++ more)
 
-  pub begins : MadeSoFar input old olds
+  pub begins : MadeSoFar count input old olds
   begins = record {
     made = [];
     pods = [];
     written = sym (append-nil old);
     listed = sym (append-nil olds);
     fits = omega arith;
+    few = omega arith;
     goes_on = λ place others more h g.
-        subst (λ z. GoesOn name reading refused Makes z input others more) (let z : place ≡ before = omega (arith, h) in z) g;
+        subst (λ z. GoesOn name reading refused Makes count z input others more) (let z : place ≡ before = omega (arith, h) in z) g;
   }
 
-  pub finished : (place : ℕ) (left mid new : List ℕ) (mids news : List RefusedPod) → place + length left ≡ before + length input → MadeSoFar left mid mids →
-      MakesLast reading Makes left mid new mids news →
-      (out : List ℕ) × (pods : List RefusedPod) × GoesOn name reading refused Makes before input out pods × (new ≡ old ++ out) × (news ≡ olds ++ pods)
-  finished place left mid new mids news h so s = (
+  pub finished : (number place : ℕ) (left mid new : List ℕ) (mids news : List RefusedPod) → place + length left ≡ before + length input →
+      MadeSoFar number left mid mids → MakesLast reading Makes left mid new mids news →
+      (out : List ℕ) × (pods : List RefusedPod) × GoesOn name reading refused Makes count before input out pods × (new ≡ old ++ out) × (news ≡ olds ++ pods)
+  finished number place left mid new mids news h so s = (
     so.made ++ s.0.0,
     so.pods ++ [],
-    so.goes_on place s.0.0 [] h (ends place left s.0.0 s.0.1),
+    so.goes_on place s.0.0 [] h (ends number place left s.0.0 s.0.1),
     s.0.2 ∙ ap (λ z. z ++ s.0.0) so.written ∙ append_assoc old so.made s.0.0,
     s.1 ∙ so.listed ∙ ap (λ z. olds ++ z) (sym (append-nil so.pods)),
   )

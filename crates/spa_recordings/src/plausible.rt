@@ -35,7 +35,7 @@ pub fn next_plausible(input: &[u8], from: usize) -> Option<usize>
 }
 
 /// Whether a pod plausibly begins these bytes.
-fn is_plausible(bytes: &[u8]) -> bool
+pub(crate) fn is_plausible(bytes: &[u8]) -> bool
     ensures { Decides result (IsPlausible bytes.now) }
 {
     let Some(front) = open(bytes) else {

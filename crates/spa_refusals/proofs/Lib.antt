@@ -1,5 +1,5 @@
 mod Counts
-mod Numbering
+mod Listing
 mod Passing
 mod Saying
 mod Stepping

@@ -14,8 +14,6 @@ use Rattle.spa_read.specs.Reading.{ConveysNothing}
 use Rattle.spa_recordings.specs.Reading.{IsAccepted, IsLeftOf, RefusesList}
 use Rattle.spa_recordings.specs.declared.reading.Reading.{Reading}
 use Rattle.spa_recordings.specs.declared.reading.Reading.TheVariants.{Exact, Lenient}
-use Rattle.spa_lenient.specs.Rewriting as lenient
-use Rattle.spa_rewrite.specs.Rewriting as exact
 use Rattle.spa_refusals.specs.Paths.{LeadsTo, itself, further, member, property}
 use Rattle.spa_format.specs.Walk.{walk}
 use Rattle.spa_format.specs.Words.{header_size}

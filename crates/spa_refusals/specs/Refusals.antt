@@ -81,6 +81,16 @@ abbrev pub IsFirstRefusal : Reading → List ℕ → Refusal → Type 0
 IsFirstRefusal reading input refusal =
     ¬ (IsAccepted reading input) × IsLeftOf reading input (drop refusal.place input) × IsRefusalAt reading input refusal
 
+-- what is said of the pod at this place of an input, where the cause isn't in its bytes: its number, its type, and the cause
+pub record IsRefusalFor (input : List ℕ) (place : ℕ) (kind words : List ℕ) (refusal : Refusal) : Type 0 where
+  pub its_place : refusal.place ≡ place
+  pub number : refusal.number ≡ length (walk (take place input)) + 1
+  pub type : option_map name_text refusal.type_ ≡ type_name (drop place input)
+  pub no_path : string_bytes refusal.path ≡ []
+  pub its_kind : refusal.kind.now ≡ kind
+  pub its_words : string_bytes refusal.words ≡ words
+  pub whole : refusal.cut ≡ None
+
 -- ---- The text
 
 -- a type in brackets, where there is one

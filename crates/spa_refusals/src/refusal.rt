@@ -2,7 +2,7 @@
 ghost use Rattle.std.specs.Prelude.{◌≡◌, ◌+◌, ◌≤◌, IfErr, IfNone, IfOk, IfSome, OnOk, drop, length, take};
 ghost use Rattle.spa_format.specs.Walk.{walk};
 ghost use Rattle.spa_recordings.specs.Reading.{IsAccepted, RefusesList};
-ghost use Rattle.spa_refusals.specs.Refusals.{IsCutOf, IsFirstRefusal, IsNextOf, IsNothing, IsRefusalAt, IsRefusalOf};
+ghost use Rattle.spa_refusals.specs.Refusals.{IsCutOf, IsFirstRefusal, IsNextOf, IsNothing, IsRefusalAt, IsRefusalFor, IsRefusalOf};
 
 use crate::counting::count;
 use crate::inside::malformed;
@@ -134,6 +134,33 @@ pub fn refusal_of(
         kind: inner.error.kind(),
         words,
         cut: cut_of(place, pod),
+    })
+}
+
+/// The refusal of the pod behind so many bytes of an input, for a cause of this name and in these words, which isn't in its bytes.
+pub fn refusal_for(
+    alloc: Global,
+    input: &[u8],
+    place: usize,
+    kind: &'static str,
+    words: &str,
+) -> Result<Refusal, AllocError>
+    requires { place ≤ length input.now }
+    ensures { IfOk result (IsRefusalFor input.now place kind.now words.now) }
+{
+    let (before, pod) = input.split_at(place);
+    let type_ = type_name(pod);
+    let mut its_words = String::new(alloc);
+    its_words.push_str(words)?;
+    Ok(Refusal {
+        number: count(before) + 1,
+        place,
+        type_,
+        path: String::new(alloc),
+        inner_type: None,
+        kind,
+        words: its_words,
+        cut: None,
     })
 }
 

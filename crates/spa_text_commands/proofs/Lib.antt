@@ -1,16 +1,19 @@
+mod Closing
+mod WholeLines
+mod FirstLine
 mod Saying
 mod Dumped
+mod Stepping
 mod Values
-pub mod PrintedPods
+pub mod PrintedParams
+mod PrintedPods
 pub mod Extents
-pub mod Splitting
 mod OpenStructs
 pub mod ReadTexts
 mod ReadHexadecimal
 pub mod Changing
 pub mod Differing
 pub mod Compared
-mod Lanes
 mod Named
 mod Items
 mod Names

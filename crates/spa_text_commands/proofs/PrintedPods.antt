@@ -1,6 +1,6 @@
 -- What is printed, pod by pod.
 use Rattle.std.proofs.Common.{◌≡◌, ℕ, List, [], ◌∷◌, ◌++◌, refl, sym, arith, length, ◌∙◌, ap, subst, append_assoc, append-nil}
-use Rattle.std.specs.Prelude.{Result, Ok, Err, IfErr}
+use Rattle.std.specs.Prelude.{Result, Ok, Err, IfErr, Option, None, Some, codes}
 use Rattle.std.specs.Result.{IsErrAnd}
 use Rattle.std.proofs.lemmas.List.{take-append-drop}
 use Rattle.spa_format.specs.Words.{extent, word_at}
@@ -9,24 +9,24 @@ use Rattle.spa_format.specs.Pod.{AreMembers}
 use Rattle.spa_format.specs.Tree.{Tree, Trees, no_trees, member, join_members}
 use Rattle.spa_format.proofs.Refused.{refused_behind_members}
 use Rattle.spa_format.proofs.Sequences.{members_joined, members_push}
-use Rattle.spa_text_commands.specs.Unread.{AddsTexts, IsNoFront, IsStopped}
-use Rattle.spa_text_commands.specs.Texts.{AreTexts, IsTextIn, Prints, RefusesPods}
+use Rattle.spa_text_commands.specs.Unread.{AddsLine, AddsTextLine, AddsTexts, IsBegun, IsMarked, IsNoFront, IsStopped}
+use Rattle.spa_text_commands.specs.Texts.{AreTexts, IsTextAt, Prints, RefusesPods, head_field, in_fields, path_field, wrapped}
 use Rattle.spa_text_commands.specs.declared.printing.Layout.{Layout}
 use Rattle.spa_text_commands.specs.declared.answer.Failure.{Failure}
 use Rattle.spa_text_commands.specs.declared.answer.Failure.TheVariants.{NoPods, Line, OutOfMemory, WriteFailed}
 
 -- how far the loop over pods is: some first ones are printed, and this is left
-pub record PrintedSoFar (layout : Layout) (mark start left old out : List ℕ) : Type 0 where
+pub record PrintedSoFar (IsText : Tree → List ℕ → Type 0) (start left old out : List ℕ) : Type 0 where
   pub first : List ℕ
   pub values : Trees
   pub lines : List ℕ
   pub whole : start ≡ first ++ left
   pub members : AreMembers values first
-  pub texts : AreTexts layout mark values lines
+  pub texts : AreTexts IsText values lines
   pub made : out ≡ old ++ lines
 
-pub begins : (layout : Layout) (mark start old out : List ℕ) → out ≡ old → PrintedSoFar layout mark start start old out
-begins layout mark start old out e =
+pub begins : (IsText : Tree → List ℕ → Type 0) (start old out : List ℕ) → out ≡ old → PrintedSoFar IsText start start old out
+begins IsText start old out e =
     record { first = []; values = no_trees; lines = []; whole = refl; members = refl; texts = refl; made = e ∙ sym (append-nil old) }
 
 -- a mark, a text and an end are one behind another
@@ -38,20 +38,72 @@ line_added old mark text marked printed reserved ended m p r e =
     ∙ append_assoc (old ++ mark) text (10 ∷ [])
     ∙ append_assoc old mark (text ++ 10 ∷ [])
 
--- one line more
-pub texts_push : (layout : Layout) (mark : List ℕ) (vs : Trees) (v : Tree) (out text : List ℕ) → AreTexts layout mark vs out → IsTextIn layout v text →
-    AreTexts layout mark (join_members vs (member v no_trees)) (out ++ (mark ++ (text ++ 10 ∷ [])))
-texts_push layout mark no_trees v out text e t = (text, [], ap (λ l. l ++ (mark ++ (text ++ 10 ∷ []))) e, t, refl)
-texts_push layout mark (member w vs) v out text h t =
-    let more = mark ++ (text ++ 10 ∷ []) in (
-      h.0,
-      h.1 ++ more,
-      ap (λ l. l ++ more) h.2
-          ∙ append_assoc mark (h.0 ++ 10 ∷ h.1) more
-          ∙ ap (λ l. mark ++ l) (append_assoc h.0 (10 ∷ h.1) more),
-      h.3,
-      texts_push layout mark vs v h.1 text h.4 t,
+pub marked_added : (mark : List ℕ) (v : Tree) (old new : List ℕ) → AddsLine mark v old new → AddsTextLine (IsMarked mark) v old new
+marked_added mark v old new h =
+    (mark ++ h.0, h.1 ∙ ap (λ l. old ++ l) (sym (append_assoc mark h.0 (10 ∷ []))), (h.0, refl, h.2))
+
+-- what stands before a text, the text, what stands behind it, and an end
+pub text_added : (old path text begun printed closed reserved ended ending : List ℕ) (head : Option (List ℕ)) → IsBegun path head old begun ending →
+    printed ≡ begun ++ text → closed ≡ printed ++ ending → reserved ≡ closed → ended ≡ reserved ++ (10 ∷ []) →
+    ended ≡ old ++ (wrapped path head text ++ 10 ∷ [])
+text_added old path text begun printed closed reserved ended ending head b p c r e =
+    e
+    ∙ ap (λ l. l ++ (10 ∷ [])) (r ∙ c ∙ ap (λ l. l ++ ending) (p ∙ ap (λ l. l ++ text) b.1) ∙ append_assoc (old ++ b.0) text ending
+    ∙ append_assoc old b.0 (text ++ ending) ∙ ap (λ l. old ++ l) (sym (b.2 text)))
+    ∙ append_assoc old (wrapped path head text) (10 ∷ [])
+
+-- nothing stands before the text of a top-level pod without a head
+pub begun_bare : (path old : List ℕ) → length path ≡ 0 → IsBegun path None old old []
+begun_bare [] old e = ([], sym (append-nil old), λ text. sym (append-nil text))
+begun_bare (x ∷ xs) old e = absurd (omega (arith, e))
+
+-- fields stand before another one
+in_fields_begun : (fields old first second new : List ℕ) → first ≡ old ++ codes "{" → second ≡ first ++ fields → new ≡ second ++ codes "\"value\":" →
+    (mark : List ℕ) × (new ≡ old ++ mark) × ((text : List ℕ) → in_fields fields text ≡ mark ++ (text ++ codes "}"))
+in_fields_begun fields old first second new a b c =
+    let value = codes "\"value\":" in (
+      codes "{" ++ (fields ++ value),
+      c ∙ ap (λ l. l ++ value) (b ∙ ap (λ l. l ++ fields) a ∙ append_assoc old (codes "{") fields) ∙ append_assoc old (codes "{" ++ fields) value,
+      λ text. ap (λ l. codes "{" ++ l) (sym (append_assoc fields value (text ++ codes "}"))),
     )
+
+pub begun_at : (path old first second new ending : List ℕ) → ¬ (length path ≡ 0) → first ≡ old ++ codes "{" → second ≡ first ++ path_field path →
+    new ≡ second ++ codes "\"value\":" → ending ≡ codes "}" → IsBegun path None old new ending
+begun_at [] old first second new ending some a b c d = absurd (some refl)
+begun_at (x ∷ xs) old first second new ending some a b c d =
+    let fields = path_field (x ∷ xs) in
+    let begun = in_fields_begun (fields ++ []) old first second new a (b ∙ ap (λ l. first ++ l) (sym (append-nil fields))) c in
+    (begun.0, begun.1, λ text. begun.2 text ∙ ap (λ l. begun.0 ++ (text ++ l)) (sym d))
+
+pub begun_headed : (path head old first second third new ending : List ℕ) → first ≡ old ++ codes "{" → second ≡ first ++ path_field path →
+    third ≡ second ++ head_field (Some head) → new ≡ third ++ codes "\"value\":" → ending ≡ codes "}" → IsBegun path (Some head) old new ending
+begun_headed path head old first second third new ending a b h c d =
+    let its = head_field (Some head) in
+    let begun = in_fields_begun (path_field path ++ its) old first third new a
+    (h ∙ ap (λ l. l ++ its) b ∙ append_assoc first (path_field path) its) c in
+    (begun.0, begun.1, λ text. fields_of path text ∙ begun.2 text ∙ ap (λ l. begun.0 ++ (text ++ l)) (sym d))
+  where
+    fields_of : (path text : List ℕ) → wrapped path (Some head) text ≡ in_fields (path_field path ++ head_field (Some head)) text
+    fields_of [] text = refl
+    fields_of (x ∷ xs) text = refl
+
+pub no_path_added : (path old : List ℕ) → length path ≡ 0 → old ≡ old ++ path_field path
+no_path_added [] old e = sym (append-nil old)
+no_path_added (x ∷ xs) old e = absurd (omega (arith, e))
+
+pub head_added : (head old first second new : List ℕ) → first ≡ old ++ codes "\"head\":" → second ≡ first ++ head → new ≡ second ++ codes "," →
+    new ≡ old ++ head_field (Some head)
+head_added head old first second new a b c =
+    let name = codes "\"head\":" in
+    c ∙ ap (λ l. l ++ codes ",") (b ∙ ap (λ l. l ++ head) a) ∙ append_assoc (old ++ name) head (codes ",") ∙ append_assoc old name (head ++ codes ",")
+
+-- one line more
+pub texts_push : (IsText : Tree → List ℕ → Type 0) (vs : Trees) (v : Tree) (out text : List ℕ) → AreTexts IsText vs out → IsText v text →
+    AreTexts IsText (join_members vs (member v no_trees)) (out ++ (text ++ 10 ∷ []))
+texts_push IsText no_trees v out text e t = (text, [], ap (λ l. l ++ (text ++ 10 ∷ [])) e, t, refl)
+texts_push IsText (member w vs) v out text h t =
+    let more = text ++ 10 ∷ [] in
+    (h.0, h.1 ++ more, ap (λ l. l ++ more) h.2 ∙ append_assoc h.0 (10 ∷ h.1) more, h.3, texts_push IsText vs v h.1 text h.4 t)
 
 -- the front is passed
 pub front_passed : (input first left rest : List ℕ) → input ≡ first ++ left → rest ≡ rest_of left → input ≡ (first ++ front_of left) ++ rest
@@ -60,34 +112,36 @@ front_passed input first left rest whole behind =
     ∙ ap (λ l. first ++ l) (sym (take-append-drop (extent (word_at left 0)) left) ∙ ap (λ l. front_of left ++ l) (sym behind))
     ∙ sym (append_assoc first (front_of left) rest)
 
-pub goes_on : (layout : Layout) (mark start left rest old out more text : List ℕ) (v : Tree) → PrintedSoFar layout mark start left old out → Begins left v →
-    rest ≡ rest_of left → more ≡ out ++ (mark ++ (text ++ 10 ∷ [])) → IsTextIn layout v text → PrintedSoFar layout mark start rest old more
-goes_on layout mark start left rest old out more text v so b behind e t = record {
-  first = so.first ++ front_of left;
-  values = join_members so.values (member v no_trees);
-  lines = so.lines ++ (mark ++ (text ++ 10 ∷ []));
-  whole = front_passed start so.first left rest so.whole behind;
-  members = members_push so.values v so.first (front_of left) so.members b.pod;
-  texts = texts_push layout mark so.values v so.lines text so.texts t;
-  made = e ∙ ap (λ l. l ++ (mark ++ (text ++ 10 ∷ []))) so.made ∙ append_assoc old so.lines (mark ++ (text ++ 10 ∷ []));
-}
+pub goes_on : (IsText : Tree → List ℕ → Type 0) (start left rest old out more : List ℕ) (v : Tree) → PrintedSoFar IsText start left old out →
+    Begins left v → rest ≡ rest_of left → AddsTextLine IsText v out more → PrintedSoFar IsText start rest old more
+goes_on IsText start left rest old out more v so b behind t =
+    let line = t.0 ++ 10 ∷ [] in
+    record {
+      first = so.first ++ front_of left;
+      values = join_members so.values (member v no_trees);
+      lines = so.lines ++ line;
+      whole = front_passed start so.first left rest so.whole behind;
+      members = members_push so.values v so.first (front_of left) so.members b.pod;
+      texts = texts_push IsText so.values v so.lines t.0 so.texts t.2;
+      made = t.1 ∙ ap (λ l. l ++ line) so.made ∙ append_assoc old so.lines line;
+    }
 
 pub empty : (xs : List ℕ) → length xs ≡ 0 → xs ≡ []
 empty [] e = refl
 empty (x ∷ xs) e = absurd (omega (arith, e))
 
-pub ends : (layout : Layout) (mark start left old out : List ℕ) → PrintedSoFar layout mark start left old out → length left ≡ 0 →
-    AddsTexts layout mark start old out
-ends layout mark start left old out so e =
+pub ends : (IsText : Tree → List ℕ → Type 0) (start left old out : List ℕ) → PrintedSoFar IsText start left old out → length left ≡ 0 →
+    AddsTexts IsText start old out
+ends IsText start left old out so e =
     let all : start ≡ so.first = so.whole ∙ ap (λ l. so.first ++ l) (empty left e) ∙ append-nil so.first in
     (so.values, so.lines, subst (AreMembers so.values) (sym all) so.members, so.texts, so.made)
 
-pub stops : (layout : Layout) (mark start left old out : List ℕ) (why : Failure) → PrintedSoFar layout mark start left old out →
+pub stops : (IsText : Tree → List ℕ → Type 0) (start left old out : List ℕ) (why : Failure) → PrintedSoFar IsText start left old out →
     ¬ (length left ≡ 0) → IsNoFront left why → IsStopped start why
-stops layout mark start left old out NoPods so some h = (left, (so.values, so.first, so.whole, so.members, λ d. some (ap length d)), h)
-stops layout mark start left old out (Line n c k w p m) so some h = absurd h
-stops layout mark start left old out OutOfMemory so some h = tt
-stops layout mark start left old out WriteFailed so some h = absurd h
+stops IsText start left old out NoPods so some h = (left, (so.values, so.first, so.whole, so.members, λ d. some (ap length d)), h)
+stops IsText start left old out (Line n c k w p m) so some h = absurd h
+stops IsText start left old out OutOfMemory so some h = tt
+stops IsText start left old out WriteFailed so some h = absurd h
 
 pub runs_out : (start : List ℕ) (why : Failure) → why ≡ OutOfMemory → IsStopped start why
 runs_out start why e = subst (IsStopped start) (sym e) tt
@@ -115,10 +169,10 @@ stops_whole input first left vs OutOfMemory whole members h = tt
 stops_whole input first left vs WriteFailed whole members h = absurd h
 
 -- all of an input
-pub prints_all : (layout : Layout) (mark input old out : List ℕ) → AddsTexts layout mark input old out → mark ≡ [] → old ≡ [] →
+pub prints_all : (layout : Layout) (path input old out : List ℕ) → AddsTexts (IsTextAt layout path) input old out → path ≡ [] → old ≡ [] →
     Prints layout input out
-prints_all layout mark input old out h m o =
-    (h.0, h.2, subst (AreTexts layout [] h.0) (sym (h.4 ∙ ap (λ l. l ++ h.1) o)) (subst (λ k. AreTexts layout k h.0 h.1) m h.3))
+prints_all layout path input old out h p o =
+    (h.0, h.2, subst (AreTexts (IsTextAt layout []) h.0) (sym (h.4 ∙ ap (λ l. l ++ h.1) o)) (subst (λ k. AreTexts (IsTextAt layout k) h.0 h.1) p h.3))
 
 pub refuses_all : (input : List ℕ) (why : Failure) → IsStopped input why → RefusesPods input why
 refuses_all input why h = stops_whole input [] input no_trees why refl refl h

@@ -1,6 +1,5 @@
 -- Lines of digits, read byte by byte.
-use Rattle.std.proofs.Common.{◌≡◌, ◌≢◌, ◌≤◌, ◌<◌, ℕ, ◌+◌, ◌-◌, ◌*◌, List, [], ◌∷◌, ◌++◌, refl, sym, arith, length, take, drop, ◌∙◌, ap, subst, length-append, append_assoc, append-nil, length-drop}
-use Rattle.std.proofs.lemmas.Bool.Decides.{nat_tests}
+use Rattle.std.proofs.Common.{◌≡◌, ◌≢◌, ◌≤◌, ◌<◌, ℕ, ◌+◌, ◌-◌, ◌*◌, List, [], ◌∷◌, ◌++◌, refl, sym, arith, length, drop, ◌∙◌, ap, subst, append_assoc, append-nil, length-drop}
 use Rattle.std.specs.Prelude.{Bool, true, false, ◌==◌, ◌&&◌, if◌then◌else◌, Option, Some, None, is_none, is_some}
 use Rattle.hex.specs.Hex.{hex_digit_value}
 use Rattle.spa_text_commands.specs.Texts.{is_space}
@@ -8,63 +7,10 @@ use Rattle.spa_text_commands.specs.Hexadecimal.{BeginLines, ReadsHexadecimal, Re
 use Rattle.spa_text_commands.specs.ReadingHexadecimal.{IsLineAt, IsNext, SaysMore}
 use Rattle.spa_text_commands.specs.declared.answer.Failure.{Failure}
 use Rattle.spa_text_commands.specs.declared.answer.Failure.TheVariants.{NoPods, Line, OutOfMemory, WriteFailed}
-use Rattle.spa_text_commands.specs.declared.hexadecimal.Next.{Next}
 use Rattle.spa_text_commands.specs.declared.hexadecimal.Next.TheVariants.{End, Between, Byte, Other}
-use Rattle.spa_text_commands.proofs.Extents.{taken}
 use Rattle.spa_text_commands.proofs.PrintedPods.{empty}
 
 -- ---- The first line
-
-pub record LinePassed (bytes left : List ℕ) : Type 0 where
-  pub passed : List ℕ
-  pub whole : bytes ≡ passed ++ left
-  pub line : first_line bytes ≡ passed ++ first_line left
-  pub behind : behind_line bytes ≡ behind_line left
-
-feed_is : (x : ℕ) → x ≡ 10 → (x == 10) ≡ true
-feed_is x h = grind (arith, nat_tests)
-
-feed_not : (x : ℕ) → x ≢ 10 → (x == 10) ≡ false
-feed_not x h = grind (arith, nat_tests)
-
-pub no_byte_passed : (bytes : List ℕ) → LinePassed bytes bytes
-no_byte_passed bytes = record { passed = []; whole = refl; line = refl; behind = refl }
-
-pub byte_passed : (bytes left behind : List ℕ) (x : ℕ) → LinePassed bytes left → left ≡ x ∷ behind → x ≢ 10 → LinePassed bytes behind
-byte_passed bytes left behind x so e n =
-    let o = feed_not x n in
-    record {
-      passed = so.passed ++ x ∷ [];
-      whole = so.whole ∙ ap (λ l. so.passed ++ l) e ∙ sym (append_assoc so.passed (x ∷ []) behind);
-      line =
-          so.line
-          ∙ ap (λ l. so.passed ++ first_line l) e
-          ∙ ap (λ b. so.passed ++ (if b then [] else x ∷ first_line behind)) o
-          ∙ sym (append_assoc so.passed (x ∷ []) (first_line behind));
-      behind = so.behind ∙ ap behind_line e ∙ ap (λ b. if b then behind else behind_line behind) o;
-    }
-
-pub line_ended : (bytes left behind : List ℕ) (x k : ℕ) → LinePassed bytes left → left ≡ x ∷ behind → x ≡ 10 → k ≡ length bytes - length left →
-    (take k bytes ≡ first_line bytes) × (behind ≡ behind_line bytes)
-line_ended bytes left behind x k so e n at =
-    let o = feed_is x n in
-    let long = ap length so.whole ∙ length-append so.passed left in (
-      ap (take k) so.whole
-          ∙ taken so.passed left k (omega (arith, at, long))
-          ∙ sym (append-nil so.passed)
-          ∙ sym (so.line ∙ ap (λ l. so.passed ++ first_line l) e ∙ ap (λ b. so.passed ++ (if b then [] else x ∷ first_line behind)) o),
-      sym (so.behind ∙ ap behind_line e ∙ ap (λ b. if b then behind else behind_line behind) o),
-    )
-
-pub bytes_ended : (bytes left : List ℕ) → LinePassed bytes left → length left ≡ 0 → (bytes ≡ first_line bytes) × (left ≡ behind_line bytes)
-bytes_ended bytes left so e =
-    let none : left ≡ [] = empty left e in (
-      so.whole ∙ ap (λ l. so.passed ++ l) none ∙ sym (so.line ∙ ap (λ l. so.passed ++ first_line l) none),
-      none ∙ sym (so.behind ∙ ap behind_line none),
-    )
-
-pub left_short : (bytes left : List ℕ) → LinePassed bytes left → length left ≤ length bytes
-left_short bytes left so = let l = ap length so.whole ∙ length-append so.passed left in omega (arith, l)
 
 behind_by : (x : ℕ) (xs : List ℕ) (b : Bool) → (x == 10) ≡ b → length (behind_line xs) ≤ length xs → length (behind_line (x ∷ xs)) ≤ length xs
 behind_by x xs true e h = let l = ap (λ b. length (if b then xs else behind_line xs)) e in omega (arith, l)

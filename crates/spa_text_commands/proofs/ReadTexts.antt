@@ -13,7 +13,11 @@ use Rattle.spa_text_forms.specs.declared.form.Form.{Form}
 use Rattle.spa_text_forms.specs.declared.form.Form.TheVariants.{Named}
 use Rattle.spa_text_read.specs.declared.fitting.Strictness.{Strictness}
 use Rattle.spa_text_commands.specs.Texts.{BeginTexts, HasNoPod, IsRefusedAt, ReadsTexts, RefusesTexts, blank_line, nothing_read, one_text, pods_in}
-use Rattle.spa_text_commands.specs.Unread.{AddsText, AreUnwritable, IsFor, IsNoPod, IsNoText}
+use Rattle.spa_value.specs.View.{view}
+use Rattle.spa_text_commands.specs.Hexadecimal.{behind_line, first_line}
+use Rattle.spa_text_commands.specs.Unread.{AddsText, AreUnwritable, IsFor, IsFound, IsNoPod, IsNoText}
+use Rattle.spa_text_commands.specs.declared.reading.Found.{Found}
+use Rattle.spa_text_commands.specs.declared.reading.Found.TheVariants as found
 use Rattle.spa_text_commands.specs.declared.answer.Failure.{Failure}
 use Rattle.spa_text_commands.specs.declared.answer.Failure.TheVariants.{NoPods, Line, OutOfMemory, WriteFailed}
 use Rattle.spa_text_commands.specs.declared.reading.Unread.{Unread}
@@ -22,6 +26,7 @@ use Rattle.spa_text_read.specs.declared.cause.Cause.{Cause}
 use Rattle.spa_text_read.specs.declared.cause.Cause.TheVariants as cause
 use Rattle.spa_text_commands.proofs.Extents.{some_item, text_fits, whole_of}
 use Rattle.spa_text_commands.proofs.PrintedPods.{empty}
+use Rattle.spa_text_commands.proofs.WholeLines.{line_begins}
 
 -- ---- Values
 
@@ -156,3 +161,12 @@ no_value f line text c e h w = no_text f line (λ v t. h w v (subst (IsTextAs f 
 pub one_unwritable : (v : Tree) (u : Unread) → HasNul v ⊎ IsTooLarge v → AreUnwritable (member v no_trees) u
 one_unwritable v unread.OutOfMemory h = tt
 one_unwritable v (unread.For kind words offset path misfit) h = inl h
+
+-- ---- The first line
+
+-- where the first line was read, it is the first text
+pub found_begins : (f : Form) (left line others old new : List ℕ) (found : Found) → line ≡ first_line left → others ≡ behind_line left →
+    IsFound f line found old new → left ≢ [] → BeginsText left line others
+found_begins f left line others old new found.Added l o (inl a) some = line_begins f left line others l o (inl a.0) some
+found_begins f left line others old new found.Added l o (inr a) some = line_begins f left line others l o (inr (a.0, a.1)) some
+found_begins f left line others old new (found.Value v) l o a some = line_begins f left line others l o (inr (view v, a.0)) some

@@ -5,10 +5,12 @@ pub mod Extent
 pub mod Hexadecimal
 pub mod Naming
 pub mod Lines
+pub mod Params
 pub mod Parts
+pub mod Numbers
+pub mod Paths
 pub mod ReadingHexadecimal
 pub mod Selection
-pub mod Splitting
 pub mod Structs
 pub mod Texts
 pub mod Unread

@@ -1,5 +1,5 @@
 -- The lines of pods: docs/TEXT.md, "What `show` writes".
-use Rattle.std.specs.Prelude.{◌≡◌, ◌≢◌, ◌≤◌, ◌+◌, ◌⊎◌, ℕ, codes, List, [], ◌∷◌, ◌++◌, length}
+use Rattle.std.specs.Prelude.{◌≡◌, ◌≢◌, ◌≤◌, ◌+◌, ◌⊎◌, ℕ, codes, Bool, true, false, List, [], ◌∷◌, ◌++◌, None, length}
 use Rattle.std.specs.Fmt.{decimal}
 use Rattle.hex.specs.Hex.{encode_lower}
 use Rattle.json.specs.Ascii.{quote}
@@ -8,8 +8,9 @@ use Rattle.spa_format.specs.Tree.{Trees}
 use Rattle.spa_format.specs.Walk.{walk}
 use Rattle.spa_format.specs.Fixation.{walk_size}
 use Rattle.spa_text_commands.specs.Dump.{hex_lines}
+use Rattle.spa_text_commands.specs.Paths.{numbered}
 use Rattle.spa_text_commands.specs.Selection.{Part, selected}
-use Rattle.spa_text_commands.specs.Texts.{Prints}
+use Rattle.spa_text_commands.specs.Texts.{PrintsAt, wrapped}
 use Rattle.spa_text_commands.specs.declared.selection.Form.{Form}
 use Rattle.spa_text_commands.specs.declared.selection.Form.TheVariants as form
 use Rattle.spa_text_commands.specs.declared.selection.Printout.{Printout}
@@ -19,9 +20,9 @@ use Rattle.spa_text_commands.specs.declared.showing.Listed.{Listed}
 abbrev pub AreLines : List ℕ → Type 0
 AreLines out = (before : List ℕ) × (out ≡ before ++ (10 ∷ []))
 
--- the line before those of a pod, which so many pods and bytes of the input stand before: its number, and the byte where it begins
-abbrev pub head_line : (count place : ℕ) → List ℕ
-head_line count place = codes "pod " ++ (decimal (count + 1) ++ (codes ", byte " ++ (decimal place ++ 10 ∷ [])))
+-- the line before those of a pod: the number of the top-level pod, the steps from there, and the byte where it begins
+abbrev pub head_line : (count place : ℕ) → (path : List ℕ) → List ℕ
+head_line count place path = codes "pod " ++ (decimal (count + 1) ++ (path ++ (codes ", byte " ++ (decimal place ++ 10 ∷ []))))
 
 -- a pod that is accepted counts for none, and a refused one for one
 abbrev pub IsCounted : List ℕ → ℕ → Type 0
@@ -29,14 +30,21 @@ IsCounted p n = (((vs : Trees) × AreMembers vs p) × (n ≡ 0)) ⊎ (((vs : Tre
 
 -- the line with the pod's number and byte, and lines of what it is
 abbrev pub ArePodLines : Part → List ℕ → Type 0
-ArePodLines part out = (lines : List ℕ) × AreLines lines × (out ≡ head_line part.count part.place ++ lines)
+ArePodLines part out = (lines : List ℕ) × AreLines lines × (out ≡ head_line part.count part.place part.path ++ lines)
+
+-- pods themselves are printed, which are no lines
+abbrev pub is_pods : Form → Bool
+is_pods form.Pods = true
+is_pods _ = false
 
 -- what is printed of a pod in this form; the number says whether it is refused
 abbrev pub PrintsPart : Form → Part → (out : List ℕ) → (refused : ℕ) → Type 0
 PrintsPart form.Lines part out refused = ArePodLines part out
 PrintsPart form.LinesAndBytes part out refused = (lines : List ℕ) × ArePodLines part lines × (out ≡ lines ++ hex_lines part.place part.pod)
-PrintsPart (form.Text layout) part out refused = ((refused ≡ 0) × Prints layout part.pod out) ⊎ ((refused ≢ 0) × (out ≡ []))
-PrintsPart form.Bytes part out refused = out ≡ quote ∷ (encode_lower part.pod ++ (quote ∷ 10 ∷ []))
+PrintsPart (form.Text layout) part out refused =
+    ((refused ≡ 0) × PrintsAt layout (numbered part.count part.path) part.pod out) ⊎ ((refused ≢ 0) × (out ≡ []))
+PrintsPart form.Pods part out refused = out ≡ part.pod
+PrintsPart form.Bytes part out refused = out ≡ wrapped (numbered part.count part.path) None (quote ∷ (encode_lower part.pod ++ (quote ∷ []))) ++ 10 ∷ []
 
 -- what is printed of these pods, one behind another; so many of them are refused
 abbrev pub PrintsParts : Form → List Part → (out : List ℕ) → (refused : ℕ) → Type 0

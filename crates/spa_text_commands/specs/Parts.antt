@@ -4,7 +4,7 @@ use Rattle.std.proofs.lemmas.Bool.{cases_lt}
 use Rattle.std.proofs.lemmas.List.{drop-append-le, length-take-le, nil_from_length, take-append-le}
 use Rattle.spa_format.specs.Fixation.{walk_size}
 use Rattle.spa_format.specs.Front.{HasFront, front_of, rest_of}
-use Rattle.spa_format.specs.Tree.{Trees, no_trees, member, join_members}
+use Rattle.spa_format.specs.Tree.{Tree, Trees, no_trees, member, join_members}
 use Rattle.spa_format.specs.Walk.{walk}
 use Rattle.spa_format.specs.Words.{extent, word_at}
 use Rattle.spa_format.proofs.Sequences.{members_joined}
@@ -12,7 +12,7 @@ use Rattle.spa_format.proofs.WalkLemmas.{walk-end, walk-there}
 use Rattle.spa_format.proofs.WordLemmas.{word_at-append}
 use Rattle.spa_text_commands.specs.Lines.{PrintsParts, PrintsSelected}
 use Rattle.spa_text_commands.specs.Selection.{Part, selected, selected_of}
-use Rattle.spa_text_commands.specs.Texts.{AreTexts, Prints}
+use Rattle.spa_text_commands.specs.Texts.{AreTexts, IsTextAt, Prints}
 use Rattle.spa_text_commands.specs.declared.printing.Layout.{Layout}
 use Rattle.spa_text_commands.specs.declared.selection.Form.{Form}
 use Rattle.spa_text_commands.specs.declared.selection.Printout.{Printout}
@@ -20,15 +20,15 @@ use Rattle.spa_text_commands.specs.declared.selection.Selection.{Selection}
 
 -- ---- Texts
 
-texts_joined : (layout : Layout) (mark : List ℕ) (vs ws : Trees) (out more : List ℕ) → AreTexts layout mark vs out → AreTexts layout mark ws more →
-    AreTexts layout mark (join_members vs ws) (out ++ more)
-texts_joined layout mark no_trees ws out more h k = subst (AreTexts layout mark ws) (sym (ap (λ l. l ++ more) h)) k
-texts_joined layout mark (member v vs) ws out more h k = (
+texts_joined : (IsText : Tree → List ℕ → Type 0) (vs ws : Trees) (out more : List ℕ) → AreTexts IsText vs out → AreTexts IsText ws more →
+    AreTexts IsText (join_members vs ws) (out ++ more)
+texts_joined IsText no_trees ws out more h k = subst (AreTexts IsText ws) (sym (ap (λ l. l ++ more) h)) k
+texts_joined IsText (member v vs) ws out more h k = (
   h.0,
   h.1 ++ more,
-  ap (λ l. l ++ more) h.2 ∙ append_assoc mark (h.0 ++ 10 ∷ h.1) more ∙ ap (λ l. mark ++ l) (append_assoc h.0 (10 ∷ h.1) more),
+  ap (λ l. l ++ more) h.2 ∙ append_assoc h.0 (10 ∷ h.1) more,
   h.3,
-  texts_joined layout mark vs ws h.1 more h.4 k,
+  texts_joined IsText vs ws h.1 more h.4 k,
 )
 
 pub nothing_printed : (layout : Layout) → Prints layout [] []
@@ -37,7 +37,7 @@ nothing_printed layout = (no_trees, refl, refl)
 pub printed_more : (layout : Layout) (first others out more : List ℕ) → Prints layout first out → Prints layout others more →
     Prints layout (first ++ others) (out ++ more)
 printed_more layout first others out more h k =
-    (join_members h.0 k.0, members_joined h.0 k.0 first others h.1 k.1, texts_joined layout [] h.0 k.0 out more h.2 k.2)
+    (join_members h.0 k.0, members_joined h.0 k.0 first others h.1 k.1, texts_joined (IsTextAt layout []) h.0 k.0 out more h.2 k.2)
 
 -- ---- Lines
 

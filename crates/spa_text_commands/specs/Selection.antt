@@ -1,18 +1,17 @@
 -- Which pods of an input are printed, and which values of them: docs/TEXT.md, "A part of an input".
-use Rattle.std.specs.Prelude.{◌+◌, ◌-◌, ◌==◌, ◌&&◌, ◌||◌, ℕ, Bool, true, false, List, [], ◌∷◌, ◌++◌, Option, None, Some, is_some, length, drop, flat_map, slice_index, slice_index_or, if◌then◌else◌, nat_eq, nat_le}
+use Rattle.std.specs.Prelude.{◌+◌, ◌-◌, ◌==◌, ◌&&◌, ◌||◌, ℕ, Bool, true, false, List, [], ◌∷◌, ◌++◌, Option, None, Some, is_some, length, drop, slice_index, if◌then◌else◌, nat_eq}
 use Rattle.std.specs.Borrow.{Bor}
 use Rattle.std.specs.Fmt.{decimal}
 use Rattle.std.specs.List.{ends_with, list_any, slice_split}
 use Rattle.std.specs.Option.{option_map_or}
 use Rattle.std.specs.Str.{bytes_eq}
-use Rattle.spa_format.specs.Tree.{object_type}
 use Rattle.spa_events.specs.Events.{events_of}
 use Rattle.spa_events.specs.declared.event.Event.{Event}
 use Rattle.spa_format.specs.Walk.{walk}
-use Rattle.spa_format.specs.Words.{header_size, word_at}
 use Rattle.spa_names.specs.Lookup.{ids_of, keys_of, path_of}
 use Rattle.spa_names.specs.declared.table.Table.{Table}
 use Rattle.spa_names.specs.declared.table.Table.TheVariants.{Types}
+use Rattle.spa_text_commands.specs.Paths.{event_at, id_at, is_keyed, is_object_in, key_at, path_to, step_limit, type_at}
 use Rattle.spa_text_commands.specs.declared.selection.Selection.{Selection}
 
 -- the N-th top-level pod is selected by N, and each one without a number; so many stand before it
@@ -41,66 +40,65 @@ abbrev pub is_asked : Option (Bor (List ℕ)) → Table → (number : ℕ) → B
 is_asked None table number = true
 is_asked (Some names) table number = is_among table number names.now
 
--- the type of the object that begins at this byte, and its id, which stand behind its header
-abbrev pub type_at : (pod : List ℕ) → (at : ℕ) → ℕ
-type_at pod at = word_at pod (at + header_size)
-
-abbrev pub id_at : (pod : List ℕ) → (at : ℕ) → ℕ
-id_at pod at = word_at pod (at + header_size + 4)
-
 -- The event is of an object, whose type and id are there and have the names that are asked for.
 abbrev pub is_of : Selection → (pod : List ℕ) → Event → Bool
 is_of s pod object =
-    ((nat_eq object.type_ object_type && nat_le header_size object.size) && nat_le 16 (length pod - object.at))
+    is_object_in pod object
     && (is_asked s.type_ Types (type_at pod object.at) && is_asked s.id (ids_of (record { 0 = type_at pod object.at })) (id_at pod object.at))
 
 -- The pod at this byte stands in such an object, and has a key of these names before it, and flags.
 abbrev pub is_value_of : Selection → (names pod : List ℕ) → (object : Event) → (at : ℕ) → Bool
 is_value_of s names pod object at =
     is_of s pod object
-    && ((nat_le header_size at && nat_le at (length pod)) && is_among (keys_of (record { 0 = type_at pod object.at })) (word_at pod (at - header_size)) names)
+    && (is_keyed pod at && is_among (keys_of (record { 0 = type_at pod object.at })) (key_at pod at) names)
 
--- the event of the pod that this one stands in; a top-level one stands in none
-abbrev pub no_event : Event
-no_event = record { type_ = 0; size = 0; depth = 0; at = 0; parent = 0 }
-
-abbrev pub holder_of : List Event → Event → Event
-holder_of events event = slice_index_or events event.parent no_event
-
--- a pod that is printed: how many top-level pods stand before it, or before the object that it is in; the byte where it begins; its bytes
+-- a pod that is printed: how many top-level pods stand before it, or before the one that it is in; the byte where it begins; the steps to it, which a
+-- top-level one has none of; its bytes
 pub record Part : Type 0 where
   pub count : ℕ
   pub place : ℕ
+  pub path : List ℕ
   pub pod : List ℕ
 
-abbrev pub part_of : (count place : ℕ) → (pod : List ℕ) → Part
-part_of count place pod = record { count = count; place = place; pod = pod }
+abbrev pub part_of : (count place : ℕ) → (path pod : List ℕ) → Part
+part_of count place path pod = record { count = count; place = place; path = path; pod = pod }
 
 -- the pod that begins at this byte, where a whole one does
-abbrev pub first_part : (count place : ℕ) → List (List ℕ) → List Part
-first_part count place [] = []
-first_part count place (p ∷ ps) = part_of count place p ∷ []
+abbrev pub first_part : (count place : ℕ) → (path : List ℕ) → List (List ℕ) → List Part
+first_part count place path [] = []
+first_part count place path (p ∷ ps) = part_of count place path p ∷ []
 
 -- what is looked for: the values under keys, or without one the objects themselves
 abbrev pub is_found : Option (Bor (List ℕ)) → Selection → (pod : List ℕ) → List Event → Event → Bool
 is_found None s pod events event = is_of s pod event
-is_found (Some names) s pod events event = is_value_of s names.now pod (holder_of events event) event.at
+is_found (Some names) s pod events event = is_value_of s names.now pod (event_at events event.parent) event.at
 
--- the pod of an event, where it is looked for
-abbrev pub found_at : Selection → (count place : ℕ) → (pod : List ℕ) → List Event → Event → List Part
-found_at s count place pod events event =
-    if is_found s.key s pod events event then first_part count (place + event.at) (walk (drop event.at pod)) else []
+-- or the pod at this path, where one is given
+abbrev pub is_sought : Option (Bor (List ℕ)) → Selection → (count : ℕ) → (pod : List ℕ) → List Event → (number : ℕ) → Event → Bool
+is_sought None s count pod events number event = is_found s.key s pod events event
+is_sought (Some path) s count pod events number event = bytes_eq (decimal (count + 1) ++ path_to step_limit events pod number) path.now
+
+-- the pod of the event of this number, where it is looked for
+abbrev pub found_at : Selection → (count place : ℕ) → (pod : List ℕ) → List Event → (number : ℕ) → Event → List Part
+found_at s count place pod events number event =
+    if is_sought s.path s count pod events number event
+    then first_part count (place + event.at) (path_to step_limit events pod number) (walk (drop event.at pod)) else []
+
+-- those of these events, the first of which has this number
+abbrev pub found_from : Selection → (count place : ℕ) → (pod : List ℕ) → List Event → (number : ℕ) → List Event → List Part
+found_from s count place pod events number [] = []
+found_from s count place pod events number (e ∷ es) = found_at s count place pod events number e ++ found_from s count place pod events (number + 1) es
 
 -- what is looked for in a pod, at any depth of structs and objects, in the order in which it stands
 abbrev pub found_in : Selection → (count place : ℕ) → (pod : List ℕ) → List Part
-found_in s count place pod = flat_map (found_at s count place pod (events_of pod)) (events_of pod)
+found_in s count place pod = found_from s count place pod (events_of pod) 0 (events_of pod)
 
 -- what is printed of a top-level pod, which so many pods and bytes stand before: itself, or what is looked for in it; nothing where it isn't selected
 abbrev pub looks_inside : Selection → Bool
-looks_inside s = is_some s.key || (is_some s.type_ || is_some s.id)
+looks_inside s = is_some s.path || (is_some s.key || (is_some s.type_ || is_some s.id))
 
 abbrev pub parts_of : Selection → (count place : ℕ) → (pod : List ℕ) → List Part
-parts_of s count place pod = if looks_inside s then found_in s count place pod else part_of count place pod ∷ []
+parts_of s count place pod = if looks_inside s then found_in s count place pod else part_of count place [] pod ∷ []
 
 abbrev pub selected_of : Selection → (count place : ℕ) → (pod : List ℕ) → List Part
 selected_of s count place pod = if is_selected s.nth count then parts_of s count place pod else []

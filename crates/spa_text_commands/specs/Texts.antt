@@ -1,9 +1,9 @@
 -- Pods as lines of text: docs/TEXT.md, "The grammar".
-use Rattle.std.specs.Prelude.{◌≡◌, ◌⊎◌, ◌==◌, ◌||◌, ⊤, ℕ, Bool, true, List, [], ◌∷◌, ◌++◌}
+use Rattle.std.specs.Prelude.{◌≡◌, ◌⊎◌, ◌==◌, ◌||◌, ⊤, ℕ, codes, Bool, true, List, [], ◌∷◌, ◌++◌, Option, None, Some}
 use Rattle.std.specs.List.{list_all}
 use Rattle.std.specs.Str.{IsUtf8}
 use Rattle.json.specs.Lex.{tokens}
-use Rattle.spa_format.specs.Tree.{Tree, struct, Trees, no_trees, member, join_members}
+use Rattle.spa_format.specs.Tree.{Tree, string, struct, Trees, no_trees, member, join_members}
 use Rattle.spa_format.specs.Pod.{AreMembers}
 use Rattle.spa_format.specs.Encoding.{member_encodings}
 use Rattle.spa_format.specs.Front.{IsRefused}
@@ -26,15 +26,48 @@ abbrev pub IsTextIn : Layout → Tree → List ℕ → Type 0
 IsTextIn OneLine v text = IsTextOf v text × HasNoEnd text
 IsTextIn Indented v text = IsTextOf v text × (text ≡ indented (tokens text))
 
--- a text in this layout behind this mark for each of these values, in order, and the end of its last line
-abbrev pub AreTexts : Layout → (mark : List ℕ) → Trees → List ℕ → Type 0
-AreTexts layout mark no_trees out = out ≡ []
-AreTexts layout mark (member v vs) out =
-    (text : List ℕ) × (others : List ℕ) × (out ≡ mark ++ (text ++ 10 ∷ others)) × IsTextIn layout v text × AreTexts layout mark vs others
+-- the fields before a value's text: the path to it, where it isn't a top-level pod, and the head of the recorded message that it is or is in, if it is so
+abbrev pub path_field : List ℕ → List ℕ
+path_field [] = []
+path_field (x ∷ xs) = codes "\"path\":\"" ++ ((x ∷ xs) ++ codes "\",")
 
--- a text for each pod that the input consists of
+abbrev pub head_field : Option (List ℕ) → List ℕ
+head_field None = []
+head_field (Some head) = codes "\"head\":" ++ (head ++ codes ",")
+
+-- a value's text in an object behind these fields
+abbrev pub in_fields : (fields text : List ℕ) → List ℕ
+in_fields fields text = codes "{" ++ (fields ++ (codes "\"value\":" ++ (text ++ codes "}")))
+
+-- a value's text behind its path and its head; alone where it has neither
+abbrev pub wrapped : (path : List ℕ) → (head : Option (List ℕ)) → (text : List ℕ) → List ℕ
+wrapped [] None text = text
+wrapped [] (Some head) text = in_fields (head_field (Some head)) text
+wrapped (x ∷ xs) head text = in_fields (path_field (x ∷ xs) ++ head_field head) text
+
+-- a head is written as a string of JSON
+abbrev pub IsHead : Option (List ℕ) → Type 0
+IsHead None = ⊤
+IsHead (Some head) = (words : List ℕ) × IsTextIn OneLine (string words) head
+
+-- the text of a value at this path
+abbrev pub IsTextAt : Layout → (path : List ℕ) → Tree → List ℕ → Type 0
+IsTextAt layout path v out =
+    (text : List ℕ) × (head : Option (List ℕ)) × (out ≡ wrapped path head text) × IsHead head × IsTextIn layout v text
+
+-- such a text for each of these values, in order, and the end of its last line
+abbrev pub AreTexts : (IsText : Tree → List ℕ → Type 0) → Trees → List ℕ → Type 0
+AreTexts IsText no_trees out = out ≡ []
+AreTexts IsText (member v vs) out =
+    (text : List ℕ) × (others : List ℕ) × (out ≡ text ++ 10 ∷ others) × IsText v text × AreTexts IsText vs others
+
+-- a text for each pod that the input consists of, where these stand at this path
+abbrev pub PrintsAt : Layout → (path input out : List ℕ) → Type 0
+PrintsAt layout path input out = (vs : Trees) × AreMembers vs input × AreTexts (IsTextAt layout path) vs out
+
+-- a text for each top-level pod
 abbrev pub Prints : Layout → List ℕ → List ℕ → Type 0
-Prints layout input out = (vs : Trees) × AreMembers vs input × AreTexts layout [] vs out
+Prints layout input out = PrintsAt layout [] input out
 
 -- nothing but white space
 abbrev pub is_space : ℕ → Bool

@@ -2,7 +2,10 @@
 ghost use Rattle.std.specs.Prelude.{◌≡◌, ◌≢◌, ◌+◌, ◌<◌, ◌≤◌, ◌^◌, ◌&&◌, ◌==◌, [], length};
 ghost use Rattle.spa_text_commands.specs.Extent as spec;
 ghost use Rattle.spa_text_commands.specs.Extent.{BeginsText, column_behind, line_behind};
+ghost use Rattle.spa_text_commands.specs.Hexadecimal.{behind_line, first_line};
 ghost use Rattle.spa_text_commands.specs.Unread.{place_of};
+
+use memchr::memchr;
 
 /// Where a byte of a text stands.
 #[derive(Clone, Copy)]
@@ -114,6 +117,18 @@ pub(crate) fn split_text(bytes: &[u8]) -> (&[u8], &[u8])
         left = behind;
     }
     (bytes, left)
+}
+
+/// The first line, without its line feed, and what follows that.
+#[tactic(auto, using(crate::proofs::FirstLine::line_found, crate::proofs::FirstLine::no_line_found))]
+pub(crate) fn split_line(bytes: &[u8]) -> (&[u8], &[u8])
+    ensures line { result.0.now ≡ first_line bytes.now }
+    ensures behind { result.1.now ≡ behind_line bytes.now }
+{
+    match memchr(b'\n', bytes) {
+        Some(at) => (&bytes[..at], &bytes[at + 1..]),
+        None => (bytes, &[]),
+    }
 }
 
 /// The line and the column behind these bytes, which begin with this line.

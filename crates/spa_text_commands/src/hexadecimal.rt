@@ -7,6 +7,7 @@ ghost use Rattle.spa_text_commands.specs.ReadingHexadecimal.{IsLineAt, IsNext, S
 ghost use Rattle.spa_text_commands.specs.Texts as texts;
 
 use crate::answer::Failure;
+use crate::extent::split_line;
 use std::alloc::{AllocError, Global};
 
 /// The fewest digits of an offset without a colon.
@@ -44,22 +45,6 @@ fn first_has_offset(input: &[u8]) -> bool
     let (line, _) = split_line(input);
     let row = behind_space(line);
     begins_with_offset(row) && digit_count(behind_space(behind_digits(row))) == 2
-}
-
-/// The first line, without its line feed, and what follows that.
-#[tactic(auto, using(crate::proofs::ReadHexadecimal::left_short, crate::proofs::ReadHexadecimal::no_byte_passed, crate::proofs::ReadHexadecimal::byte_passed, crate::proofs::ReadHexadecimal::line_ended, crate::proofs::ReadHexadecimal::bytes_ended))]
-fn split_line(bytes: &[u8]) -> (&[u8], &[u8])
-    ensures line { result.0.now ≡ first_line bytes.now }
-    ensures behind { result.1.now ≡ behind_line bytes.now }
-{
-    let mut left = bytes;
-    while let Some((byte, behind)) = left.split_first() {
-        if *byte == b'\n' {
-            return (&bytes[..bytes.len() - left.len()], behind);
-        }
-        left = behind;
-    }
-    (bytes, left)
 }
 
 /// What follows white space.

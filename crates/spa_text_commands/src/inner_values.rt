@@ -1,16 +1,19 @@
 //! What is looked for in a pod, at any depth: values under keys, objects.
-ghost use Rattle.std.specs.Prelude.{◌≡◌, ◌≤◌, ◌+◌, ◌<◌, ◌^◌, ◌&&◌, IfNone, IfOk, IfSome, drop, length, nat_eq, nat_le};
+ghost use Rattle.std.specs.Prelude.{◌≡◌, ◌≤◌, ◌+◌, ◌<◌, ◌^◌, IfNone, IfOk, IfSome, drop, length};
 ghost use Rattle.spa_events.specs.Events.{events_of};
 ghost use Rattle.spa_format.specs.Front.{HasFront, front_of};
-ghost use Rattle.spa_format.specs.Tree.{object_type};
-ghost use Rattle.spa_format.specs.Words.{header_size};
 ghost use Rattle.spa_text_commands.specs.Lines.{AddsParts};
+ghost use Rattle.spa_text_commands.specs.Numbers.{AreNumbers};
+ghost use Rattle.spa_text_commands.specs.Paths as in_list;
 ghost use Rattle.spa_text_commands.specs.Selection as spec;
 ghost use Rattle.spa_text_commands.specs.Selection.{found_at, found_in};
 ghost use Rattle.spa_view.specs.View.{pod_bytes};
 
 use crate::listing::add_part;
 use crate::page::Page;
+use crate::paths::{
+    OBJECT_LEN, STEP_LIMIT, event_at, is_keyed, is_object_in, numbers_of, put_path,
+};
 use crate::selection::{Printout, Selection, is_among, is_asked};
 use spa_bytes::{HEADER_LEN, SECOND_WORD, u32_at};
 use spa_events::{Event, NO_PARENT, laws, list_events};
@@ -18,9 +21,7 @@ use spa_names::{Table, expected_under, ids_of, keys_of};
 use spa_utils::SpaTypes;
 use spa_view::{Pod, split_first, whole_bytes};
 use std::alloc::{AllocError, Global};
-
-/// How many bytes the header, the type and the id of an object take.
-const OBJECT_LEN: usize = 16;
+use std::fmt::Write;
 
 /// Adds what is printed of what is looked for in the pod, which so many pods and bytes of the input stand before, and answers how many of those are
 /// refused.
@@ -42,10 +43,12 @@ pub(crate) fn add_found(
     let bytes = whole_bytes(&pod);
     let listed = list_inside(alloc, bytes)?;
     let events = listed.as_slice();
+    let numbered = numbers_of(alloc, events)?;
+    let numbers = numbered.as_slice();
     let mut refused: usize = 0;
-    for event in events {
+    for number in 0..events.len() {
         refused += add_if_found(
-            alloc, page, printout, bytes, events, *event, count, place, pod,
+            alloc, page, printout, bytes, events, numbers, number, count, place, pod,
         )?;
     }
     Ok(refused)
@@ -73,32 +76,50 @@ fn list_inside(alloc: Global, pod: &[u8]) -> Result<Vec<Event>, AllocError>
     Ok(events)
 }
 
-/// Adds what is printed of the pod of this event inside a top-level one, where it is looked for, and answers how many pods are refused: it or none.
+/// Adds what is printed of the pod of the event of this number inside a top-level one, where it is looked for, and answers how many pods are refused:
+/// it or none.
 fn add_if_found(
     alloc: Global,
     page: &mut Page,
     printout: Printout<'_>,
     bytes: &[u8],
     events: &[Event],
-    event: Event,
+    numbers: &[usize],
+    number: usize,
     count: usize,
     place: usize,
     outer: Pod<'_>,
 ) -> Result<usize, AllocError>
+    requires numbers { AreNumbers events.now numbers.now }
+    requires number { number < length events.now }
     requires count { count + 1 < 2 ^ 64 }
     requires place { place + length bytes.now < 2 ^ 64 }
     ensures added { IfOk result
-        (AddsParts printout.entry.form (found_at printout.entry.selection count place bytes.now events.now event)
+        (AddsParts printout.entry.form
+        (found_at printout.entry.selection count place bytes.now events.now number (in_list.event_at events.now number))
         page.old.lines.items page.new.lines.items) }
     ensures few { IfOk result (λ refused. refused ≤ 1) }
 {
-    if !is_found(bytes, printout.selection, events, event) {
+    let event = event_at(events, number);
+    let sought = is_sought(
+        alloc,
+        bytes,
+        printout.selection,
+        count,
+        events,
+        numbers,
+        number,
+        event,
+    )?;
+    if !sought {
         return Ok(0);
     }
     let Some(value) = pod_at(bytes, event.at) else {
         return Ok(0);
     };
-    let ids = ids_at(bytes, holder_of(events, event), event.at);
+    let ids = ids_at(bytes, event_at(events, event.parent), event.at);
+    let mut path = String::new(alloc);
+    put_path(&mut path, STEP_LIMIT, bytes, events, numbers, number)?;
     add_part(
         alloc,
         page,
@@ -107,32 +128,48 @@ fn add_if_found(
         ids,
         count,
         place + event.at,
+        path.as_str(),
         outer,
     )
 }
 
-/// The event of the pod that the one of this event stands in; one of no pod where it stands in none.
-fn holder_of(events: &[Event], event: Event) -> Event
-    ensures { result ≡ spec.holder_of events.now event }
+/// Whether the pod of the event of this number is looked for.
+fn is_sought(
+    alloc: Global,
+    bytes: &[u8],
+    selection: Selection<'_>,
+    count: usize,
+    events: &[Event],
+    numbers: &[usize],
+    number: usize,
+    event: Event,
+) -> Result<bool, AllocError>
+    requires count { count + 1 < 2 ^ 64 }
+    requires numbers { AreNumbers events.now numbers.now }
+    requires number { number < length events.now }
+    ensures { IfOk result (λ is. is ≡ spec.is_sought selection.entry.path selection.entry count bytes.now events.now number event) }
 {
-    if event.parent < events.len() {
-        return events[event.parent];
-    }
-    Event {
-        type_: 0,
-        size: 0,
-        depth: 0,
-        at: 0,
-        parent: 0,
-    }
+    let Some(wanted) = selection.path else {
+        return Ok(is_found(bytes, selection, events, event));
+    };
+    let mut path = String::new(alloc);
+    write!(path, "{}", count + 1)?;
+    put_path(&mut path, STEP_LIMIT, bytes, events, numbers, number)?;
+    Ok(path.as_str() == wanted)
 }
 
-/// Whether the pod of this event is looked for.
+/// Whether the pod of this event is looked for, without a path.
 fn is_found(bytes: &[u8], selection: Selection<'_>, events: &[Event], event: Event) -> bool
     ensures { result ≡ spec.is_found selection.entry.key selection.entry bytes.now events.now event }
 {
     match selection.key {
-        Some(names) => is_value_of(bytes, selection, names, holder_of(events, event), event.at),
+        Some(names) => is_value_of(
+            bytes,
+            selection,
+            names,
+            event_at(events, event.parent),
+            event.at,
+        ),
         None => is_of(bytes, selection, event),
     }
 }
@@ -141,20 +178,13 @@ fn is_found(bytes: &[u8], selection: Selection<'_>, events: &[Event], event: Eve
 fn is_of(bytes: &[u8], selection: Selection<'_>, object: Event) -> bool
     ensures { result ≡ spec.is_of selection.entry bytes.now object }
 {
-    if !(is_object(object) && OBJECT_LEN <= bytes.len().saturating_sub(object.at)) {
+    if !is_object_in(bytes, object) {
         return false;
     }
     let type_ = u32_at(bytes, object.at + HEADER_LEN);
     let id = u32_at(bytes, object.at + HEADER_LEN + SECOND_WORD);
     is_asked(selection.type_, Table::Types, type_)
         && is_asked(selection.id, ids_of(SpaTypes(type_)), id)
-}
-
-/// Whether the event is of an object that has room for its type and id.
-fn is_object(event: Event) -> bool
-    ensures { result ≡ (nat_eq event.type_ object_type && nat_le header_size event.size) }
-{
-    event.type_ == SpaTypes::Object.0 && HEADER_LEN <= event.size as usize
 }
 
 /// Whether the pod at this byte stands in such an object, under a key of these names.
@@ -168,8 +198,7 @@ fn is_value_of(
     ensures { result ≡ spec.is_value_of selection.entry names.now bytes.now object at }
 {
     is_of(bytes, selection, object)
-        && HEADER_LEN <= at
-        && at <= bytes.len()
+        && is_keyed(bytes, at)
         && is_among(
             keys_of(SpaTypes(u32_at(bytes, object.at + HEADER_LEN))),
             u32_at(bytes, at - HEADER_LEN),

@@ -1,11 +1,12 @@
 //! Pods shown: a line for each value, each key and each sixteen bytes.
-ghost use Rattle.std.specs.Prelude.{◌≡◌, ◌≤◌, ◌+◌, ◌<◌, ◌^◌, ◌∷◌, ◌++◌, [], IfNone, IfOk, IfSome, List, ℕ, OnOk, if◌then◌else◌, is_some, length};
+ghost use Rattle.std.specs.Prelude.{◌≡◌, ◌≤◌, ◌+◌, ◌<◌, ◌^◌, ◌∷◌, ◌++◌, [], IfNone, IfOk, IfSome, None, OnOk, if◌then◌else◌, is_some, length};
 ghost use Rattle.hex.specs.Hex.{encode_lower};
 ghost use Rattle.json.specs.Ascii.{quote};
 ghost use Rattle.spa_format.specs.Pod.{AreMembers};
 ghost use Rattle.spa_format.specs.Tree.{Trees};
 ghost use Rattle.spa_text_commands.specs.Lines.{Adds, AddsPart, AddsParts, AddsPodLines, MayAdd};
 ghost use Rattle.spa_text_commands.specs.Selection.{part_of, selected_of};
+ghost use Rattle.spa_text_commands.specs.Texts.{IsTextAt, wrapped};
 ghost use Rattle.spa_text_commands.specs.Unread.{AddsTexts};
 ghost use Rattle.spa_view.specs.View.{pod_bytes};
 
@@ -16,7 +17,8 @@ use crate::lines::{put_indent, put_label, put_refusal, put_rest, put_value};
 use crate::message::{head_of, put_head};
 use crate::page::Page;
 use crate::parts::{Parts, Shown};
-use crate::printing::{Layout, add_texts};
+use crate::paths::numbered;
+use crate::printing::{Layout, add_texts, begin_at};
 use crate::selection::{Form, Printout};
 use spa_fixed_sized::DeserializeError;
 use spa_names::Table;
@@ -71,12 +73,13 @@ pub(crate) fn add_selected(
         Table::Nothing,
         count,
         place,
+        "",
         pod,
     )
 }
 
-/// Adds what is printed of a pod, which so many pods and bytes of the input stand before, where ids have these names and which is in this top-level
-/// one, and answers 1 where it is refused, else 0.
+/// Adds what is printed of a pod, which so many pods and bytes of the input stand before, where ids have these names, and to which these steps lead in
+/// this top-level one, and answers 1 where it is refused, else 0.
 pub(crate) fn add_part(
     alloc: Global,
     page: &mut Page,
@@ -85,19 +88,20 @@ pub(crate) fn add_part(
     ids: Table,
     count: usize,
     place: usize,
+    path: &str,
     outer: Pod<'_>,
 ) -> Result<usize, AllocError>
     requires count { count + 1 < 2 ^ 64 }
     requires place { place + length (pod_bytes pod) < 2 ^ 64 }
     ensures added { IfOk result
-        (AddsParts form (part_of count place (pod_bytes pod.entry) ∷ [])
+        (AddsParts form (part_of count place path.now (pod_bytes pod.entry) ∷ [])
         page.old.lines.items page.new.lines.items) }
     ensures few { IfOk result (λ refused. refused ≤ 1) }
 {
     let refusal = refusal_of(alloc, pod)?;
     let refused = count_of(refusal);
     print_part(
-        alloc, page, form, pod, ids, refusal, refused, count, place, outer,
+        alloc, page, form, pod, ids, refusal, refused, count, place, path, outer,
     )?;
     Ok(refused)
 }
@@ -113,27 +117,33 @@ fn print_part(
     refused: usize,
     count: usize,
     place: usize,
+    path: &str,
     outer: Pod<'_>,
 ) -> Result<(), AllocError>
     requires count { count + 1 < 2 ^ 64 }
     requires place { place + length (pod_bytes pod) < 2 ^ 64 }
     ensures { OnOk result
-        (AddsPart form (part_of count place (pod_bytes pod.entry)) refused
+        (AddsPart form (part_of count place path.now (pod_bytes pod.entry)) refused
         page.old.lines.items page.new.lines.items) }
 {
     match form {
-        Form::Lines => list(alloc, page, pod, ids, refusal, count, place, outer),
+        Form::Lines => list(alloc, page, pod, ids, refusal, count, place, path, outer),
         Form::LinesAndBytes => {
-            list(alloc, page, pod, ids, refusal, count, place, outer)?;
+            list(alloc, page, pod, ids, refusal, count, place, path, outer)?;
             add_rows(&mut page.lines, place, whole_bytes(&pod))
         }
         Form::Text(layout) => {
             if refused > 0 {
                 return Ok(());
             }
-            add_pod_text(alloc, &mut page.lines, layout, pod)
+            let path = numbered(alloc, count, path)?;
+            add_pod_text(alloc, &mut page.lines, layout, path.as_str(), outer, pod)
         }
-        Form::Bytes => add_string(&mut page.lines, whole_bytes(&pod)),
+        Form::Pods => page.lines.extend_from_slice(whole_bytes(&pod)),
+        Form::Bytes => {
+            let path = numbered(alloc, count, path)?;
+            add_string(&mut page.lines, path.as_str(), whole_bytes(&pod))
+        }
     }
 }
 
@@ -147,30 +157,37 @@ fn count_of(refusal: Option<&'static str>) -> usize
     }
 }
 
-/// Adds the text of an accepted pod.
+/// Adds the text of an accepted pod, which stands at this path in this top-level one.
 fn add_pod_text(
     alloc: Global,
     lines: &mut Vec<u8>,
     layout: Layout,
+    path: &str,
+    outer: Pod<'_>,
     pod: Pod<'_>,
 ) -> Result<(), AllocError>
-    ensures { OnOk result (AddsTexts layout [] (pod_bytes pod.entry) lines.old.items lines.new.items) }
+    ensures { OnOk result
+        (AddsTexts (IsTextAt layout path.now) (pod_bytes pod.entry) lines.old.items lines.new.items) }
 {
     // What is accepted isn't printed for lack of memory alone.
-    match add_texts(alloc, layout, "", whole_bytes(&pod), lines) {
+    match add_texts(alloc, layout, path, Some(outer), whole_bytes(&pod), lines) {
         Ok(()) => Ok(()),
         Err(_) => Err(AllocError),
     }
 }
 
-/// Adds bytes as a JSON string of their hex digits, on a line.
-fn add_string(lines: &mut Vec<u8>, bytes: &[u8]) -> Result<(), AllocError>
-    ensures { OnOk result
-        (lines.new.items ≡ lines.old.items ++ (quote ∷ (encode_lower bytes.now ++ (quote ∷ 10 ∷ [])))) }
+/// Adds bytes, which stand at this path, as a JSON string of their hex digits, on a line.
+fn add_string(lines: &mut Vec<u8>, path: &str, bytes: &[u8]) -> Result<(), AllocError>
+    ensures { OnOk result (lines.new.items
+        ≡ lines.old.items ++ (wrapped path.now None (quote ∷ (encode_lower bytes.now ++ (quote ∷ []))) ++ 10 ∷ [])) }
 {
+    let ending = begin_at(lines, path)?;
     lines.push(b'"')?;
     add_hex(lines, bytes)?;
-    lines.extend_from_slice(b"\"\n")
+    lines.push(b'"')?;
+    lines.extend_from_slice(ending.as_bytes())?;
+    lines.push(b'\n')?;
+    Ok(())
 }
 
 /// Adds the lines of one pod: the line that counts it and gives its byte, the head of the message that it is in, the reason why it is refused, where
@@ -183,11 +200,12 @@ fn list(
     refusal: Option<&'static str>,
     count: usize,
     place: usize,
+    path: &str,
     outer: Pod<'_>,
 ) -> Result<(), AllocError>
     requires { count + 1 < 2 ^ 64 }
     ensures { OnOk result
-        (AddsPodLines (part_of count place (pod_bytes pod.entry))
+        (AddsPodLines (part_of count place path.now (pod_bytes pod.entry))
         page.old.lines.items page.new.lines.items) }
 {
     let levels = Vec::new(alloc);
@@ -196,7 +214,7 @@ fn list(
         refusal,
         alloc,
     };
-    page.add_head(count, place)?;
+    page.add_head(count, place, path)?;
     listing.add_pod(page, Shown::of_pod(pod, ids), place, outer)
 }
 

@@ -24,13 +24,18 @@ impl Page {
         }
     }
 
-    /// Adds the line before those of a pod, which so many pods and bytes of the input stand before.
-    pub(crate) fn add_head(&mut self, count: usize, place: usize) -> Result<(), AllocError>
+    /// Adds the line before those of a pod, to which these steps lead from the top-level one that so many stand before, and which begins at this byte.
+    pub(crate) fn add_head(
+        &mut self,
+        count: usize,
+        place: usize,
+        path: &str,
+    ) -> Result<(), AllocError>
         requires { count + 1 < 2 ^ 64 }
-        ensures { OnOk result (self.new.lines.items ≡ self.old.lines.items ++ head_line count place) }
+        ensures { OnOk result (self.new.lines.items ≡ self.old.lines.items ++ head_line count place path.now) }
     {
         self.line.clear();
-        writeln!(self.line, "pod {}, byte {place}", count + 1)?;
+        writeln!(self.line, "pod {}{path}, byte {place}", count + 1)?;
         self.lines.extend_from_slice(self.line.as_bytes())?;
         self.line.clear();
         Ok(())

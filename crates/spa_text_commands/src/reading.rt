@@ -1,9 +1,9 @@
 //! Texts read as pods.
-ghost use Rattle.std.specs.Prelude.{◌≡◌, ◌≢◌, ◌+◌, ◌<◌, ◌^◌, ◌++◌, [], IfErr, IfOk, IfSome, MatchOption, OnOk, false, length, true};
+ghost use Rattle.std.specs.Prelude.{◌≡◌, ◌≢◌, ◌+◌, ◌<◌, ◌^◌, ◌++◌, [], ℕ, List, IfErr, IfOk, IfSome, MatchOption, OnErr, OnOk, false, length, true};
 ghost use Rattle.spa_text_commands.specs.Extent.{BeginsText};
 ghost use Rattle.spa_text_commands.specs.Texts as spec;
 ghost use Rattle.spa_text_commands.specs.Texts.{ReadsTexts, RefusesTexts, items_or_one, pods_in};
-ghost use Rattle.spa_text_commands.specs.Unread.{AddsText, AreUnwritable, IsFor, IsNoPod, IsNoText};
+ghost use Rattle.spa_text_commands.specs.Unread.{AddsText, AreUnwritable, IsFor, IsFound, IsNoPod, IsNoText};
 ghost use Rattle.spa_format.specs.Encoding.{encoding_of, member_encodings};
 ghost use Rattle.spa_format.specs.Tree.{Tree, member, no_trees};
 ghost use Rattle.spa_text_forms.specs.Forms.{IsTextAs};
@@ -13,8 +13,7 @@ ghost use Rattle.spa_value.specs.View.{view};
 ghost use Rattle.spa_value.specs.Views.{views};
 
 use crate::answer::Failure;
-use crate::extent::{position_behind, split_text};
-use crate::strings::behind_string;
+use crate::extent::{position_behind, split_line, split_text};
 use crate::structs::add_struct;
 use json::Scratch;
 use spa_sink::GenError;
@@ -38,6 +37,15 @@ enum Unread {
     },
 }
 
+/// What a text was read as.
+#[derive(Drop)]
+enum Found {
+    /// Nothing has pods that are still to be added: the text is blank, or a struct, whose pod was added as it was read.
+    Added,
+    /// A value.
+    Value(Held),
+}
+
 /// The pods of the values of which the bytes are texts in this form, among blank lines; read strictly, of no value with another type than the one that
 /// belongs under a key.
 #[tactic(auto, using(crate::proofs::ReadTexts::ends, crate::proofs::ReadTexts::left_fits, crate::proofs::ReadTexts::counted))]
@@ -50,8 +58,15 @@ pub fn read_all(alloc: Global, form: Form, bytes: &[u8]) -> Result<Vec<u8>, Fail
     let mut pods = Vec::new(alloc);
     let mut left = bytes;
     while !left.is_empty() {
-        let (text, behind) = split_front(left);
-        match add_text(alloc, &mut reader, &mut scratch, form, text, &mut pods) {
+        let (text, behind, added) = add_first(
+            alloc,
+            &mut reader,
+            &mut scratch,
+            form,
+            left,
+            &mut pods,
+        );
+        match added {
             Ok(()) => left = behind,
             Err(why) => {
                 let before = &bytes[..bytes.len() - left.len()];
@@ -63,52 +78,37 @@ pub fn read_all(alloc: Global, form: Form, bytes: &[u8]) -> Result<Vec<u8>, Fail
     Ok(pods)
 }
 
-/// The first text, without the end of its last line, and what follows that.
-fn split_front(bytes: &[u8]) -> (&[u8], &[u8])
-    ensures { bytes.now ≢ [] → BeginsText bytes.now result.0.now result.1.now }
+/// The first text, without the end of its last line, what follows that, and whether its pods were added. Most texts are lines, so the first line
+/// is read as one before the end of the text is looked for: no bracket is open behind what is read.
+#[tactic(auto, using(crate::proofs::ReadTexts::found_begins))]
+fn add_first<'a>(
+    alloc: Global,
+    reader: &mut FreeReader,
+    scratch: &mut Scratch,
+    form: Form,
+    left: &'a [u8],
+    pods: &mut Vec<u8>,
+) -> (&'a [u8], &'a [u8], Result<(), Unread>)
+    ensures begins { left.now ≢ [] → BeginsText left.now result.0.now result.1.now }
+    ensures added { OnOk result.2 (AddsText form result.0.now pods.old.items pods.new.items) }
+    ensures refused { IfErr result.2 (λ why. IsNoPod form result.0.now why) }
 {
-    match split_line(bytes) {
-        Some(parts) => parts,
-        None => split_text(bytes),
+    let (line, others) = split_line(left);
+    if may_be_whole(line) {
+        if let Ok(found) = read_text(alloc, reader, scratch, form, line, pods) {
+            return (line, others, add_found(alloc, form, found, pods));
+        }
+    }
+    let (text, behind) = split_text(left);
+    match read_text(alloc, reader, scratch, form, text, pods) {
+        Ok(found) => (text, behind, add_found(alloc, form, found, pods)),
+        Err(why) => (text, behind, Err(why)),
     }
 }
 
-/// The first text and what follows it, where it ends with the first line and no backslash is in it: `split_text` for most texts, but faster.
-/// None promises nothing: `split_front` asks `split_text` then, so to give None more often costs time alone.
-#[tactic(auto, using(crate::proofs::Splitting::string_shorter, crate::proofs::Extents::few_open))]
-fn split_line(bytes: &[u8]) -> Option<(&[u8], &[u8])>
-    ensures { IfSome result (λ parts. bytes.now ≢ [] → BeginsText bytes.now parts.0.now parts.1.now) }
-{
-    let mut count: usize = 0;
-    let mut left = bytes;
-    while let Some((byte, behind)) = left.split_first() {
-        let byte = *byte;
-        // Digits, marks and capital letters stand between the quote and the brackets in ASCII.
-        if byte > b'"' && byte < b'[' {
-            left = behind;
-            continue;
-        }
-        if byte == b'"' {
-            let Some(rest) = behind_string(behind) else {
-                return None;
-            };
-            left = rest;
-            continue;
-        }
-        if byte == b'\n' {
-            if count > 0 {
-                return None;
-            }
-            return Some((&bytes[..bytes.len() - left.len()], behind));
-        }
-        if byte == b'{' || byte == b'[' {
-            count += 1;
-        } else if byte == b'}' || byte == b']' {
-            count = count.saturating_sub(1);
-        }
-        left = behind;
-    }
-    None
+/// Whether a line doesn't end as the first one of an indented text does. Nothing rests on it but time.
+fn may_be_whole(line: &[u8]) -> bool {
+    !matches!(line.last(), Some(b'{' | b'[' | b','))
 }
 
 /// The refusal of a text that begins with this line.
@@ -139,24 +139,6 @@ fn failure_at(why: Unread, text: &[u8], first: usize) -> Failure
     }
 }
 
-/// Adds the pods of the value of which these bytes are a text; of a blank line nothing.
-fn add_text(
-    alloc: Global,
-    reader: &mut FreeReader,
-    scratch: &mut Scratch,
-    form: Form,
-    bytes: &[u8],
-    pods: &mut Vec<u8>,
-) -> Result<(), Unread>
-    ensures added { OnOk result (AddsText form bytes.now pods.old.items pods.new.items) }
-    ensures refused { IfErr result (λ why. IsNoPod form bytes.now why) }
-{
-    if is_blank(bytes) {
-        return Ok(());
-    }
-    add_pods(alloc, reader, scratch, form, bytes, pods)
-}
-
 /// Whether there is nothing but white space.
 fn is_blank(text: &[u8]) -> bool
     ensures { result ≡ spec.is_blank text.now }
@@ -169,20 +151,22 @@ fn is_blank(text: &[u8]) -> bool
     true
 }
 
-/// Adds the pods of the value of which these bytes are a text.
-fn add_pods(
+/// Reads the value of which these bytes are a text; of a blank line none.
+fn read_text(
     alloc: Global,
     reader: &mut FreeReader,
     scratch: &mut Scratch,
     form: Form,
     bytes: &[u8],
     pods: &mut Vec<u8>,
-) -> Result<(), Unread>
-    ensures added { OnOk result
-        ((v : Tree) × IsTextAs form v bytes.now
-        × (pods.new.items ≡ pods.old.items ++ member_encodings (pods_in form v))) }
+) -> Result<Found, Unread>
+    ensures found { IfOk result (λ found. IsFound form bytes.now found pods.old.items pods.new.items) }
     ensures refused { IfErr result (λ why. IsNoPod form bytes.now why) }
+    ensures unchanged { OnErr result (pods.new.items ≡ pods.old.items) }
 {
+    if is_blank(bytes) {
+        return Ok(Found::Added);
+    }
     let text = match str::from_utf8(bytes) {
         Ok(text) => text,
         Err(error) => {
@@ -191,24 +175,36 @@ fn add_pods(
         }
     };
     if add_at_once(alloc, scratch, form, text, pods) {
-        return Ok(());
+        return Ok(Found::Added);
     }
-    let value = match reader.read_in(text, form) {
-        Ok(value) => Held::from(value),
+    match reader.read_in(text, form) {
+        Ok(value) => Ok(Found::Value(Held::from(value))),
         Err(error) => {
             let Some(kind) = kind_of(error.cause) else {
                 return Err(Unread::OutOfMemory);
             };
-            return Err(Unread::For {
+            Err(Unread::For {
                 kind,
                 words: words_of(error.cause),
                 offset: error.offset,
                 path: error.path,
                 misfit: error.misfit,
-            });
+            })
         }
-    };
-    add_values(alloc, form, &*value, pods)
+    }
+}
+
+/// Adds the pods that are still to be added.
+fn add_found(alloc: Global, form: Form, found: Found, pods: &mut Vec<u8>) -> Result<(), Unread>
+    ensures added { (text base : List ℕ) → IsFound form text found base pods.old.items →
+        OnOk result (AddsText form text base pods.new.items) }
+    ensures refused { (text base : List ℕ) → IsFound form text found base pods.old.items →
+        IfErr result (λ why. IsNoPod form text why) }
+{
+    match found {
+        Found::Added => Ok(()),
+        Found::Value(held) => add_values(alloc, form, &*held, pods),
+    }
 }
 
 /// Adds the pod of the struct that a text is, as it stands, where it is read as values with names, and tells whether it did. Else the output is

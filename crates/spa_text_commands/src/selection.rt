@@ -1,5 +1,6 @@
 //! Which pods of an input are printed, which values of them, and how.
 ghost use Rattle.std.specs.Prelude.{◌≡◌, ◌+◌, ◌<◌, ◌^◌};
+ghost use Rattle.spa_text_commands.specs.Lines.{is_pods};
 ghost use Rattle.spa_text_commands.specs.Selection as spec;
 
 use crate::printing::Layout;
@@ -24,6 +25,20 @@ pub enum Form {
     Text(Layout),
     /// The bytes in hex, as a JSON string on a line, also of refused pods.
     Bytes,
+    /// The bytes themselves, also of refused pods.
+    Pods,
+}
+
+impl Form {
+    /// Whether pods themselves are printed, which are no lines.
+    pub fn is_pods(self) -> bool
+        ensures { result ≡ is_pods self }
+    {
+        match self {
+            Form::Pods => true,
+            _ => false,
+        }
+    }
 }
 
 /// Which pods of an input are printed, and which values of them.
@@ -31,6 +46,8 @@ pub enum Form {
 pub struct Selection<'a> {
     /// The number of the only top-level pod that is printed, the first being 1; without one, each is.
     pub nth: Option<usize>,
+    /// The path to the pod that alone is printed: the number of a top-level one, and the steps from there.
+    pub path: Option<&'a str>,
     /// The names, between commas, of the keys whose values are printed, of objects at any depth. Without them objects themselves are printed where a
     /// type or an id is asked for, and else the pods.
     pub key: Option<&'a str>,
@@ -56,7 +73,7 @@ impl Selection<'_> {
     pub fn looks_inside(&self) -> bool
         ensures { result ≡ spec.looks_inside self.now }
     {
-        self.key.is_some() || (self.type_.is_some() || self.id.is_some())
+        self.path.is_some() || (self.key.is_some() || (self.type_.is_some() || self.id.is_some()))
     }
 }
 

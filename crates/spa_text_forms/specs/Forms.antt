@@ -10,13 +10,13 @@ use Rattle.spa_text_read.specs.Places.{IsPlace}
 use Rattle.spa_text_read.specs.declared.fitting.Strictness.{Strictness}
 use Rattle.spa_text_read.specs.declared.fitting.Strictness.TheVariants.{Strict}
 use Rattle.spa_text_forms.specs.Dump.{dump_of}
-use Rattle.spa_text_forms.specs.Order.{anywhere, ordered}
+use Rattle.spa_text_forms.specs.Order.{anywhere, ordered, without_place}
 use Rattle.spa_text_forms.specs.declared.form.Form.{Form}
 use Rattle.spa_text_forms.specs.declared.form.Form.TheVariants.{Named, Dump}
 
--- the tokens of a JSON value in the grammar's order: as it names them, or of what pw-dump prints
+-- the tokens of a JSON value in the grammar's order: as it names them, without its place, or of what pw-dump prints
 abbrev pub tokens_in : Form → Json → List Token
-tokens_in (Named s) j = ordered s anywhere j
+tokens_in (Named s) j = ordered s anywhere (without_place j)
 tokens_in (Dump t i) j = dump_of t i j
 
 -- how strictly these are read

@@ -1,5 +1,5 @@
 -- The tokens of a text in the order of the grammar: docs/TEXT.md, "Texts in another order".
-use Rattle.std.specs.Prelude.{ℕ, zero, suc, ◌==◌, codes, decimal, List, [], ◌∷◌, ◌++◌, if◌then◌else◌, Option, Some, None}
+use Rattle.std.specs.Prelude.{ℕ, zero, suc, ◌==◌, ◌||◌, ◌&&◌, Bool, true, false, codes, decimal, List, [], ◌∷◌, ◌++◌, if◌then◌else◌, Option, Some, None, unwrap_or}
 use Rattle.std.specs.Str.{bytes_eq}
 use Rattle.json.specs.Json.{Json, null, boolean, number, string, array, object, Items, no_items, item, Members, no_members, member}
 use Rattle.json.specs.Token.{Token}
@@ -116,3 +116,32 @@ abbrev mutual
   pub pieces : Strictness → Place → (type : ℕ) → Members → List (List ℕ × List Token)
   pieces s p t no_members = []
   pieces s p t (member k j ms) = (k, ordered s (place_under p t k) j) ∷ pieces s p t ms
+
+-- ---- Values with a place
+
+-- the path to a value, or the head of the message in which it was found
+abbrev pub is_place : List ℕ → Json → Bool
+is_place k (string s) = bytes_eq k (codes "path") || bytes_eq k (codes "head")
+is_place k _ = false
+
+abbrev pub are_places : Members → Bool
+are_places no_members = true
+are_places (member k j ms) = is_place k j && are_places ms
+
+-- they are a place, and one under `value`
+abbrev pub has_place : Members → Bool
+has_place no_members = false
+has_place (member k j ms) = if is_place k j then has_place ms else bytes_eq k (codes "value") && are_places ms
+
+-- what stands beside a place: the first other one
+abbrev pub beside_place : Members → Option Json
+beside_place no_members = None
+beside_place (member k j ms) = if is_place k j then beside_place ms else Some j
+
+abbrev pub placed_in : Members → Option Json
+placed_in ms = if has_place ms then beside_place ms else None
+
+-- a value without its place; others are as they are
+abbrev pub without_place : Json → Json
+without_place (object ms) = unwrap_or (placed_in ms) (object ms)
+without_place j = j

@@ -8,6 +8,7 @@ ghost use Rattle.spa_text_forms.specs.Forms.{IsInOrder};
 
 use crate::dump::put_dump;
 use crate::order::{ANYWHERE, put};
+use crate::place::without_place;
 use json::{Error, Scratch, Value, Writer};
 use spa_text_read::Strictness;
 use std::alloc::{AllocError, Global};
@@ -64,7 +65,7 @@ fn put_in(form: Form, value: &Value<'_>, writer: &mut Writer) -> Result<(), Allo
     ensures before { writer.new.before ≡ writer.old.before }
 {
     match form {
-        Form::Named(strictness) => put(strictness, ANYWHERE, value, writer),
+        Form::Named(strictness) => put(strictness, ANYWHERE, without_place(value), writer),
         Form::Dump { type_, id } => put_dump(type_, id, value, writer),
     }
 }

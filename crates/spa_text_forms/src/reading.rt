@@ -33,7 +33,8 @@ impl FreeReader {
     }
 
     /// Reads the value that a text is, as it stands. One that is of no value so, but is JSON, is read with its fixed keys in the grammar's order;
-    /// strictly also with each list under a key of arrays as that array.
+    /// strictly also with each list under a key of arrays as that array. An object with nothing but a value and its place, which are a path and the head of
+    /// a message, is read as that value.
     ///
     /// Where it is of no value in order, either, the refusal is that of the text in order: it has the place of the first byte, unless the text as it
     /// stands is refused for the same cause at the same path.

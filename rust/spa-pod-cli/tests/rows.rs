@@ -87,7 +87,7 @@ fn answer_of(label: &str, words: &str, given: &str, room: usize) -> String {
     let (answer, mut left) = run(&words, &mut input, &mut files, &mut Unwatched, &mut written[..room.min(ROOM)], screen);
     report(&mut left, &mut said, &answer).unwrap();
     let len = room.min(ROOM) - left.len();
-    let are_pods = matches!(words.first(), Some(&("read" | "rewrite" | "fixate" | "meet" | "filter"))) && words.last() != Some(&"--help");
+    let are_pods = matches!(words.first(), Some(&("get" | "read" | "rewrite" | "fixate" | "meet" | "filter"))) && words.last() != Some(&"--help");
     let shown = if are_pods { words_of(&written[..len]) } else { line_of(&written[..len]) };
     format!("{label}: {} {} |{shown}{}", answer.status(), line_of(&said), files.written)
 }

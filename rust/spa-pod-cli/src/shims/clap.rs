@@ -78,7 +78,7 @@ pub enum ArgAction {
     Set,
 }
 
-/// An option, or the files.
+/// An option, one word that is required, or the files.
 #[derive(Clone, Debug)]
 pub struct Arg<'a> {
     name: &'a str,
@@ -88,11 +88,12 @@ pub struct Arg<'a> {
     help: &'a str,
     value: &'a str,
     parser: Option<builder::ValueParser>,
+    required: bool,
 }
 
 impl<'a> Arg<'a> {
     pub fn new(name: &'a str) -> Arg<'a> {
-        Arg { name, short: None, long: None, action: ArgAction::Set, help: "", value: "", parser: None }
+        Arg { name, short: None, long: None, action: ArgAction::Set, help: "", value: "", parser: None, required: false }
     }
 
     pub fn short(self, letter: char) -> Arg<'a> {
@@ -115,6 +116,10 @@ impl<'a> Arg<'a> {
         Arg { value, ..self }
     }
 
+    pub fn required(self, required: bool) -> Arg<'a> {
+        Arg { required, ..self }
+    }
+
     pub fn value_parser(self, parser: builder::ValueParser) -> Arg<'a> {
         Arg { parser: Some(parser), ..self }
     }
@@ -134,7 +139,8 @@ impl fmt::Display for Arg<'_> {
         match (self.long, self.action) {
             (Some(long), ArgAction::SetTrue) => write!(f, "--{long}"),
             (Some(long), _) => write!(f, "--{long} <{}>", self.value),
-            (None, _) => write!(f, "[{}]...", self.name),
+            (None, ArgAction::Append) => write!(f, "[{}]...", self.name),
+            (None, _) => write!(f, "<{}>", self.name),
         }
     }
 }
@@ -235,9 +241,18 @@ impl<'a> Command<'a> {
         self.args.iter().filter(|arg| arg.long.is_some())
     }
 
-    /// The argument that takes all files.
+    /// The arguments that aren't options: words that are required, and then the one that takes all files.
+    fn places(&self) -> impl Iterator<Item = &Arg<'a>> {
+        self.args.iter().filter(|arg| arg.long.is_none())
+    }
+
+    /// The first of them that takes another word.
+    fn place(&self, given: &ArgMatches<'a>) -> Option<&Arg<'a>> {
+        self.places().find(|arg| arg.action == ArgAction::Append || given.get_strs(arg.name).is_none())
+    }
+
     fn files(&self) -> Option<&Arg<'a>> {
-        self.args.iter().find(|arg| arg.long.is_none())
+        self.places().last()
     }
 
     /// How it is called, with these options.
@@ -247,7 +262,7 @@ impl<'a> Command<'a> {
             [] if self.options().next().is_some() => text += " [OPTIONS]",
             _ => used.iter().for_each(|option| text += &format!(" {option}")),
         }
-        text += &self.files().map_or(String::new(), |files| format!(" {files}"));
+        self.places().for_each(|place| text += &format!(" {place}"));
         text + if self.words.is_empty() { "" } else { " <COMMAND>" }
     }
 
@@ -269,8 +284,9 @@ impl<'a> Command<'a> {
         if !self.words.is_empty() {
             text += &(Command::table("Commands", &words) + "\n");
         }
-        if let Some(files) = self.files() {
-            text += &(Command::table("Arguments", &[(files.to_string(), files.help)]) + "\n");
+        let places: Vec<_> = self.places().map(|place| (place.to_string(), place.help)).collect();
+        if !places.is_empty() {
+            text += &(Command::table("Arguments", &places) + "\n");
         }
         text + &Command::table("Options", &options) + "\n" + self.behind + "\n"
     }
@@ -338,13 +354,23 @@ impl<'a> Command<'a> {
                     Some(long) => self.read_long(long, &mut left, &mut given)?,
                     None => self.read_short(name, &mut left, &mut given)?,
                 },
-                None => match self.files() {
-                    Some(files) => given.add(files.name, word),
+                None => match self.place(&given) {
+                    Some(place) => given.add(place.name, word),
                     None => return self.stray(word),
                 },
             }
         }
-        Ok(given)
+        match self.place(&given).filter(|place| place.required) {
+            Some(place) => self.missing(place, &given),
+            None => Ok(given),
+        }
+    }
+
+    /// A word that is required isn't there.
+    fn missing<T>(&self, place: &Arg<'a>, given: &ArgMatches<'a>) -> Result<T, Error> {
+        let used = self.used(given).iter().fold(self.path.clone(), |text, option| text + " " + option);
+        let usage = self.places().fold(used, |text, place| text + &format!(" {place}"));
+        misuse(&format!("the following required arguments were not provided:\n  {place}"), &[], Some(usage))
     }
 
     fn read_long(&self, text: &'a str, left: &mut &[&'a str], given: &mut ArgMatches<'a>) -> Result<(), Error> {

@@ -47,21 +47,25 @@ fn part(text: &str, from: usize, end: usize) -> Option<&str> {
 /// The lowest bit of each byte of a word.
 const ONES: u64 = u64::MAX / 255;
 
-/// The high bits of bytes that can't be in a string as they are, of the first one surely.
+/// The high bits of the bytes at which a string ends, or that can't be in one, of the first one surely.
 #[inline(always)]
-fn stops(eight: [u8; 8]) -> u64 {
-    let bytes = u64::from_le_bytes(eight);
-    let (quote, backslash) = (bytes ^ (ONES * u64::from(b'"')), bytes ^ (ONES * u64::from(b'\\')));
-    let below = (bytes.wrapping_sub(ONES * 0x20) & !bytes) | (quote.wrapping_sub(ONES) & !quote) | (backslash.wrapping_sub(ONES) & !backslash);
-    below & (ONES * 0x80)
+fn ends(bytes: u64) -> u64 {
+    // With its second bit the other way, a quote stands behind the control characters and before the other bytes.
+    (bytes ^ (ONES * 2)).wrapping_sub(ONES * 0x21) & !bytes & (ONES * 0x80)
+}
+
+/// The same with backslashes.
+#[inline(always)]
+fn stops(bytes: u64) -> u64 {
+    ends(bytes) | ((bytes ^ (ONES * u64::from(b'\\'))).wrapping_sub(ONES) & !bytes & (ONES * 0x80))
 }
 
 /// The first byte from this one on that can't be in a string as it is, of eight at once.
-#[inline]
+#[inline(always)]
 fn stop_from(text: &[u8], from: usize) -> Option<usize> {
     let (mut at, mut left) = (from, text.get(from..)?);
     while let Some((eight, behind)) = left.split_first_chunk() {
-        let found = stops(*eight);
+        let found = stops(u64::from_le_bytes(*eight));
         if found != 0 {
             return Some(at + found.trailing_zeros() as usize / 8);
         }
@@ -70,21 +74,38 @@ fn stop_from(text: &[u8], from: usize) -> Option<usize> {
     Some(at + left.iter().position(|byte| is_stop(*byte))?)
 }
 
+/// The high bits of the bytes that are no digits.
+#[inline(always)]
+fn no_digits(bytes: u64) -> u64 {
+    // A digit is what its lower half is, with which a number from ten on reaches the highest bit.
+    let numbers = bytes ^ (ONES * u64::from(b'0'));
+    (((numbers & (ONES * 0x7f)) + ONES * 0x76) | numbers) & (ONES * 0x80)
+}
+
+/// How many digits stand in front, of eight bytes looked at at once.
+#[inline(always)]
+fn digit_count(text: &[u8]) -> usize {
+    match text.first_chunk().map(|eight| no_digits(u64::from_le_bytes(*eight))) {
+        None | Some(0) => text.iter().take_while(|byte| byte.is_ascii_digit()).count(),
+        Some(others) => others.trailing_zeros() as usize / 8,
+    }
+}
+
 /// Whether each byte can be in a string as it is. The last eight bytes, of short texts the first and last four, are looked at at once.
 #[inline]
 fn is_plain(text: &[u8]) -> bool {
     if let Some(last) = text.last_chunk() {
         let mut left = text;
         while let Some((eight, behind)) = left.split_first_chunk() {
-            if stops(*eight) != 0 {
+            if stops(u64::from_le_bytes(*eight)) != 0 {
                 return false;
             }
             left = behind;
         }
-        return stops(*last) == 0;
+        return stops(u64::from_le_bytes(*last)) == 0;
     }
     match (text.first_chunk::<4>(), text.last_chunk::<4>()) {
-        (Some([a, b, c, d]), Some([e, f, g, h])) => stops([*a, *b, *c, *d, *e, *f, *g, *h]) == 0,
+        (Some([a, b, c, d]), Some([e, f, g, h])) => stops(u64::from_le_bytes([*a, *b, *c, *d, *e, *f, *g, *h])) == 0,
         _ => !text.iter().any(|byte| is_stop(*byte)),
     }
 }
@@ -106,10 +127,23 @@ fn unescaped(letters: &mut Chars<'_>) -> Option<char> {
 
 /// Whether a word is a number of JSON: digits are in front and behind its point, and no zero stands before other digits.
 fn is_number(word: &str) -> bool {
-    let digits = word.strip_prefix('-').unwrap_or(word);
-    let begins = matches!(digits.as_bytes(), [b'0'] | [b'0', b'.' | b'e' | b'E', ..] | [b'1'..=b'9', ..]);
-    let has_fraction = || digits.split_once('.').is_none_or(|(_, behind)| behind.starts_with(|letter: char| letter.is_ascii_digit()));
-    begins && (digits.bytes().all(|byte| byte.is_ascii_digit()) || has_fraction() && word.parse::<f64>().is_ok())
+    let whole = word.strip_prefix('-').unwrap_or(word).as_bytes();
+    let (digits, mut behind) = whole.split_at(digit_count(whole));
+    if !matches!(digits, [_] | [b'1'..=b'9', ..]) {
+        return false;
+    }
+    if let [b'.', fraction @ ..] = behind {
+        let (digits, others) = fraction.split_at(digit_count(fraction));
+        if digits.is_empty() {
+            return false;
+        }
+        behind = others;
+    }
+    match behind {
+        [] => true,
+        [b'e' | b'E', b'+' | b'-', exponent @ ..] | [b'e' | b'E', exponent @ ..] => !exponent.is_empty() && digit_count(exponent) == exponent.len(),
+        _ => false,
+    }
 }
 
 /// The memory of a reader: room for strings without their escapes.
@@ -121,6 +155,8 @@ pub struct Reader<'a> {
     /// The byte at which the next token begins.
     at: usize,
     state: u8,
+    /// Whether a backslash is in the text.
+    has_escapes: bool,
     room: &'a mut [u8],
 }
 
@@ -134,94 +170,169 @@ impl<'a> Reader<'a> {
         let has_escapes = text.bytes().fold(false, |found, byte| found | (byte == b'\\'));
         let least = if has_escapes { text.len() } else { 0 };
         room.try_resize(least.max(room.len()), 0)?;
-        let mut reader = Reader { text, at: 0, state: BEGINS | CLOSES, room };
-        reader.go_to(0);
-        Ok(reader)
+        Ok(Reader { text, at: 0, state: BEGINS | CLOSES, has_escapes, room })
     }
 
     /// The byte at which the next token begins.
     pub fn offset(&self) -> usize {
-        self.at
+        let at = self.behind_blanks(self.at);
+        if self.state == CLOSES && self.text.as_bytes().get(at) == Some(&b',') { self.behind_blanks(at + 1) } else { at }
     }
 
-    /// Goes to this byte, and over the blanks from there on; gives what stands behind them.
-    #[inline(always)]
-    fn go_to(&mut self, to: usize) -> Option<u8> {
-        let bytes = self.text.as_bytes();
-        self.at = to;
-        while bytes.get(self.at).is_some_and(|byte| is_blank(*byte)) {
-            self.at += 1;
+    /// The first byte from this one on that is no blank, of eight spaces at once.
+    fn behind_blanks(&self, from: usize) -> usize {
+        let text = self.text.as_bytes();
+        let mut at = from;
+        loop {
+            while let Some(eight) = text.get(at..).and_then(|left| left.first_chunk()) {
+                let spaces = (u64::from_le_bytes(*eight) ^ (ONES * u64::from(b' '))).trailing_zeros() as usize / 8;
+                at += spaces;
+                if spaces < 8 {
+                    break;
+                }
+            }
+            match text.get(at) {
+                Some(byte) if is_blank(*byte) => at += 1,
+                _ => return at,
+            }
         }
-        bytes.get(self.at).copied()
-    }
-
-    /// Goes behind what opens an array or an object, or behind a key and its colon.
-    #[inline(always)]
-    fn open(&mut self, to: usize, token: Token<'a>) -> Option<Token<'a>> {
-        self.state = BEGINS | CLOSES;
-        self.go_to(to);
-        Some(token)
-    }
-
-    /// Goes behind a value that ends before this byte, where this one stands, and over a comma.
-    #[inline(always)]
-    fn end(&mut self, behind: Option<u8>, token: Token<'a>) -> Option<Token<'a>> {
-        self.state = CLOSES;
-        if behind == Some(b',') {
-            self.state = BEGINS;
-            self.go_to(self.at + 1);
-        }
-        Some(token)
     }
 
     /// The next token.
     #[allow(clippy::should_implement_trait)]
-    #[inline(always)]
-    pub fn next(&mut self) -> Option<Token<'a>> {
-        let (begins, closes) = (self.state & BEGINS != 0, self.state & CLOSES != 0);
-        let to = self.at + 1;
-        match self.text.as_bytes().get(self.at) {
-            Some(b'"') if begins => {
-                if let Some((end, text)) = self.string() {
-                    let behind = self.go_to(end);
-                    return if behind == Some(b':') { self.open(self.at + 1, Token::Key(text)) } else { self.end(behind, Token::String(text)) };
-                }
-            }
-            Some(b'}') if closes => {
-                let behind = self.go_to(to);
-                return self.end(behind, Token::EndObject);
-            }
-            Some(b']') if closes => {
-                let behind = self.go_to(to);
-                return self.end(behind, Token::EndArray);
-            }
-            Some(b'{') if begins => return self.open(to, Token::BeginObject),
-            Some(b'[') if begins => return self.open(to, Token::BeginArray),
-            Some(_) if begins => {
-                if let Some((end, token)) = self.word() {
-                    let behind = self.go_to(end);
-                    return self.end(behind, token);
-                }
-            }
-            None if closes => return None,
-            _ if self.state == 0 => return None,
-            _ => {}
-        }
-        self.state = 0;
-        Some(Token::Bad)
-    }
-
-    /// The end of the string in front, and what it is.
-    #[inline(always)]
-    fn string(&mut self) -> Option<(usize, &'a str)> {
-        let (text, from) = (self.text, self.at + 1);
-        let end = stop_from(text.as_bytes(), from)?;
-        if text.as_bytes()[end] == b'"' { Some((end + 1, part(text, from, end)?)) } else { self.escaped(from, end) }
-    }
-
-    /// The end of the string that begins at the first of these bytes, and has its first escape at the second, and what it is.
     #[inline(never)]
-    fn escaped(&mut self, from: usize, first: usize) -> Option<(usize, &'a str)> {
+    pub fn next(&mut self) -> Option<Token<'a>> {
+        let Some(first) = self.text.as_bytes().get(self.at) else { return self.last() };
+        let (begins, closes) = (self.state & BEGINS != 0, self.state & CLOSES != 0);
+        match *first {
+            b',' if self.state == CLOSES => self.next_behind_comma(),
+            b'"' if begins => self.string(),
+            b'{' if begins => self.go_behind(self.at + 1, BEGINS | CLOSES, Token::BeginObject),
+            b'}' if closes => self.go_behind(self.at + 1, CLOSES, Token::EndObject),
+            b'[' if begins => self.go_behind(self.at + 1, BEGINS | CLOSES, Token::BeginArray),
+            b']' if closes => self.go_behind(self.at + 1, CLOSES, Token::EndArray),
+            byte if is_blank(byte) => self.next_behind_blanks(),
+            _ if begins => self.word(),
+            _ => self.bad(),
+        }
+    }
+
+    /// The next token, which may not close anything.
+    #[inline(never)]
+    fn next_behind_comma(&mut self) -> Option<Token<'a>> {
+        (self.at, self.state) = (self.at + 1, BEGINS);
+        match self.text.as_bytes().get(self.at) {
+            Some(b'"') => self.string(),
+            Some(b'{') => self.go_behind(self.at + 1, BEGINS | CLOSES, Token::BeginObject),
+            Some(b'0'..=b'9') => self.word(),
+            _ => self.next(),
+        }
+    }
+
+    #[cold]
+    #[inline(never)]
+    fn next_behind_blanks(&mut self) -> Option<Token<'a>> {
+        self.at = self.behind_blanks(self.at);
+        self.next()
+    }
+
+    /// Goes behind a token, to this byte.
+    #[inline(always)]
+    fn go_behind(&mut self, to: usize, state: u8, token: Token<'a>) -> Option<Token<'a>> {
+        (self.at, self.state) = (to, state);
+        Some(token)
+    }
+
+    /// What the end of the text is.
+    #[cold]
+    fn last(&mut self) -> Option<Token<'a>> {
+        if self.state & CLOSES == 0 { self.bad() } else { None }
+    }
+
+    /// What is no token. Behind it there is none.
+    #[cold]
+    fn bad(&mut self) -> Option<Token<'a>> {
+        if self.state == 0 { None } else { self.go_behind(self.at, 0, Token::Bad) }
+    }
+
+    /// The string in front. Most are of fifteen bytes at most, in texts without a backslash.
+    #[inline(never)]
+    fn string(&mut self) -> Option<Token<'a>> {
+        let from = self.at + 1;
+        if self.has_escapes {
+            return self.long_string(from);
+        }
+        let Some((_, left)) = self.text.split_at_checked(from) else { return self.bad() };
+        let Some((first, behind)) = left.as_bytes().split_first_chunk() else { return self.long_string(from) };
+        let found = ends(u64::from_le_bytes(*first));
+        if found != 0 {
+            return self.string_in(left, found.trailing_zeros() as usize / 8);
+        }
+        let Some(second) = behind.first_chunk() else { return self.long_string(from) };
+        let found = ends(u64::from_le_bytes(*second));
+        if found != 0 {
+            return self.string_in(left, 8 + found.trailing_zeros() as usize / 8);
+        }
+        self.long_string(from)
+    }
+
+    /// The string of so many bytes in front of what stands behind its first quote.
+    #[inline(always)]
+    fn string_in(&mut self, left: &'a str, len: usize) -> Option<Token<'a>> {
+        match left.split_at_checked(len) {
+            Some((string, behind)) if behind.as_bytes().first() == Some(&b'"') => self.go_behind_string(self.at + len + 2, string),
+            _ => self.bad(),
+        }
+    }
+
+    /// The string that begins at this byte.
+    #[cold]
+    #[inline(never)]
+    fn long_string(&mut self, from: usize) -> Option<Token<'a>> {
+        match stop_from(self.text.as_bytes(), from) {
+            Some(end) if self.text.as_bytes()[end] == b'"' => self.string_to(from, end),
+            Some(end) => self.escaped(from, end),
+            None => self.bad(),
+        }
+    }
+
+    /// The string between two of these bytes, at the second of which its quote stands.
+    #[inline(always)]
+    fn string_to(&mut self, from: usize, end: usize) -> Option<Token<'a>> {
+        match part(self.text, from, end) {
+            Some(string) => self.go_behind_string(end + 1, string),
+            None => self.bad(),
+        }
+    }
+
+    /// Goes behind a string that ends before this byte.
+    #[inline(always)]
+    fn go_behind_string(&mut self, end: usize, string: &'a str) -> Option<Token<'a>> {
+        match self.text.as_bytes().get(end) {
+            Some(b':') => self.go_behind(end + 1, BEGINS | CLOSES, Token::Key(string)),
+            Some(byte) if *byte <= b' ' => self.string_before_blanks(end, string),
+            _ => self.go_behind(end, CLOSES, Token::String(string)),
+        }
+    }
+
+    #[cold]
+    #[inline(never)]
+    fn string_before_blanks(&mut self, end: usize, string: &'a str) -> Option<Token<'a>> {
+        let to = self.behind_blanks(end);
+        if self.text.as_bytes().get(to) == Some(&b':') { self.go_behind_string(to, string) } else { self.go_behind(to, CLOSES, Token::String(string)) }
+    }
+
+    /// The string that begins at the first of these bytes, and has its first escape at the second.
+    #[cold]
+    #[inline(never)]
+    fn escaped(&mut self, from: usize, first: usize) -> Option<Token<'a>> {
+        match self.escaped_end(from, first) {
+            Some((end, string)) => self.go_behind_string(end, string),
+            None => self.bad(),
+        }
+    }
+
+    fn escaped_end(&mut self, from: usize, first: usize) -> Option<(usize, &'a str)> {
         let (text, mut end) = (self.text, first);
         while text.as_bytes()[end] == b'\\' {
             end = stop_from(text.as_bytes(), end + 2)?;
@@ -241,25 +352,45 @@ impl<'a> Reader<'a> {
         from_utf8(text).ok()
     }
 
-    /// The end of the word in front, which is a blank or a mark, and what it is: what runs into another token is none.
-    #[inline(always)]
-    fn word(&self) -> Option<(usize, Token<'a>)> {
-        let left = self.text.as_bytes().get(self.at..)?;
-        let sign = usize::from(left.first() == Some(&b'-'));
-        let mut len = sign;
-        while left.get(len).is_some_and(u8::is_ascii_digit) {
-            len += 1;
+    /// The word in front, up to a blank or a mark: what runs into another token is none. Most are whole numbers of up to seven digits.
+    #[inline(never)]
+    fn word(&mut self) -> Option<Token<'a>> {
+        let Some((_, left)) = self.text.split_at_checked(self.at) else { return self.bad() };
+        let Some(eight) = left.as_bytes().first_chunk() else { return self.long_word(left) };
+        let found = no_digits(u64::from_le_bytes(*eight));
+        let count = found.trailing_zeros() as usize / 8;
+        if found == 0 || (count != 1 && eight[0] == b'0') || !matches!(eight[count], b',' | b']' | b'}') {
+            return self.long_word(left);
         }
-        // Most words are whole numbers, which need no closer look.
-        if len > sign && (left[sign] != b'0' || len == sign + 1) && left.get(len).is_none_or(|byte| !is_inner(*byte)) {
-            let end = self.at + len;
-            return Some((end, Token::Number(part(self.text, self.at, end)?)));
+        match left.split_at_checked(count) {
+            Some((number, _)) if count != 0 => self.go_behind(self.at + count, CLOSES, Token::Number(number)),
+            _ => self.bad(),
         }
-        self.other_word()
+    }
+
+    /// The word at the front of what is left.
+    #[inline(never)]
+    fn long_word(&mut self, left: &'a str) -> Option<Token<'a>> {
+        let sign = usize::from(left.as_bytes().first() == Some(&b'-'));
+        let digits = left.as_bytes().get(sign..).unwrap_or_default();
+        let count = digit_count(digits);
+        let is_whole = matches!((count, digits.first()), (1, _) | (2.., Some(b'1'..=b'9'))) && matches!(digits.get(count), None | Some(b',' | b']' | b'}'));
+        match left.split_at_checked(sign + count) {
+            // Whole numbers need no closer look.
+            Some((number, _)) if is_whole => self.go_behind(self.at + number.len(), CLOSES, Token::Number(number)),
+            _ => self.other_word(),
+        }
     }
 
     #[inline(never)]
-    fn other_word(&self) -> Option<(usize, Token<'a>)> {
+    fn other_word(&mut self) -> Option<Token<'a>> {
+        match self.word_in_front() {
+            Some((end, token)) => self.go_behind(end, CLOSES, token),
+            None => self.bad(),
+        }
+    }
+
+    fn word_in_front(&self) -> Option<(usize, Token<'a>)> {
         let end = self.at + self.text.bytes().skip(self.at).take_while(|byte| is_inner(*byte)).count();
         let token = match self.text.get(self.at..end)? {
             word if is_number(word) => Token::Number(word),

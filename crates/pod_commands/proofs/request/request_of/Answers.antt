@@ -5,8 +5,8 @@ use Rattle.clap.specs.Walk.{rows_of, texts}
 use Rattle.clap.specs.Words.{app_of, found_of, subcommand_of}
 use Rattle.clap.proofs.WalkLemmas.{first_value-rows}
 use Rattle.pod_commands.specs.Program.{program}
-use Rattle.pod_commands.specs.Requests.{HasManner, HasSettle, HasStream, reading_in}
-use Rattle.pod_commands.proofs.Requested.{fault_is, found_is, has_texts, no_fault, one_name, cause_is}
+use Rattle.pod_commands.specs.Requests.{HasManner, HasSettle, HasStream}
+use Rattle.pod_commands.proofs.Requested.{fault_is, found_is, has_dump, has_texts, no_fault, one_name, cause_is}
 use Rattle.pod_commands.proofs.request.request_of.Goals as goal
 
 pub returns-in_err-matches-clause-refused : goal.returns-in_err-matches-clause-refused
@@ -47,7 +47,31 @@ returns-in-Err-texts_for-clause-nothing c =
     c.in_ok-matches.ensures.matches c.in-Some.ensures.name c.in-Some.ensures.rows in
     record {
       accepted = no_fault app ws c.in_ok-command.ensures c.in_ok-matches.ensures.kinds;
-      nothing = inr (c.in-Some.name.now, rows_of (found_of c.in-Some.given.now), found, inr c.in-Err-texts_for.ensures.wrong);
+      nothing = inr (c.in-Some.name.now, rows_of (found_of c.in-Some.given.now), found, inr (inl c.in-Err-texts_for.ensures.wrong));
+    }
+
+pub returns-in-Err-manner_of-clause-nothing : goal.returns-in-Err-manner_of-clause-nothing
+returns-in-Err-manner_of-clause-nothing c =
+    let ws = texts c.args.words.now in
+    let app = app_of c.in_ok-command.command in
+    let found : subcommand_of program ws ≡ Some (c.in-Some.name.now, rows_of (found_of c.in-Some.given.now)) =
+    found_is app ws c.in_ok-matches.matches c.in-Some.name.now (rows_of (found_of c.in-Some.given.now)) c.in_ok-command.ensures
+    c.in_ok-matches.ensures.matches c.in-Some.ensures.name c.in-Some.ensures.rows in
+    record {
+      accepted = no_fault app ws c.in_ok-command.ensures c.in_ok-matches.ensures.kinds;
+      nothing = inr (c.in-Some.name.now, rows_of (found_of c.in-Some.given.now), found, inr (inr (inl c.in-Err-manner_of.ensures.wrong)));
+    }
+
+pub returns-in-Err-dump_for-clause-nothing : goal.returns-in-Err-dump_for-clause-nothing
+returns-in-Err-dump_for-clause-nothing c =
+    let ws = texts c.args.words.now in
+    let app = app_of c.in_ok-command.command in
+    let found : subcommand_of program ws ≡ Some (c.in-Some.name.now, rows_of (found_of c.in-Some.given.now)) =
+    found_is app ws c.in_ok-matches.matches c.in-Some.name.now (rows_of (found_of c.in-Some.given.now)) c.in_ok-command.ensures
+    c.in_ok-matches.ensures.matches c.in-Some.ensures.name c.in-Some.ensures.rows in
+    record {
+      accepted = no_fault app ws c.in_ok-command.ensures c.in_ok-matches.ensures.kinds;
+      nothing = inr (c.in-Some.name.now, rows_of (found_of c.in-Some.given.now), found, inr (inr (inr c.in-Err-dump_for.ensures.excluded)));
     }
 
 pub returns-clause-asked : goal.returns-clause-asked
@@ -65,12 +89,17 @@ returns-clause-asked c =
       options = c.in-Ok.options;
       given = c.in-Ok.ensures.given;
       printout = c.in-Some-word_of.ensures.printout;
-      manner = subst (λ fate. HasManner (reading_in rows) fate c.in-Some-word_of.word) c.manner_of.ensures.fate
-          (subst (λ reading. HasManner reading c.manner_of.result.fate c.in-Some-word_of.word) c.manner_of.ensures.reading c.in-Some-word_of.ensures.manner);
+      fate = c.in-Ok-manner_of.manner.fate;
+      its_fate = c.in-Ok-manner_of.ensures.fate;
+      manner =
+          subst (λ reading. HasManner reading c.in-Ok-manner_of.manner.fate c.in-Some-word_of.word) c.in-Ok-manner_of.ensures.reading
+          c.in-Some-word_of.ensures.manner;
       stream = subst (λ streams. HasStream streams c.in-Some-word_of.word) c.is_set.ensures c.in-Some-word_of.ensures.stream;
       settle = subst (λ settles. HasSettle settles c.in-Some-word_of.word) c.is_set-2.ensures c.in-Some-word_of.ensures.settle;
       read_as = has_texts rows c.in-Some.name.now c.in-Some-word_of.word c.in-Ok-texts_for.read_as c.in-Some-word_of.ensures.word
           c.in-Some-word_of.ensures.texts c.in-Ok-texts_for.ensures.texts;
+      dump = has_dump rows c.in-Some.name.now c.in-Some-word_of.word c.in-Ok-dump_for.dumps c.in-Some-word_of.ensures.word c.in-Some-word_of.ensures.dump
+          c.in-Ok-dump_for.ensures.dumps;
       names = c.in_ok-names.ensures;
       target = c.get_str.ensures ∙ first_value-rows (found_of c.in-Some.given.now) (codes "output");
     }

@@ -1,21 +1,38 @@
-use Rattle.std.proofs.Common.{rules}
+use Rattle.std.proofs.Common.{rules, subst}
+use Rattle.std.specs.Prelude.{IfOk}
+use Rattle.spa_text_commands.specs.Lines.{AddsParts}
+use Rattle.spa_text_commands.specs.Selection.{found_at}
+use Rattle.spa_text_commands.proofs.Stepping.{written_path}
 use Rattle.spa_text_commands.proofs.Values.{is_there, none_there, not_found, value_room}
 use Rattle.spa_text_commands.proofs.inner_values.add_if_found.Goals as goal
 
-pub returns-then-not-is_found-clause-added : goal.returns-then-not-is_found-clause-added
-returns-then-not-is_found-clause-added c =
-    not_found c.args.printout.form c.args.printout.selection c.args.count c.args.place c.args.bytes.now _ c.args.events.now c.args.event c.is_found.result
-    c.is_found.ensures (search rules)
+pub returns-then-not-sought-clause-added : goal.returns-then-not-sought-clause-added
+returns-then-not-sought-clause-added c =
+    let a = c.args in
+    let lines = a.page.now.lines.items in
+    subst (λ e. AddsParts a.printout.form (found_at a.printout.selection a.count a.place a.bytes.now a.events.now a.number e) lines lines 0)
+    c.event_at-event.ensures
+    (not_found a.printout.form a.printout.selection a.count a.place a.bytes.now _ a.events.now a.number _ c.in_ok-sought.sought c.in_ok-sought.ensures (search rules))
 
 pub returns-in_default-clause-added : goal.returns-in_default-clause-added
 returns-in_default-clause-added c =
-    none_there c.args.printout.form c.args.printout.selection c.args.count c.args.place c.args.bytes.now _ c.args.events.now c.args.event
-    c.in_default.ensures.none
+    let a = c.args in
+    let lines = a.page.now.lines.items in
+    subst (λ e. AddsParts a.printout.form (found_at a.printout.selection a.count a.place a.bytes.now a.events.now a.number e) lines lines 0)
+    c.event_at-event.ensures
+    (none_there a.printout.form a.printout.selection a.count a.place a.bytes.now _ a.events.now a.number _ c.in_default.ensures.none)
 
 pub add_part-requires-clause-place : goal.add_part-requires-clause-place
 add_part-requires-clause-place c = value_room c.args.place _ _ _ c.requires.place c.in-Some.ensures.there c.in-Some.ensures.front
 
 pub returns-clause-added : goal.returns-clause-added
 returns-clause-added c =
-    is_there c.args.printout.form c.args.printout.selection c.args.count c.args.place c.args.bytes.now _ _ _ c.args.events.now c.args.event c.is_found.result
-    c.add_part.result c.is_found.ensures (search rules) c.in-Some.ensures.there c.in-Some.ensures.front c.add_part.ensures.added
+    let a = c.args in
+    let s = a.printout.selection in
+    subst
+    (λ e. IfOk c.add_part.result
+    (AddsParts a.printout.form (found_at s a.count a.place a.bytes.now a.events.now a.number e) a.page.now.lines.items c.add_part.new.page.lines.items))
+    c.event_at-event.ensures
+    (is_there a.printout.form s a.count a.place a.bytes.now _ _ _ _ a.events.now a.number _ c.in_ok-sought.sought c.add_part.result c.in_ok-sought.ensures
+    (search rules) c.in-Some.ensures.there c.in-Some.ensures.front
+    (written_path _ _ _ _ c.as_str.ensures.value c.in_ok-put_path.ensures c.new-path.ensures.bytes) c.add_part.ensures.added)

@@ -1,5 +1,5 @@
-use Rattle.std.proofs.Common.{arith}
-use Rattle.spa_text_commands.proofs.Values.{bytes_below, bytes_printed, lines_printed, no_text, text_printed}
+use Rattle.std.proofs.Common.{◌∙◌, arith}
+use Rattle.spa_text_commands.proofs.Values.{bytes_below, bytes_printed, lines_printed, no_text, pods_printed}
 use Rattle.spa_text_commands.proofs.listing.print_part.Goals as goal
 
 pub returns-in-Lines : goal.returns-in-Lines
@@ -13,11 +13,13 @@ returns-in_ok-list-in-LinesAndBytes c =
 pub returns-then-refused-gt0 : goal.returns-then-refused-gt0
 returns-then-refused-gt0 c = no_text c.args.form c.in-Text.layout _ c.args.refused _ c.in-Text.is (λ z. grind (arith, z, c.if-refused-gt0.true))
 
-pub returns-else-refused-gt0 : goal.returns-else-refused-gt0
-returns-else-refused-gt0 c =
-    text_printed c.add_pod_text.result c.args.form c.in-Text.layout _ c.args.refused _ _ c.in-Text.is (grind (arith, c.if-refused-gt0.false))
-    c.add_pod_text.ensures
+pub returns-in_ok-path-in-Bytes : goal.returns-in_ok-path-in-Bytes
+returns-in_ok-path-in-Bytes c =
+    bytes_printed c.add_string.result c.args.form _ c.args.refused _ _ _ _ c.in-Bytes.is
+    (c.as_str-in-Bytes.ensures.value ∙ c.in_ok-path-in-Bytes.ensures) c.whole_bytes-in-Bytes.ensures.bytes
+    c.add_string.ensures
 
-pub returns-in-Bytes : goal.returns-in-Bytes
-returns-in-Bytes c =
-    bytes_printed c.add_string.result c.args.form _ c.args.refused _ _ _ c.in-Bytes.is c.whole_bytes-in-Bytes.ensures.bytes c.add_string.ensures
+pub returns-in-Pods : goal.returns-in-Pods
+returns-in-Pods c =
+    pods_printed c.extend_from_slice.result c.args.form _ c.args.refused _ _ _ c.in-Pods.is c.whole_bytes-in-Pods.ensures.bytes
+    c.extend_from_slice.ensures.items

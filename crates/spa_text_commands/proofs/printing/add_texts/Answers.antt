@@ -1,7 +1,7 @@
 use Rattle.std.proofs.Common.{arith, subst}
 use Rattle.spa_value.specs.View.{view}
-use Rattle.spa_text_commands.specs.Texts.{IsTextIn}
-use Rattle.spa_text_commands.specs.Unread.{IsStopped}
+use Rattle.spa_text_commands.specs.Texts.{IsTextAt}
+use Rattle.spa_text_commands.specs.Unread.{AddsTextLine, IsStopped}
 use Rattle.spa_text_commands.proofs.PrintedPods.{ends, goes_on, runs_out, stops, err_by}
 use Rattle.spa_text_commands.proofs.Saying.{shrinks}
 use Rattle.spa_text_commands.proofs.printing.add_texts.Goals as goal
@@ -9,12 +9,12 @@ use Rattle.spa_text_commands.proofs.printing.add_texts.Goals as goal
 pub returns-in_err-rest-clause-refused : goal.returns-in_err-rest-clause-refused
 returns-in_err-rest-clause-refused c =
     err_by (IsStopped c.args.pods.now) c.from_residual.result _ c.from_residual.ensures.1
-    (stops _ _ _ _ _ _ _ c.loop-left.invariant (λ e. grind (arith, e, c.loop-left-test.true, c.is_empty.ensures)) c.in_err-rest.ensures.refused)
+    (stops _ _ _ _ _ _ c.loop-left.invariant (λ e. grind (arith, e, c.loop-left-test.true, c.is_empty.ensures)) c.in_err-rest.ensures.refused)
 
-pub returns-in_err-add_text-clause-refused : goal.returns-in_err-add_text-clause-refused
-returns-in_err-add_text-clause-refused c =
-    err_by (IsStopped c.args.pods.now) c.from_residual-in_err-add_text.result _
-    c.from_residual-in_err-add_text.ensures.1 (runs_out _ _ c.in_err-add_text.ensures.cause)
+pub returns-in_err-add_text_at-clause-refused : goal.returns-in_err-add_text_at-clause-refused
+returns-in_err-add_text_at-clause-refused c =
+    err_by (IsStopped c.args.pods.now) c.from_residual-in_err-add_text_at.result _
+    c.from_residual-in_err-add_text_at.ensures.1 (runs_out _ _ c.in_err-add_text_at.ensures.cause)
 
 pub loop-left-smaller : goal.loop-left-smaller
 loop-left-smaller c =
@@ -22,11 +22,10 @@ loop-left-smaller c =
 
 pub loop-left-preserved : goal.loop-left-preserved
 loop-left-preserved c =
-    let added = c.in_ok-add_text.ensures.added in
-    goes_on c.args.layout c.args.mark.now c.args.pods.now c.loop-left.left.now c.in_ok-rest.rest.now c.args.lines.now.items
-    c.loop-left.lines.items c.add_text.new.lines.items added.0 (view c.in_ok-rest.value) c.loop-left.invariant c.in_ok-rest.ensures.value
-    c.in_ok-rest.ensures.rest added.1 (subst (λ value. IsTextIn c.args.layout (view value) added.0) c.deref.ensures added.2)
+    goes_on (IsTextAt c.args.layout c.args.path.now) c.args.pods.now c.loop-left.left.now c.in_ok-rest.rest.now c.args.lines.now.items c.loop-left.lines.items
+    c.add_text_at.new.lines.items (view c.in_ok-rest.value) c.loop-left.invariant c.in_ok-rest.ensures.value c.in_ok-rest.ensures.rest
+    (subst (λ value. AddsTextLine (IsTextAt c.args.layout c.args.path.now) (view value) c.loop-left.lines.items c.add_text_at.new.lines.items) c.deref.ensures c.in_ok-add_text_at.ensures.added)
 
 pub returns-clause-added : goal.returns-clause-added
 returns-clause-added c =
-    ends _ _ _ c.loop-left.left.now _ _ c.loop-left.invariant (grind (arith, c.loop-left-test.false, c.is_empty.ensures))
+    ends _ _ c.loop-left.left.now _ _ c.loop-left.invariant (grind (arith, c.loop-left-test.false, c.is_empty.ensures))

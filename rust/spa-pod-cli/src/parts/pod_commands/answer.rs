@@ -5,6 +5,7 @@ use spa_pod::shims::prelude::*;
 use crate::parts::pod_commands::misuse::Misuse;
 use crate::parts::pod_commands::plain::Plain;
 use crate::shims::clap::Error;
+use crate::parts::spa_recordings::going_on::Gap;
 use crate::parts::spa_refusals::{NamedRefusal, Refusal};
 use crate::parts::spa_text_commands::selection::Selection;
 use spa_pod::shims::memory::AllocError;
@@ -116,6 +117,25 @@ impl fmt::Display for Objects<'_> {
     }
 }
 
+/// What is said of bytes that are left out.
+#[derive(Clone, Copy)]
+struct LeftOut(Option<Gap>);
+
+impl fmt::Display for LeftOut {
+    fn fmt(&self, f: &mut fmt::Formatter<'_>) -> fmt::Result {
+        match self.0 {
+            Some(gap) => {
+                write!(
+                    f,
+                    "; {} bytes are left out, up to byte {}",
+                    gap.len, gap.end
+                )
+            }
+            None => Ok(()),
+        }
+    }
+}
+
 impl fmt::Display for Failure<'_> {
     fn fmt(&self, f: &mut fmt::Formatter<'_>) -> fmt::Result {
         match self {
@@ -179,13 +199,23 @@ fn report_count<E: Write>(faults: &mut E, count: usize) -> io::Result<()> {
 
 /// Writes the line that says that what is looked for isn't there.
 pub fn report_missing<E: Write>(faults: &mut E, selection: Selection<'_>) -> io::Result<()> {
-    match selection.key {
-        Some(key) => report_no_value(faults, key, selection.type_, selection.id),
+    match selection.path {
+        Some(path) => writeln!(faults, "pod: no pod stands at {}", Plain(path)),
+        None => report_none_of(faults, selection.key, selection.type_, selection.id),
+    }
+}
+
+/// Writes the line that says that no object has this type and this id, or no value this key in such objects, of those that are given.
+fn report_none_of<E: Write>(
+    faults: &mut E,
+    key: Option<&str>,
+    type_: Option<&str>,
+    id: Option<&str>,
+) -> io::Result<()> {
+    match key {
+        Some(key) => report_no_value(faults, key, type_, id),
         None => {
-            let objects = Objects {
-                type_: selection.type_,
-                id: selection.id,
-            };
+            let objects = Objects { type_, id };
             writeln!(faults, "pod: no object has {objects}")
         }
     }
@@ -222,7 +252,8 @@ fn report_no_value_in<E: Write>(faults: &mut E, key: &str, objects: Objects<'_>)
 
 /// Writes the line of a refused pod.
 fn report_pod<E: Write>(faults: &mut E, pod: &NamedRefusal<'_>) -> io::Result<()> {
-    writeln!(faults, "pod: {}: {}", Name(pod.name), pod.refusal)
+    let left_out = LeftOut(pod.left_out);
+    writeln!(faults, "pod: {}: {}{left_out}", Name(pod.name), pod.refusal)
 }
 
 /// Writes the line of a wrong command line.

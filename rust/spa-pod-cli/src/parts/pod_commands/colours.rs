@@ -2,6 +2,7 @@
 //! Texts in colours.
 
 use spa_pod::shims::prelude::*;
+use crate::parts::spa_text_commands::selection::Form;
 use spa_pod::shims::memory::AllocError;
 
 /// Whether texts are coloured.
@@ -49,6 +50,15 @@ pub(crate) fn in_colours(
     match colours {
         Colours::Off => Ok(text),
         Colours::On => coloured(text.as_slice()),
+    }
+}
+
+/// The colours of what is printed in this form: pods themselves have none.
+pub(crate) fn colours_of(form: Form, colours: Colours) -> Colours {
+    if form.is_pods() {
+        Colours::Off
+    } else {
+        colours
     }
 }
 

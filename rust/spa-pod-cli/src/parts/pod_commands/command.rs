@@ -9,13 +9,13 @@ use spa_pod::shims::memory::AllocError;
 const VERSION: &str = "0.2.0";
 
 const ABOUT: &str =
-    "Shows, prints, reads, rewrites, fixates, checks and compares pods of PipeWire, and finds what two objects agree on";
+    "Shows, prints, cuts out, reads, rewrites, fixates, checks and compares pods of PipeWire, and finds what two objects agree on";
 
 /// What stands behind the help of the program.
 const EXAMPLES: &str =
-    "Without a FILE, or where FILE is -, the standard input is read. show, --stream, --nth, --type, --id, --key and --hex write as input is read, unless --lenient is given. Other output is written once all input is accepted, or with --keep-going and --keep-refused once it is read.
+    "Without a FILE, or where FILE is -, the standard input is read. show, --stream, --nth, --type, --id, --key and --hex write as input is read, unless --lenient is given. Other output is written once all input is accepted, or with --keep-going, --keep-refused and --resync once it is read.
 
-Status: 0 the work is done; 1 a pod is refused, two inputs differ, nothing has the type, id or key that is looked for, or something can't be read or written; 2 the command line is wrong.
+Status: 0 the work is done; 1 a pod is refused, two inputs differ, nothing has the type, id, key or path that is looked for, or something can't be read or written; 2 the command line is wrong.
 
 Example: cat props.pod route.pod | pod rewrite -o clean.pod
 
@@ -94,10 +94,15 @@ fn reading_pods<'a>(command: Command<'a>) -> Result<Command<'a>, AllocError> {
 /// A word that goes over pods.
 fn over_pods<'a>(command: Command<'a>) -> Result<Command<'a>, AllocError> {
     let with_lenient = reading_pods(command)?;
-    with_flag(
+    let going_on = with_flag(
         with_lenient,
         "keep-going",
         "Leaves refused pods out and names each of them on standard error; the status is 1 then",
+    )?;
+    with_flag(
+        going_on,
+        "resync",
+        "Leaves refused pods out and, where one's size word may be wrong, all up to where the next pod plausibly begins; says what is left out, and the status is 1 then",
     )
 }
 
@@ -183,7 +188,7 @@ fn rewrite<'a>() -> Result<Command<'a>, AllocError> {
 fn fixate<'a>() -> Result<Command<'a>, AllocError> {
     let plain = to_pods(
         "fixate",
-        "Sets each choice in a top-level object to its default, unless its property is marked not to be fixated",
+        "Sets each choice in a top-level object, as get cuts one out, to its default, unless its property is marked not to be fixated",
         "Example: pod fixate buffers.pod -o fixed.pod",
     )?;
     with_flag(
@@ -211,9 +216,36 @@ fn json<'a>() -> Result<Command<'a>, AllocError> {
         "Example: pod json --key rate formats.pods",
     )?;
     let plain = over_pods(bare)?;
-    let with_pretty = plain.arg(flag("pretty", "Indents the JSON"))?;
-    let with_parts = with_parts(with_pretty)?;
+    let with_layouts = with_layouts(plain)?;
+    let with_parts = with_parts(with_layouts)?;
     with_parts.arg(stream())
+}
+
+/// A word that prints texts, which may be indented, or as `pw-dump` prints objects.
+fn with_layouts<'a>(command: Command<'a>) -> Result<Command<'a>, AllocError> {
+    let with_pretty = with_flag(command, "pretty", "Indents the JSON")?;
+    with_flag(
+        with_pretty,
+        "pw-dump",
+        "Prints each object as pw-dump prints one of params, for read --pw-dump; a pod for which that has no form is refused",
+    )
+}
+
+/// `PATH`
+fn path<'a>() -> Arg<'a> {
+    Arg::new("PATH").required(true).help(
+        "The path to a pod as show and json print it, such as '3[2].rate'; 3 is the third pod itself",
+    )
+}
+
+/// The word `get`.
+fn get<'a>() -> Result<Command<'a>, AllocError> {
+    let bare = Command::new("get")
+        .about("Writes the bytes of the pod at a path, also of a refused one; the status is 1 then")
+        .after_help("Example: pod get '3[9][2]' recording.pods | pod fixate | pod json");
+    let with_path = bare.arg(path())?;
+    let with_all = with_path.arg(files())?;
+    with_all.arg(output())
 }
 
 /// The word `read`.
@@ -289,8 +321,10 @@ pub(crate) fn program<'a>() -> Result<Command<'a>, AllocError> {
 fn with_json<'a>(command: Command<'a>) -> Result<Command<'a>, AllocError> {
     let one = json()?;
     let first = command.subcommand(one)?;
-    let two = read()?;
-    first.subcommand(two)
+    let two = get()?;
+    let second = first.subcommand(two)?;
+    let three = read()?;
+    second.subcommand(three)
 }
 
 fn with_writers<'a>(command: Command<'a>) -> Result<Command<'a>, AllocError> {
@@ -312,13 +346,13 @@ fn with_pairs<'a>(command: Command<'a>) -> Result<Command<'a>, AllocError> {
     let second = with_pair(
         first,
         "meet",
-        "Negotiates: writes the object on which two top-level objects agree, those of one FILE or the first pair of two FILEs that does",
+        "Negotiates: writes the object on which two top-level objects agree, as get cuts them out, those of one FILE or the first pair of two FILEs that does",
         "Example: pod meet ours.pods theirs.pods | pod show",
     )?;
     with_pair(
         second,
         "filter",
-        "Filters: writes the object of the values that two top-level objects share, those of one FILE or the first pair of two FILEs that does",
+        "Filters: writes the object of the values that two top-level objects share, as get cuts them out, those of one FILE or the first pair of two FILEs that does",
         "Example: pod filter ours.pods theirs.pods | pod fixate",
     )
 }

@@ -3,10 +3,10 @@
 
 use spa_pod::shims::prelude::*;
 use crate::parts::pod_commands::answer::Failure;
-use crate::parts::pod_commands::colours::in_colours;
+use crate::parts::pod_commands::colours::{Colours, colours_of, in_colours};
 use crate::parts::pod_commands::files::{Files, read_named};
 use crate::parts::pod_commands::reading::read_leniently;
-use crate::parts::pod_commands::refusing::refused;
+use crate::parts::pod_commands::refusing::{formless, refused, unmade};
 use crate::parts::pod_commands::request::{Making, Printing, Style, Texts};
 use crate::parts::pod_commands::streaming::check_all;
 use spa_pod::parts::spa_in_place::rewrite_in_place;
@@ -17,6 +17,7 @@ use crate::parts::spa_recordings::reading::Reading;
 use crate::parts::spa_refusals::{NamedRefusal, add_refusals};
 use crate::parts::spa_text_commands::answer::Failure as TextFailure;
 use crate::parts::spa_text_commands::hexadecimal::read_hexadecimal;
+use crate::parts::spa_text_commands::params::{Unprinted, print_params};
 use crate::parts::spa_text_commands::printing::print_all;
 use crate::parts::spa_text_commands::reading::read_all;
 use crate::parts::spa_text_commands::showing::show_pods;
@@ -71,10 +72,9 @@ fn make_leniently<'a>(
         Ok(pods) => pods,
         Err(why) => return Err(why),
     };
-    // What was read is refused for lack of memory alone.
     match make(making, name, pods) {
         Ok(made) => Ok(made),
-        Err(_) => Err(Failure::OutOfMemory),
+        Err(_) => Err(unmade(making, Reading::Lenient, name, bytes.as_slice())),
     }
 }
 
@@ -86,6 +86,7 @@ fn make<'a>(
 ) -> Result<Vec<u8>, Failure<'a>> {
     match making {
         Making::Json(style) => print(style, name, bytes.as_slice()),
+        Making::Dump(colours) => dump(colours, name, bytes.as_slice()),
         Making::Read(texts) => read(texts, name, bytes.as_slice()),
         Making::Rewrite => rewrite(name, bytes),
         Making::Fixate => fixate(name, bytes),
@@ -146,6 +147,24 @@ fn print<'a>(
     }
 }
 
+/// What `pw-dump` prints of the pods that these bytes consist of, in colours if it is to have them.
+fn dump<'a>(
+    colours: Colours,
+    name: &'a str,
+    bytes: &[u8],
+) -> Result<Vec<u8>, Failure<'a>> {
+    let lines = match print_params(bytes) {
+        Ok(lines) => lines,
+        Err(Unprinted::NoForm) => return Err(formless(Reading::Exact, name, bytes)),
+        Err(Unprinted::NoPods) => return Err(refused(Reading::Exact, name, bytes)),
+        Err(Unprinted::OutOfMemory) => return Err(Failure::OutOfMemory),
+    };
+    match in_colours(colours, lines) {
+        Ok(out) => Ok(out),
+        Err(_) => Err(Failure::OutOfMemory),
+    }
+}
+
 /// What is printed of the pods that these bytes consist of, where none of those that are printed is refused.
 fn print_parts<'a>(
     printing: Printing<'_>,
@@ -158,7 +177,8 @@ fn print_parts<'a>(
     if printed.refused != 0 {
         return Err(refused(Reading::Exact, name, bytes));
     }
-    match in_colours(printing.colours, printed.bytes) {
+    let colours = colours_of(printing.printout.form, printing.colours);
+    match in_colours(colours, printed.bytes) {
         Ok(out) => Ok(out),
         Err(_) => Err(Failure::OutOfMemory),
     }
@@ -234,15 +254,10 @@ pub(crate) fn make_what_is_read<'a, R: Read, S: Files>(
     let mut refused = Vec::new();
     for name in names {
         let bytes = read_named(*name, input, files)?;
-        let made = work_on(
-            making,
-            manner,
-            *name,
-            0,
-            0,
-            bytes.as_slice(),
-            &mut refused,
-        )?;
+        let bytes = bytes.as_slice();
+        let Ok(made) = work_on(making, manner, *name, 0, 0, bytes, &mut refused) else {
+            return Err(unmade(making, manner.reading, *name, bytes));
+        };
         add(&mut out, made)?;
     }
     Ok(Worked { out, refused })
@@ -262,8 +277,13 @@ pub(crate) fn work_on<'a>(
         out: Vec::new(),
         refused: Vec::new(),
     };
-    make_each(&making, manner, name, place, part, &mut made)?;
-    let pods = made.refused.as_slice();
-    add_refusals(manner.reading, count, place, part, pods, said)?;
+    make_each(&making, manner, name, count, place, part, &mut made)?;
+    add_refusals(
+        manner.reading,
+        place,
+        part,
+        made.refused.as_slice(),
+        said,
+    )?;
     Ok(made.out)
 }

@@ -18,3 +18,4 @@ pub mod screen;
 mod sending;
 mod streaming;
 mod suggesting;
+mod texts;

@@ -4,20 +4,18 @@
 use spa_pod::shims::prelude::*;
 use crate::parts::pod_commands::colours::Colours;
 use crate::parts::pod_commands::command::program;
-use crate::parts::pod_commands::misuse::{Misuse, OfRead};
+use crate::parts::pod_commands::misuse::Misuse;
 use crate::parts::pod_commands::screen::Screen;
 use crate::parts::pod_commands::suggesting::similar_name;
+use crate::parts::pod_commands::texts::texts_for;
 use crate::shims::clap::{ArgMatches, Error};
 use crate::parts::spa_meet_commands::pair::Work;
-use spa_pod::parts::spa_names::Table;
 use crate::parts::spa_recordings::going_on::Refused;
 use crate::parts::spa_recordings::reading::Reading;
 use crate::parts::spa_text_commands::naming::{Named, are_names};
 use crate::parts::spa_text_commands::printing::Layout;
 use crate::parts::spa_text_commands::selection::{Form, Printout, Selection};
-use spa_pod::parts::spa_text_forms::key_number;
 use spa_pod::parts::spa_text_read::Strictness;
-use spa_pod::parts::spa_text_read::names::ids_of;
 use spa_pod::shims::memory::AllocError;
 
 /// How texts are printed.
@@ -50,6 +48,8 @@ pub enum Texts {
 pub enum Making<'a> {
     /// The texts of its pods, as JSON in this style.
     Json(Style),
+    /// What `pw-dump` prints of its pods, in colours or without.
+    Dump(Colours),
     /// The pods of its texts, which are read so, or the bytes that they have in hexadecimal.
     Read(Texts),
     /// The rewritings of its pods.
@@ -138,13 +138,22 @@ pub(crate) fn request_of<'a>(
         Ok(read_as) => read_as,
         Err(wrong) => return Ok(Err(wrong)),
     };
+    let manner = match manner_of(given) {
+        Ok(manner) => manner,
+        Err(two) => return Ok(Err(two)),
+    };
+    let dumps = match dump_for(name, given) {
+        Ok(dumps) => dumps,
+        Err(excluded) => return Ok(Err(excluded)),
+    };
     let Some(word) = word_of(
         name,
         options,
-        manner_of(given),
+        manner,
         is_set(given, "stream"),
         read_as,
         is_set(given, "settle"),
+        dumps,
     ) else {
         return Ok(Err(Misuse::NoWord));
     };
@@ -164,10 +173,12 @@ fn word_of<'a>(
     streams: bool,
     read_as: Texts,
     settles: bool,
+    dumps: bool,
 ) -> Option<Word<'a>> {
     match name {
+        "get" => Some(cut_out(options, manner, streams)),
         "show" => Some(shown(options, manner.reading, streams)),
-        "json" => Some(as_json(options, manner, streams)),
+        "json" => Some(json_or_dump(options, manner, streams, dumps)),
         "read" => Some(Word::Make(Making::Read(read_as), PLAIN)),
         "rewrite" => Some(rewriting(manner, streams)),
         "fixate" => Some(Word::Make(fixating(settles), manner)),
@@ -237,7 +248,8 @@ fn options_of<'a>(given: &ArgMatches<'a>, screen: Screen) -> Result<Options<'a>,
 
 /// Which pods are asked for, and what is looked for in them; or the option whose value is none of its own.
 fn selection_of<'a>(given: &ArgMatches<'a>) -> Result<Selection<'a>, Misuse<'a>> {
-    let nth = match number_of(given.get_str("nth")) {
+    let path = given.get_str("PATH");
+    let nth = match number_given(path, given.get_str("nth")) {
         Ok(nth) => nth,
         Err(why) => return Err(why),
     };
@@ -255,6 +267,7 @@ fn selection_of<'a>(given: &ArgMatches<'a>) -> Result<Selection<'a>, Misuse<'a>>
     };
     Ok(Selection {
         nth,
+        path,
         key,
         type_,
         id,
@@ -298,7 +311,7 @@ pub(crate) fn fills_terminal(request: &Request<'_>, screen: Screen) -> bool {
 /// Whether this word writes pods, and no text.
 fn writes_pods(word: Word<'_>) -> bool {
     match word {
-        Word::Print(_, _) => false,
+        Word::Print(printing, _) => printing.printout.form.is_pods(),
         Word::Make(making, _) => makes_pods(making),
         Word::Stream(streaming, _) => streams_pods(streaming),
         Word::Diff(_) => false,
@@ -310,11 +323,12 @@ fn writes_pods(word: Word<'_>) -> bool {
 fn makes_pods(making: Making<'_>) -> bool {
     match making {
         Making::Json(_) => false,
+        Making::Dump(_) => false,
         Making::Read(_) => true,
         Making::Rewrite => true,
         Making::Fixate => true,
         Making::Settle => true,
-        Making::Print(_) => false,
+        Making::Print(printing) => printing.printout.form.is_pods(),
         Making::Check => false,
     }
 }
@@ -324,7 +338,7 @@ fn streams_pods(streaming: Streaming<'_>) -> bool {
     match streaming {
         Streaming::Json(_) => false,
         Streaming::Rewrite => true,
-        Streaming::Print(_) => false,
+        Streaming::Print(printing) => printing.printout.form.is_pods(),
         Streaming::Check => false,
     }
 }
@@ -357,6 +371,41 @@ fn colours_by(to_terminal: bool) -> Colours {
     }
 }
 
+/// The number of the only pod in which something is printed: that of this path, or the value of `--nth`, if one of them is given.
+fn number_given<'a>(
+    path: Option<&'a str>,
+    nth: Option<&'a str>,
+) -> Result<Option<usize>, Misuse<'a>> {
+    let Some(path) = path else {
+        return number_of(nth);
+    };
+    match number_of(Some(number_in(path))) {
+        Ok(number) => Ok(number),
+        Err(_) => Err(Misuse::Path(path)),
+    }
+}
+
+/// The number at the front of a path, before the first of its steps.
+fn number_in(path: &str) -> &str {
+    before_point(before_bracket(path))
+}
+
+/// What stands before the first bracket.
+fn before_bracket(path: &str) -> &str {
+    match path.split_once('[') {
+        Some((front, _)) => front,
+        None => path,
+    }
+}
+
+/// What stands before the first point.
+fn before_point(path: &str) -> &str {
+    match path.split_once('.') {
+        Some((front, _)) => front,
+        None => path,
+    }
+}
+
 /// The number that the value of `--nth` says, if it is given.
 fn number_of<'a>(text: Option<&'a str>) -> Result<Option<usize>, Misuse<'a>> {
     let Some(text) = text else {
@@ -386,6 +435,24 @@ fn shown<'a>(options: Options<'a>, reading: Reading, streams: bool) -> Word<'a> 
     } else {
         Word::Print(printing, manner)
     }
+}
+
+/// The word `get` with these options, with `--stream` or without it: `clap` refuses that option of this word.
+fn cut_out<'a>(options: Options<'a>, manner: Manner, streams: bool) -> Word<'a> {
+    let printing = options.printing(Form::Pods);
+    if streams {
+        Word::Stream(Streaming::Print(printing), manner)
+    } else {
+        Word::Print(printing, manner)
+    }
+}
+
+/// The word `json` with these options, with `--stream` or without it, and with `--pw-dump` or without it.
+fn json_or_dump<'a>(options: Options<'a>, manner: Manner, streams: bool, dumps: bool) -> Word<'a> {
+    if dumps {
+        return Word::Make(Making::Dump(options.colours), manner);
+    }
+    as_json(options, manner, streams)
 }
 
 /// The word `json` with these options, with `--stream` or without it.
@@ -439,16 +506,21 @@ const PLAIN: Manner = Manner {
     fate: Fate::Stops,
 };
 
-/// How inputs are to be read.
-fn manner_of(given: &ArgMatches<'_>) -> Manner {
-    Manner {
-        reading: reading_by(is_set(given, "lenient")),
-        fate: fate_by(is_set(given, "keep-going"), is_set(given, "keep-refused")),
+/// How inputs are to be read; or options for refused pods that exclude each other.
+fn manner_of<'a>(given: &ArgMatches<'a>) -> Result<Manner, Misuse<'a>> {
+    let reading = reading_by(is_set(given, "lenient"));
+    match fate_by(
+        is_set(given, "resync"),
+        is_set(given, "keep-refused"),
+        is_set(given, "keep-going"),
+    ) {
+        Ok(fate) => Ok(Manner { reading, fate }),
+        Err(why) => Err(why),
     }
 }
 
 /// Whether the flag of this name is given.
-fn is_set(given: &ArgMatches<'_>, name: &str) -> bool {
+pub(crate) fn is_set(given: &ArgMatches<'_>, name: &str) -> bool {
     is_true(given.get_str(name))
 }
 
@@ -469,14 +541,15 @@ fn reading_by(is_lenient: bool) -> Reading {
     }
 }
 
-/// What becomes of an input with a refused pod where `--keep-going` is given, or isn't, and `--keep-refused`.
-fn fate_by(goes_on: bool, keeps: bool) -> Fate {
-    if keeps {
-        Fate::GoesOn(Refused::Kept)
-    } else if goes_on {
-        Fate::GoesOn(Refused::LeftOut)
-    } else {
-        Fate::Stops
+/// What becomes of an input with a refused pod where `--resync` is given, or isn't, `--keep-refused` and `--keep-going`.
+fn fate_by<'a>(resyncs: bool, keeps: bool, goes_on: bool) -> Result<Fate, Misuse<'a>> {
+    match (resyncs, keeps, goes_on) {
+        (false, false, false) => Ok(Fate::Stops),
+        (false, false, true) => Ok(Fate::GoesOn(Refused::LeftOut)),
+        (false, true, _) => Ok(Fate::GoesOn(Refused::Kept)),
+        (true, false, false) => Ok(Fate::GoesOn(Refused::Resynced)),
+        (true, false, true) => Err(Misuse::WithResync(Refused::LeftOut)),
+        (true, true, _) => Err(Misuse::WithResync(Refused::Kept)),
     }
 }
 
@@ -494,84 +567,31 @@ fn layout_by(is_pretty: bool) -> Layout {
     }
 }
 
-/// How texts are read without `--pw-dump`, where `--from-hex` is given, or isn't, and `--loose`.
-fn texts_by(from_hex: bool, is_loose: bool) -> Texts {
-    if from_hex {
-        Texts::Hex
-    } else {
-        Texts::Named(strictness_by(is_loose))
+/// Whether the word of this name prints as `pw-dump` does, which only `json` can; or an option is given that excludes it.
+fn dump_for<'a>(name: &str, given: &ArgMatches<'a>) -> Result<bool, Misuse<'a>> {
+    if name != "json" || !is_set(given, "pw-dump") {
+        return Ok(false);
     }
+    if excludes_dump(given) {
+        return Err(Misuse::WithDump);
+    }
+    Ok(true)
 }
 
-/// How the word of this name reads texts; only `read` does.
-fn texts_for<'a>(name: &str, given: &ArgMatches<'a>) -> Result<Texts, Misuse<'a>> {
-    if name != "read" {
-        return Ok(Texts::Named(Strictness::Strict));
-    }
-    texts_of(
-        is_set(given, "from-hex"),
-        is_set(given, "loose"),
-        is_set(given, "pw-dump"),
-        given.get_str("type"),
-        given.get_str("id"),
-    )
+/// Whether an option is given that doesn't go with `--pw-dump`.
+fn excludes_dump(given: &ArgMatches<'_>) -> bool {
+    is_set(given, "pretty")
+        || is_set(given, "hex")
+        || is_set(given, "stream")
+        || has_value(given, "nth")
+        || has_value(given, "type")
+        || has_value(given, "id")
+        || has_value(given, "key")
 }
 
-/// How texts are read where `--from-hex` is given, or isn't, `--loose` and `--pw-dump`, and `--type` and `--id` have these values.
-fn texts_of<'a>(
-    from_hex: bool,
-    is_loose: bool,
-    is_dump: bool,
-    type_: Option<&'a str>,
-    id: Option<&'a str>,
-) -> Result<Texts, Misuse<'a>> {
-    match (is_dump, from_hex, is_loose) {
-        (false, _, _) => plain_texts(from_hex, is_loose, type_, id),
-        (true, true, _) => Err(Misuse::Read(OfRead::HexDump)),
-        (true, false, true) => Err(Misuse::Read(OfRead::LooseDump)),
-        (true, false, false) => params_in(type_, id),
-    }
-}
-
-/// How texts are read without `--pw-dump`, which `--type` and `--id` need.
-fn plain_texts<'a>(
-    from_hex: bool,
-    is_loose: bool,
-    type_: Option<&str>,
-    id: Option<&str>,
-) -> Result<Texts, Misuse<'a>> {
-    match (type_, id) {
-        (None, None) => Ok(texts_by(from_hex, is_loose)),
-        _ => Err(Misuse::Read(OfRead::WithoutDump)),
-    }
-}
-
-/// How texts are read with `--pw-dump`, where `--type` and `--id` have these values.
-fn params_in<'a>(type_: Option<&'a str>, id: Option<&'a str>) -> Result<Texts, Misuse<'a>> {
-    match (type_, id) {
-        (Some(type_), Some(id)) => params_of(type_, id),
-        _ => Err(Misuse::Read(OfRead::DumpAlone)),
-    }
-}
-
-/// Params of the type and the id of these names.
-fn params_of<'a>(type_: &'a str, id: &'a str) -> Result<Texts, Misuse<'a>> {
-    let Some(number) = key_number(Table::Types, type_) else {
-        return Err(Misuse::Read(OfRead::TypeName(type_)));
-    };
-    match key_number(ids_of(number), id) {
-        Some(id) => Ok(Texts::Dump { type_: number, id }),
-        None => Err(Misuse::Read(OfRead::IdName(id))),
-    }
-}
-
-/// The strictness where `--loose` is given, or isn't.
-fn strictness_by(is_loose: bool) -> Strictness {
-    if is_loose {
-        Strictness::Plain
-    } else {
-        Strictness::Strict
-    }
+/// Whether the option of this name is given with a value.
+fn has_value(given: &ArgMatches<'_>, name: &str) -> bool {
+    given.get_str(name).is_some()
 }
 
 /// The inputs' names.

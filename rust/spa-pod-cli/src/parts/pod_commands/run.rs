@@ -201,7 +201,10 @@ fn excluded_in(manner: Manner, target: Option<&str>) -> Option<Excluded> {
     match (manner.reading, manner.fate, target) {
         (_, _, Some(_)) => Some(Excluded::Output),
         (Reading::Lenient, Fate::Stops, None) => Some(Excluded::Lenient),
-        (_, _, None) => None,
+        (Reading::Exact, Fate::Stops, None) => None,
+        (_, Fate::GoesOn(Refused::Resynced), None) => Some(Excluded::Resync),
+        (_, Fate::GoesOn(Refused::LeftOut), None) => None,
+        (_, Fate::GoesOn(Refused::Kept), None) => None,
     }
 }
 

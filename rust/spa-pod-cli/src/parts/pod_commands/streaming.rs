@@ -2,7 +2,7 @@
 //! Inputs that are written of as they come.
 
 use crate::parts::pod_commands::answer::Failure;
-use crate::parts::pod_commands::colours::in_colours;
+use crate::parts::pod_commands::colours::{colours_of, in_colours};
 use crate::parts::pod_commands::files::{Files, open_named};
 use crate::parts::pod_commands::request::{Printing, Streaming, Style};
 use crate::parts::spa_pod_commands::making::check;
@@ -175,7 +175,8 @@ fn write_printed<W: Write>(
         return Err(NotMade::OutOfMemory);
     };
     let Printed { bytes, refused } = printed;
-    let Ok(made) = in_colours(printing.colours, bytes) else {
+    let colours = colours_of(printing.printout.form, printing.colours);
+    let Ok(made) = in_colours(colours, bytes) else {
         return Err(NotMade::OutOfMemory);
     };
     match write_made(output, made.as_slice()) {

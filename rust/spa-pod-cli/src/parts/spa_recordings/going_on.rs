@@ -2,8 +2,10 @@
 //! What is made of pods of which some are refused.
 
 use spa_pod::shims::prelude::*;
+use crate::parts::spa_recordings::blocks::whole_of;
+use crate::parts::spa_recordings::plausible::{is_plausible, next_plausible};
 use crate::parts::spa_recordings::reading::{Reading, first_unread, read_as};
-use spa_pod::parts::spa_bytes::open;
+use spa_pod::parts::spa_bytes::{HEADER_LEN, open};
 use spa_pod::shims::memory::AllocError;
 
 /// What becomes of a refused pod.
@@ -13,6 +15,8 @@ pub enum Refused {
     LeftOut,
     /// It is kept as it is.
     Kept,
+    /// It is left out alone, if behind it the input ends or a pod plausibly begins; else with all up to where one does, or up to the end.
+    Resynced,
 }
 
 /// How an input is read, and what becomes of its refused pods.
@@ -22,15 +26,28 @@ pub struct Manner {
     pub refused: Refused,
 }
 
+/// Bytes that are left out with a refused pod.
+#[derive(Clone, Copy, Debug)]
+pub struct Gap {
+    /// How many they are.
+    pub len: usize,
+    /// The byte of the input where the work goes on, or where the input ends.
+    pub end: usize,
+}
+
 /// A pod that was refused.
 #[derive(Clone, Copy, Debug)]
 pub struct RefusedPod<'a> {
     /// The name of the input.
     pub name: &'a str,
+    /// Which pod of the input it is, the first being 1. What is left out with a refused pod counts as one.
+    pub number: usize,
     /// The byte of the input where the pod begins.
     pub place: usize,
     /// The name of the refusal.
     pub kind: &'static str,
+    /// What is left out from there on, where the size word doesn't say it.
+    pub left_out: Option<Gap>,
 }
 
 /// What was made of inputs.
@@ -47,26 +64,40 @@ pub trait Maker {
     fn make(&self, pods: Vec<u8>) -> Result<Vec<u8>, AllocError>;
 }
 
-/// Adds what is made of the pods of the input of this name, and which of them are refused; so many bytes of it stand before these.
+/// Adds what is made of the pods of the input of this name, and which of them are refused; so many pods and bytes of it stand before these.
 ///
-/// A refused pod is as long as its size word says; where that is more than is left, or no size word is there, it is all that is left. It takes
-/// time in proportion to the input, beside what the maker takes.
+/// A refused pod is as long as its size word says; where that is more than is left, or no size word is there, it is all that is left. `Resynced` doesn't
+/// trust the size word. It takes time in proportion to the input, beside what the maker takes; where refused pods are tried one inside
+/// another, that many times as long.
 pub fn make_each<'a, M: Maker>(
     maker: &M,
     manner: Manner,
     name: &'a str,
+    count: usize,
     before: usize,
     input: &[u8],
     made: &mut Made<'a>,
 ) -> Result<(), AllocError> {
     let mut left = input;
+    let mut number = count;
     loop {
         let place = before + (input.len() - left.len());
-        match make_next(maker, manner, name, place, left, made)? {
-            Some(rest) => left = rest,
+        match make_next(maker, manner, name, number, place, left, made)? {
+            Some(behind) => {
+                number = behind.number;
+                left = behind.rest;
+            }
             None => return Ok(()),
         }
     }
+}
+
+/// What follows a refused pod.
+#[derive(Clone, Copy)]
+struct Behind<'b> {
+    /// Which pod of the input that one is.
+    number: usize,
+    rest: &'b [u8],
 }
 
 /// Adds what is made of what is left up to the first refused pod and of that pod, and answers what follows it; or adds what is made of
@@ -75,25 +106,30 @@ fn make_next<'a, 'b, M: Maker>(
     maker: &M,
     manner: Manner,
     name: &'a str,
+    count: usize,
     place: usize,
     left: &'b [u8],
     made: &mut Made<'a>,
-) -> Result<Option<&'b [u8]>, AllocError> {
+) -> Result<Option<Behind<'b>>, AllocError> {
     let Some(unread) = first_unread(manner.reading, left)? else {
         add_made(maker, manner.reading, left, &mut made.out)?;
         return Ok(None);
     };
     let (before, _) = left.split_at(left.len() - unread.left.len());
     add_made(maker, manner.reading, before, &mut made.out)?;
-    let rest = behind_front(unread.left);
-    let (pod, _) = unread.left.split_at(unread.left.len() - rest.len());
-    keep(manner.refused, pod, &mut made.out)?;
+    let len = passed_len(manner.refused, unread.left);
+    let (passed, rest) = unread.left.split_at(len);
+    keep(manner.refused, passed, &mut made.out)?;
+    let number = count + whole_of(before).count + 1;
+    let at = place + before.len();
     made.refused.try_push(RefusedPod {
         name,
-        place: place + before.len(),
+        number,
+        place: at,
         kind: unread.kind,
+        left_out: left_out_by(manner.refused, at, len),
     })?;
-    Ok(Some(rest))
+    Ok(Some(Behind { number, rest }))
 }
 
 /// Adds what is made of the pods as which these bytes are read.
@@ -110,18 +146,59 @@ fn add_made<M: Maker>(
     out.try_extend_from_slice(more.as_slice())
 }
 
-/// What follows the pod at the front, whether or not that is read.
-fn behind_front(left: &[u8]) -> &[u8] {
-    match open(left) {
-        Some(front) => front.rest,
-        None => &[],
+/// How many bytes are passed with the refused pod at the front.
+fn passed_len(refused: Refused, left: &[u8]) -> usize {
+    match refused {
+        Refused::LeftOut => front_len(left),
+        Refused::Kept => front_len(left),
+        Refused::Resynced => len_to_plausible(left),
     }
 }
 
-/// Adds a refused pod, if it is kept.
-fn keep(refused: Refused, pod: &[u8], out: &mut Vec<u8>) -> Result<(), AllocError> {
+/// How many bytes the pod at the front takes, or are there of it.
+fn front_len(left: &[u8]) -> usize {
+    match open(left) {
+        Some(front) => left.len() - front.rest.len(),
+        None => left.len(),
+    }
+}
+
+/// How many bytes are left out with the refused pod at the front where its size word isn't trusted.
+fn len_to_plausible(left: &[u8]) -> usize {
+    if is_well_followed(left) {
+        return front_len(left);
+    }
+    match next_plausible(left, HEADER_LEN) {
+        Some(at) => at,
+        None => left.len(),
+    }
+}
+
+/// Whether the pod at the front is whole, and behind it the input ends or a pod plausibly begins.
+fn is_well_followed(left: &[u8]) -> bool {
+    match open(left) {
+        Some(front) => front.rest.is_empty() || is_plausible(front.rest),
+        None => false,
+    }
+}
+
+/// What is said to be left out from this byte on, where so many bytes are passed.
+fn left_out_by(refused: Refused, place: usize, len: usize) -> Option<Gap> {
+    match refused {
+        Refused::LeftOut => None,
+        Refused::Kept => None,
+        Refused::Resynced => Some(Gap {
+            len,
+            end: place + len,
+        }),
+    }
+}
+
+/// Adds what stays of the bytes that are passed with a refused pod.
+fn keep(refused: Refused, passed: &[u8], out: &mut Vec<u8>) -> Result<(), AllocError> {
     match refused {
         Refused::LeftOut => Ok(()),
-        Refused::Kept => out.try_extend_from_slice(pod),
+        Refused::Kept => out.try_extend_from_slice(passed),
+        Refused::Resynced => Ok(()),
     }
 }

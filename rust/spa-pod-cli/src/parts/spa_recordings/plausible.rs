@@ -29,7 +29,7 @@ pub fn next_plausible(input: &[u8], from: usize) -> Option<usize> {
 }
 
 /// Whether a pod plausibly begins these bytes.
-fn is_plausible(bytes: &[u8]) -> bool {
+pub(crate) fn is_plausible(bytes: &[u8]) -> bool {
     let Some(front) = open(bytes) else {
         return false;
     };

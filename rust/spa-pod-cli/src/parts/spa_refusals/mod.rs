@@ -7,5 +7,5 @@ mod refusal;
 mod several;
 
 pub use names::TypeName;
-pub use refusal::{Cut, Refusal, first_refusal, refusal_of};
+pub use refusal::{Cut, Refusal, first_refusal, refusal_for, refusal_of};
 pub use several::{NamedRefusal, add_refusals};

@@ -111,6 +111,29 @@ pub fn refusal_of(
     })
 }
 
+/// The refusal of the pod behind so many bytes of an input, for a cause of this name and in these words, which isn't in its bytes.
+pub fn refusal_for(
+    input: &[u8],
+    place: usize,
+    kind: &'static str,
+    words: &str,
+) -> Result<Refusal, AllocError> {
+    let (before, pod) = input.split_at(place);
+    let type_ = type_name(pod);
+    let mut its_words = String::new();
+    its_words.try_push_str(words)?;
+    Ok(Refusal {
+        number: count(before) + 1,
+        place,
+        type_,
+        path: String::new(),
+        inner_type: None,
+        kind,
+        words: its_words,
+        cut: None,
+    })
+}
+
 /// What is there of the pod at the front, which begins at this byte, where it isn't whole.
 fn cut_of(place: usize, pod: &[u8]) -> Option<Cut> {
     let takes = if pod.len() < HEADER_LEN {

@@ -3,8 +3,7 @@
 
 use spa_pod::shims::prelude::*;
 use crate::parts::spa_refusals::refusal::{Refusal, refusal_of};
-use spa_pod::parts::spa_bytes::open;
-use crate::parts::spa_recordings::going_on::RefusedPod;
+use crate::parts::spa_recordings::going_on::{Gap, RefusedPod};
 use crate::parts::spa_recordings::reading::Reading;
 use spa_pod::shims::memory::AllocError;
 
@@ -13,57 +12,26 @@ use spa_pod::shims::memory::AllocError;
 pub struct NamedRefusal<'a> {
     pub name: &'a str,
     pub refusal: Refusal,
+    /// What is left out with it, where its size word doesn't say it.
+    pub left_out: Option<Gap>,
 }
 
-/// Adds the refusals of these pods of a part of an input, which aren't read; so many pods and bytes of the input stand before that part.
+/// Adds the refusals of these pods of a part of an input, which aren't read; so many bytes of the input stand before that part.
 pub fn add_refusals<'a>(
     reading: Reading,
-    count: usize,
     before: usize,
     input: &[u8],
     pods: &[RefusedPod<'a>],
     out: &mut Vec<NamedRefusal<'a>>,
 ) -> Result<(), AllocError> {
-    let mut counted = Counted { at: 0, count: 0 };
     for pod in pods {
-        let at = pod.place - before;
-        counted = count_to(input, up_to(counted, at), at);
-        let (_, left) = input.split_at(at);
-        let number = count + counted.count + 1;
-        let refusal = refusal_of(reading, left, pod.place, number)?;
+        let (_, left) = input.split_at(pod.place - before);
+        let refusal = refusal_of(reading, left, pod.place, pod.number)?;
         out.try_push(NamedRefusal {
             name: pod.name,
             refusal,
+            left_out: pod.left_out,
         })?;
     }
     Ok(())
-}
-
-/// Whole pods of an input that are counted, and the byte behind them.
-#[derive(Clone, Copy)]
-struct Counted {
-    at: usize,
-    count: usize,
-}
-
-/// What is counted, unless that is past this byte: then nothing.
-fn up_to(counted: Counted, place: usize) -> Counted {
-    if place < counted.at {
-        Counted { at: 0, count: 0 }
-    } else {
-        counted
-    }
-}
-
-/// Counts on, up to this byte.
-fn count_to(input: &[u8], from: Counted, place: usize) -> Counted {
-    let (before, _) = input.split_at(place);
-    let (_, mut left) = before.split_at(from.at);
-    let mut count = from.count;
-    while let Some(front) = open(left) {
-        count += 1;
-        left = front.rest;
-    }
-    let at = place - left.len();
-    Counted { at, count }
 }

@@ -3,6 +3,7 @@
 
 use spa_pod::shims::prelude::*;
 use crate::parts::spa_text_commands::answer::Failure;
+use crate::parts::spa_text_commands::extent::split_line;
 use spa_pod::shims::memory::AllocError;
 
 /// The fewest digits of an offset without a colon.
@@ -34,18 +35,6 @@ fn first_has_offset(input: &[u8]) -> bool {
     let (line, _) = split_line(input);
     let row = behind_space(line);
     begins_with_offset(row) && digit_count(behind_space(behind_digits(row))) == 2
-}
-
-/// The first line, without its line feed, and what follows that.
-fn split_line(bytes: &[u8]) -> (&[u8], &[u8]) {
-    let mut left = bytes;
-    while let Some((byte, behind)) = left.split_first() {
-        if *byte == b'\n' {
-            return (&bytes[..bytes.len() - left.len()], behind);
-        }
-        left = behind;
-    }
-    (bytes, left)
 }
 
 /// What follows white space.

@@ -4,6 +4,9 @@
 use spa_pod::shims::prelude::*;
 use crate::parts::spa_text_commands::listing::add_part;
 use crate::parts::spa_text_commands::page::Page;
+use crate::parts::spa_text_commands::paths::{
+    OBJECT_LEN, STEP_LIMIT, event_at, is_keyed, is_object_in, numbers_of, put_path,
+};
 use crate::parts::spa_text_commands::selection::{Printout, Selection, is_among, is_asked};
 use spa_pod::parts::spa_bytes::{HEADER_LEN, SECOND_WORD, u32_at};
 use spa_pod::parts::spa_events::{Event, NO_PARENT, list_events};
@@ -11,9 +14,6 @@ use spa_pod::parts::spa_names::{Table, expected_under, ids_of, keys_of};
 use spa_pod::parts::spa_utils::SpaTypes;
 use spa_pod::parts::spa_view::{Pod, split_first, whole_bytes};
 use spa_pod::shims::memory::AllocError;
-
-/// How many bytes the header, the type and the id of an object take.
-const OBJECT_LEN: usize = 16;
 
 /// Adds what is printed of what is looked for in the pod, which so many pods and bytes of the input stand before, and answers how many of those are
 /// refused.
@@ -27,10 +27,12 @@ pub(crate) fn add_found(
     let bytes = whole_bytes(&pod);
     let listed = list_inside(bytes)?;
     let events = listed.as_slice();
+    let numbered = numbers_of(events)?;
+    let numbers = numbered.as_slice();
     let mut refused: usize = 0;
-    for event in events {
+    for number in 0..events.len() {
         refused += add_if_found(
-            page, printout, bytes, events, *event, count, place, pod,
+            page, printout, bytes, events, numbers, number, count, place, pod,
         )?;
     }
     Ok(refused)
@@ -54,24 +56,38 @@ fn list_inside(pod: &[u8]) -> Result<Vec<Event>, AllocError> {
     Ok(events)
 }
 
-/// Adds what is printed of the pod of this event inside a top-level one, where it is looked for, and answers how many pods are refused: it or none.
+/// Adds what is printed of the pod of the event of this number inside a top-level one, where it is looked for, and answers how many pods are refused:
+/// it or none.
 fn add_if_found(
     page: &mut Page,
     printout: Printout<'_>,
     bytes: &[u8],
     events: &[Event],
-    event: Event,
+    numbers: &[usize],
+    number: usize,
     count: usize,
     place: usize,
     outer: Pod<'_>,
 ) -> Result<usize, AllocError> {
-    if !is_found(bytes, printout.selection, events, event) {
+    let event = event_at(events, number);
+    let sought = is_sought(
+        bytes,
+        printout.selection,
+        count,
+        events,
+        numbers,
+        number,
+        event,
+    )?;
+    if !sought {
         return Ok(0);
     }
     let Some(value) = pod_at(bytes, event.at) else {
         return Ok(0);
     };
-    let ids = ids_at(bytes, holder_of(events, event), event.at);
+    let ids = ids_at(bytes, event_at(events, event.parent), event.at);
+    let mut path = String::new();
+    put_path(&mut path, STEP_LIMIT, bytes, events, numbers, number)?;
     add_part(
         page,
         printout.form,
@@ -79,46 +95,53 @@ fn add_if_found(
         ids,
         count,
         place + event.at,
+        path.as_str(),
         outer,
     )
 }
 
-/// The event of the pod that the one of this event stands in; one of no pod where it stands in none.
-fn holder_of(events: &[Event], event: Event) -> Event {
-    if event.parent < events.len() {
-        return events[event.parent];
-    }
-    Event {
-        type_: 0,
-        size: 0,
-        depth: 0,
-        at: 0,
-        parent: 0,
-    }
+/// Whether the pod of the event of this number is looked for.
+fn is_sought(
+    bytes: &[u8],
+    selection: Selection<'_>,
+    count: usize,
+    events: &[Event],
+    numbers: &[usize],
+    number: usize,
+    event: Event,
+) -> Result<bool, AllocError> {
+    let Some(wanted) = selection.path else {
+        return Ok(is_found(bytes, selection, events, event));
+    };
+    let mut path = String::new();
+    write!(path, "{}", count + 1)?;
+    put_path(&mut path, STEP_LIMIT, bytes, events, numbers, number)?;
+    Ok(path.as_str() == wanted)
 }
 
-/// Whether the pod of this event is looked for.
+/// Whether the pod of this event is looked for, without a path.
 fn is_found(bytes: &[u8], selection: Selection<'_>, events: &[Event], event: Event) -> bool {
     match selection.key {
-        Some(names) => is_value_of(bytes, selection, names, holder_of(events, event), event.at),
+        Some(names) => is_value_of(
+            bytes,
+            selection,
+            names,
+            event_at(events, event.parent),
+            event.at,
+        ),
         None => is_of(bytes, selection, event),
     }
 }
 
 /// Whether the event is of an object, whose type and id are there and have the names that are asked for.
 fn is_of(bytes: &[u8], selection: Selection<'_>, object: Event) -> bool {
-    if !(is_object(object) && OBJECT_LEN <= bytes.len().saturating_sub(object.at)) {
+    if !is_object_in(bytes, object) {
         return false;
     }
     let type_ = u32_at(bytes, object.at + HEADER_LEN);
     let id = u32_at(bytes, object.at + HEADER_LEN + SECOND_WORD);
     is_asked(selection.type_, Table::Types, type_)
         && is_asked(selection.id, ids_of(SpaTypes(type_)), id)
-}
-
-/// Whether the event is of an object that has room for its type and id.
-fn is_object(event: Event) -> bool {
-    event.type_ == SpaTypes::Object.0 && HEADER_LEN <= event.size as usize
 }
 
 /// Whether the pod at this byte stands in such an object, under a key of these names.
@@ -130,8 +153,7 @@ fn is_value_of(
     at: usize,
 ) -> bool {
     is_of(bytes, selection, object)
-        && HEADER_LEN <= at
-        && at <= bytes.len()
+        && is_keyed(bytes, at)
         && is_among(
             keys_of(SpaTypes(u32_at(bytes, object.at + HEADER_LEN))),
             u32_at(bytes, at - HEADER_LEN),

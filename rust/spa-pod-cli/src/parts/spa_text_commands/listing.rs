@@ -9,7 +9,8 @@ use crate::parts::spa_text_commands::lines::{put_indent, put_label, put_refusal,
 use crate::parts::spa_text_commands::message::{head_of, put_head};
 use crate::parts::spa_text_commands::page::Page;
 use crate::parts::spa_text_commands::parts::{Parts, Shown};
-use crate::parts::spa_text_commands::printing::{Layout, add_texts};
+use crate::parts::spa_text_commands::paths::numbered;
+use crate::parts::spa_text_commands::printing::{Layout, add_texts, begin_at};
 use crate::parts::spa_text_commands::selection::{Form, Printout};
 use spa_pod::parts::spa_fixed_sized::DeserializeError;
 use spa_pod::parts::spa_names::Table;
@@ -52,12 +53,13 @@ pub(crate) fn add_selected(
         Table::Nothing,
         count,
         place,
+        "",
         pod,
     )
 }
 
-/// Adds what is printed of a pod, which so many pods and bytes of the input stand before, where ids have these names and which is in this top-level
-/// one, and answers 1 where it is refused, else 0.
+/// Adds what is printed of a pod, which so many pods and bytes of the input stand before, where ids have these names, and to which these steps lead in
+/// this top-level one, and answers 1 where it is refused, else 0.
 pub(crate) fn add_part(
     page: &mut Page,
     form: Form,
@@ -65,12 +67,13 @@ pub(crate) fn add_part(
     ids: Table,
     count: usize,
     place: usize,
+    path: &str,
     outer: Pod<'_>,
 ) -> Result<usize, AllocError> {
     let refusal = refusal_of(pod)?;
     let refused = count_of(refusal);
     print_part(
-        page, form, pod, ids, refusal, refused, count, place, outer,
+        page, form, pod, ids, refusal, refused, count, place, path, outer,
     )?;
     Ok(refused)
 }
@@ -85,21 +88,27 @@ fn print_part(
     refused: usize,
     count: usize,
     place: usize,
+    path: &str,
     outer: Pod<'_>,
 ) -> Result<(), AllocError> {
     match form {
-        Form::Lines => list(page, pod, ids, refusal, count, place, outer),
+        Form::Lines => list(page, pod, ids, refusal, count, place, path, outer),
         Form::LinesAndBytes => {
-            list(page, pod, ids, refusal, count, place, outer)?;
+            list(page, pod, ids, refusal, count, place, path, outer)?;
             add_rows(&mut page.lines, place, whole_bytes(&pod))
         }
         Form::Text(layout) => {
             if refused > 0 {
                 return Ok(());
             }
-            add_pod_text(&mut page.lines, layout, pod)
+            let path = numbered(count, path)?;
+            add_pod_text(&mut page.lines, layout, path.as_str(), outer, pod)
         }
-        Form::Bytes => add_string(&mut page.lines, whole_bytes(&pod)),
+        Form::Pods => page.lines.try_extend_from_slice(whole_bytes(&pod)),
+        Form::Bytes => {
+            let path = numbered(count, path)?;
+            add_string(&mut page.lines, path.as_str(), whole_bytes(&pod))
+        }
     }
 }
 
@@ -111,24 +120,30 @@ fn count_of(refusal: Option<&'static str>) -> usize {
     }
 }
 
-/// Adds the text of an accepted pod.
+/// Adds the text of an accepted pod, which stands at this path in this top-level one.
 fn add_pod_text(
     lines: &mut Vec<u8>,
     layout: Layout,
+    path: &str,
+    outer: Pod<'_>,
     pod: Pod<'_>,
 ) -> Result<(), AllocError> {
     // What is accepted isn't printed for lack of memory alone.
-    match add_texts(layout, "", whole_bytes(&pod), lines) {
+    match add_texts(layout, path, Some(outer), whole_bytes(&pod), lines) {
         Ok(()) => Ok(()),
         Err(_) => Err(AllocError),
     }
 }
 
-/// Adds bytes as a JSON string of their hex digits, on a line.
-fn add_string(lines: &mut Vec<u8>, bytes: &[u8]) -> Result<(), AllocError> {
+/// Adds bytes, which stand at this path, as a JSON string of their hex digits, on a line.
+fn add_string(lines: &mut Vec<u8>, path: &str, bytes: &[u8]) -> Result<(), AllocError> {
+    let ending = begin_at(lines, path)?;
     lines.try_push(b'"')?;
     add_hex(lines, bytes)?;
-    lines.try_extend_from_slice(b"\"\n")
+    lines.try_push(b'"')?;
+    lines.try_extend_from_slice(ending.as_bytes())?;
+    lines.try_push(b'\n')?;
+    Ok(())
 }
 
 /// Adds the lines of one pod: the line that counts it and gives its byte, the head of the message that it is in, the reason why it is refused, where
@@ -140,6 +155,7 @@ fn list(
     refusal: Option<&'static str>,
     count: usize,
     place: usize,
+    path: &str,
     outer: Pod<'_>,
 ) -> Result<(), AllocError> {
     let levels = Vec::new();
@@ -147,7 +163,7 @@ fn list(
         levels,
         refusal,
     };
-    page.add_head(count, place)?;
+    page.add_head(count, place, path)?;
     listing.add_pod(page, Shown::of_pod(pod, ids), place, outer)
 }
 

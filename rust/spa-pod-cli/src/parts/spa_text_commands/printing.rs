@@ -3,10 +3,12 @@
 
 use spa_pod::shims::prelude::*;
 use crate::parts::spa_text_commands::answer::Failure;
+use crate::parts::spa_text_commands::message::{Head, head_of, put_head};
 use spa_pod::parts::spa_fixed_sized::DeserializeError;
-use spa_pod::parts::spa_text::{TextPrinter, print_pretty};
+use spa_pod::parts::spa_text::{TextPrinter, print, print_pretty};
 use spa_pod::parts::spa_typed_read::PodDeserializer;
 use spa_pod::parts::spa_value::{Held, Value};
+use spa_pod::parts::spa_view::{Pod, split_first};
 use spa_pod::shims::memory::AllocError;
 
 /// How a text stands on lines.
@@ -19,17 +21,18 @@ pub enum Layout {
     Indented,
 }
 
-/// A text for each pod that the bytes consist of, on lines of its own.
+/// A text for each pod that the bytes consist of, on lines of its own: that of a recorded message behind its head.
 pub fn print_all(layout: Layout, pods: &[u8]) -> Result<Vec<u8>, Failure> {
     let mut lines = Vec::new();
-    add_texts(layout, "", pods, &mut lines)?;
+    add_texts(layout, "", None, pods, &mut lines)?;
     Ok(lines)
 }
 
-/// Adds a text behind this mark for each of these pods.
+/// Adds a text for each of these pods, which stand at this path in a top-level pod, or are such themselves.
 pub(crate) fn add_texts(
     layout: Layout,
-    mark: &str,
+    path: &str,
+    outer: Option<Pod<'_>>,
     pods: &[u8],
     lines: &mut Vec<u8>,
 ) -> Result<(), Failure> {
@@ -37,7 +40,35 @@ pub(crate) fn add_texts(
     let mut left = pods;
     while !left.is_empty() {
         let (rest, value) = read_front(left)?;
-        add_text(&mut printer, layout, mark, &value, lines)?;
+        let head = head_in(outer, left);
+        add_text_at(&mut printer, layout, path, head, &value, lines)?;
+        left = rest;
+    }
+    Ok(())
+}
+
+/// The head of the message that this top-level pod is, or without one that the bytes begin with; if it is a message.
+fn head_in<'a>(outer: Option<Pod<'a>>, left: &'a [u8]) -> Option<Head<'a>> {
+    match outer {
+        Some(pod) => head_of(pod),
+        None => {
+            let (pod, _) = split_first(left)?;
+            head_of(pod)
+        }
+    }
+}
+
+/// Adds a text behind this mark for each of these pods.
+pub(crate) fn add_marked(
+    printer: &mut TextPrinter,
+    mark: &str,
+    pods: &[u8],
+    lines: &mut Vec<u8>,
+) -> Result<(), Failure> {
+    let mut left = pods;
+    while !left.is_empty() {
+        let (rest, value) = read_front(left)?;
+        add_text(printer, Layout::OneLine, mark, &value, lines)?;
         left = rest;
     }
     Ok(())
@@ -66,6 +97,70 @@ pub(crate) fn add_text(
     print_in(printer, layout, value, lines)?;
     lines.make_room(1)?;
     lines.push_reserved(b'\n');
+    Ok(())
+}
+
+/// Adds the text of a value at this path, in a message of this head, and the end of its last line.
+fn add_text_at(
+    printer: &mut TextPrinter,
+    layout: Layout,
+    path: &str,
+    head: Option<Head<'_>>,
+    value: &Value,
+    lines: &mut Vec<u8>,
+) -> Result<(), Failure> {
+    let ending = begin_wrapped(lines, path, head)?;
+    print_in(printer, layout, value, lines)?;
+    lines.try_extend_from_slice(ending.as_bytes())?;
+    lines.try_extend_from_slice(b"\n")?;
+    Ok(())
+}
+
+/// Adds what stands before the text of a value at this path, in a message of this head, and answers what stands behind it.
+fn begin_wrapped(
+    lines: &mut Vec<u8>,
+    path: &str,
+    head: Option<Head<'_>>,
+) -> Result<&'static str, AllocError> {
+    let Some(head) = head else {
+        return begin_at(lines, path);
+    };
+    lines.try_extend_from_slice(b"{")?;
+    add_path_field(lines, path)?;
+    add_head_field(lines, head)?;
+    lines.try_extend_from_slice(b"\"value\":")?;
+    Ok("}")
+}
+
+/// Adds what stands before the text of a value at this path, and answers what stands behind it: nothing of a top-level pod.
+pub(crate) fn begin_at(lines: &mut Vec<u8>, path: &str) -> Result<&'static str, AllocError> {
+    if path.is_empty() {
+        return Ok("");
+    }
+    lines.try_extend_from_slice(b"{")?;
+    add_path_field(lines, path)?;
+    lines.try_extend_from_slice(b"\"value\":")?;
+    Ok("}")
+}
+
+/// Adds the field of this path, where there is one.
+fn add_path_field(lines: &mut Vec<u8>, path: &str) -> Result<(), AllocError> {
+    if path.is_empty() {
+        return Ok(());
+    }
+    lines.try_extend_from_slice(b"\"path\":\"")?;
+    lines.try_extend_from_slice(path.as_bytes())?;
+    lines.try_extend_from_slice(b"\",")
+}
+
+/// Adds the field of this head.
+fn add_head_field(lines: &mut Vec<u8>, head: Head<'_>) -> Result<(), AllocError> {
+    let mut words = String::new();
+    put_head(&mut words, head)?;
+    let value = Held::from(Value::String(words));
+    lines.try_extend_from_slice(b"\"head\":")?;
+    print(&value, lines)?;
+    lines.try_push(b',')?;
     Ok(())
 }
 

@@ -3,8 +3,7 @@
 
 use spa_pod::shims::prelude::*;
 use crate::parts::spa_text_commands::answer::Failure;
-use crate::parts::spa_text_commands::extent::{position_behind, split_text};
-use crate::parts::spa_text_commands::strings::behind_string;
+use crate::parts::spa_text_commands::extent::{position_behind, split_line, split_text};
 use crate::parts::spa_text_commands::structs::add_struct;
 use spa_pod::shims::json::Scratch;
 use spa_pod::parts::spa_sink::GenError;
@@ -26,6 +25,14 @@ enum Unread {
     },
 }
 
+/// What a text was read as.
+enum Found {
+    /// Nothing has pods that are still to be added: the text is blank, or a struct, whose pod was added as it was read.
+    Added,
+    /// A value.
+    Value(Held),
+}
+
 /// The pods of the values of which the bytes are texts in this form, among blank lines; read strictly, of no value with another type than the one that
 /// belongs under a key.
 pub fn read_all(form: Form, bytes: &[u8]) -> Result<Vec<u8>, Failure> {
@@ -34,8 +41,14 @@ pub fn read_all(form: Form, bytes: &[u8]) -> Result<Vec<u8>, Failure> {
     let mut pods = Vec::new();
     let mut left = bytes;
     while !left.is_empty() {
-        let (text, behind) = split_front(left);
-        match add_text(&mut reader, &mut scratch, form, text, &mut pods) {
+        let (text, behind, added) = add_first(
+            &mut reader,
+            &mut scratch,
+            form,
+            left,
+            &mut pods,
+        );
+        match added {
             Ok(()) => left = behind,
             Err(why) => {
                 let before = &bytes[..bytes.len() - left.len()];
@@ -47,47 +60,31 @@ pub fn read_all(form: Form, bytes: &[u8]) -> Result<Vec<u8>, Failure> {
     Ok(pods)
 }
 
-/// The first text, without the end of its last line, and what follows that.
-fn split_front(bytes: &[u8]) -> (&[u8], &[u8]) {
-    match split_line(bytes) {
-        Some(parts) => parts,
-        None => split_text(bytes),
+/// The first text, without the end of its last line, what follows that, and whether its pods were added. Most texts are lines, so the first line
+/// is read as one before the end of the text is looked for: no bracket is open behind what is read.
+fn add_first<'a>(
+    reader: &mut FreeReader,
+    scratch: &mut Scratch,
+    form: Form,
+    left: &'a [u8],
+    pods: &mut Vec<u8>,
+) -> (&'a [u8], &'a [u8], Result<(), Unread>) {
+    let (line, others) = split_line(left);
+    if may_be_whole(line) {
+        if let Ok(found) = read_text(reader, scratch, form, line, pods) {
+            return (line, others, add_found(form, found, pods));
+        }
+    }
+    let (text, behind) = split_text(left);
+    match read_text(reader, scratch, form, text, pods) {
+        Ok(found) => (text, behind, add_found(form, found, pods)),
+        Err(why) => (text, behind, Err(why)),
     }
 }
 
-/// The first text and what follows it, where it ends with the first line and no backslash is in it: `split_text` for most texts, but faster.
-/// None promises nothing: `split_front` asks `split_text` then, so to give None more often costs time alone.
-fn split_line(bytes: &[u8]) -> Option<(&[u8], &[u8])> {
-    let mut count: usize = 0;
-    let mut left = bytes;
-    while let Some((byte, behind)) = left.split_first() {
-        let byte = *byte;
-        // Digits, marks and capital letters stand between the quote and the brackets in ASCII.
-        if byte > b'"' && byte < b'[' {
-            left = behind;
-            continue;
-        }
-        if byte == b'"' {
-            let Some(rest) = behind_string(behind) else {
-                return None;
-            };
-            left = rest;
-            continue;
-        }
-        if byte == b'\n' {
-            if count > 0 {
-                return None;
-            }
-            return Some((&bytes[..bytes.len() - left.len()], behind));
-        }
-        if byte == b'{' || byte == b'[' {
-            count += 1;
-        } else if byte == b'}' || byte == b']' {
-            count = count.saturating_sub(1);
-        }
-        left = behind;
-    }
-    None
+/// Whether a line doesn't end as the first one of an indented text does. Nothing rests on it but time.
+fn may_be_whole(line: &[u8]) -> bool {
+    !matches!(line.last(), Some(b'{' | b'[' | b','))
 }
 
 /// The refusal of a text that begins with this line.
@@ -115,20 +112,6 @@ fn failure_at(why: Unread, text: &[u8], first: usize) -> Failure {
     }
 }
 
-/// Adds the pods of the value of which these bytes are a text; of a blank line nothing.
-fn add_text(
-    reader: &mut FreeReader,
-    scratch: &mut Scratch,
-    form: Form,
-    bytes: &[u8],
-    pods: &mut Vec<u8>,
-) -> Result<(), Unread> {
-    if is_blank(bytes) {
-        return Ok(());
-    }
-    add_pods(reader, scratch, form, bytes, pods)
-}
-
 /// Whether there is nothing but white space.
 fn is_blank(text: &[u8]) -> bool {
     for byte in text {
@@ -139,14 +122,17 @@ fn is_blank(text: &[u8]) -> bool {
     true
 }
 
-/// Adds the pods of the value of which these bytes are a text.
-fn add_pods(
+/// Reads the value of which these bytes are a text; of a blank line none.
+fn read_text(
     reader: &mut FreeReader,
     scratch: &mut Scratch,
     form: Form,
     bytes: &[u8],
     pods: &mut Vec<u8>,
-) -> Result<(), Unread> {
+) -> Result<Found, Unread> {
+    if is_blank(bytes) {
+        return Ok(Found::Added);
+    }
     let text = match core::str::from_utf8(bytes) {
         Ok(text) => text,
         Err(error) => {
@@ -155,24 +141,31 @@ fn add_pods(
         }
     };
     if add_at_once(scratch, form, text, pods) {
-        return Ok(());
+        return Ok(Found::Added);
     }
-    let value = match reader.read_in(text, form) {
-        Ok(value) => Held::from(value),
+    match reader.read_in(text, form) {
+        Ok(value) => Ok(Found::Value(Held::from(value))),
         Err(error) => {
             let Some(kind) = kind_of(error.cause) else {
                 return Err(Unread::OutOfMemory);
             };
-            return Err(Unread::For {
+            Err(Unread::For {
                 kind,
                 words: words_of(error.cause),
                 offset: error.offset,
                 path: error.path,
                 misfit: error.misfit,
-            });
+            })
         }
-    };
-    add_values(form, &*value, pods)
+    }
+}
+
+/// Adds the pods that are still to be added.
+fn add_found(form: Form, found: Found, pods: &mut Vec<u8>) -> Result<(), Unread> {
+    match found {
+        Found::Added => Ok(()),
+        Found::Value(held) => add_values(form, &*held, pods),
+    }
 }
 
 /// Adds the pod of the struct that a text is, as it stands, where it is read as values with names, and tells whether it did. Else the output is

@@ -23,6 +23,18 @@ pub enum Form {
     Text(Layout),
     /// The bytes in hex, as a JSON string on a line, also of refused pods.
     Bytes,
+    /// The bytes themselves, also of refused pods.
+    Pods,
+}
+
+impl Form {
+    /// Whether pods themselves are printed, which are no lines.
+    pub fn is_pods(self) -> bool {
+        match self {
+            Form::Pods => true,
+            _ => false,
+        }
+    }
 }
 
 /// Which pods of an input are printed, and which values of them.
@@ -30,6 +42,8 @@ pub enum Form {
 pub struct Selection<'a> {
     /// The number of the only top-level pod that is printed, the first being 1; without one, each is.
     pub nth: Option<usize>,
+    /// The path to the pod that alone is printed: the number of a top-level one, and the steps from there.
+    pub path: Option<&'a str>,
     /// The names, between commas, of the keys whose values are printed, of objects at any depth. Without them objects themselves are printed where a
     /// type or an id is asked for, and else the pods.
     pub key: Option<&'a str>,
@@ -50,7 +64,7 @@ impl Selection<'_> {
 
     /// Whether not the top-level pods themselves are printed, but what is inside them.
     pub fn looks_inside(&self) -> bool {
-        self.key.is_some() || (self.type_.is_some() || self.id.is_some())
+        self.path.is_some() || (self.key.is_some() || (self.type_.is_some() || self.id.is_some()))
     }
 }
 

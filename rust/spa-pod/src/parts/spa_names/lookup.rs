@@ -65,6 +65,12 @@ pub fn number_of(table: Table, name: &str) -> Option<u32> {
 /// The number of a key by its name, and what is expected of the value under it. None: the table of its object's keys doesn't have the name.
 #[must_use]
 pub fn key_named(keys: Table, name: &str) -> Option<(u32, Expected)> {
+    let entries = entries_of(keys);
+    if let Some(key) = entries.get(guess_of(name, entries.len())) {
+        if has_name(key, name) {
+            return Some((key.0, expected_at(key.3)));
+        }
+    }
     match number_of(keys, name) {
         Some(number) => Some((number, expected_under(keys, number))),
         None => None,

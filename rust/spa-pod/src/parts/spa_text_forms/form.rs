@@ -4,6 +4,7 @@
 use crate::shims::prelude::*;
 use crate::parts::spa_text_forms::dump::put_dump;
 use crate::parts::spa_text_forms::order::{ANYWHERE, put};
+use crate::parts::spa_text_forms::place::without_place;
 use crate::shims::json::{Error, Scratch, Value, Writer};
 use crate::parts::spa_text_read::Strictness;
 use crate::shims::memory::AllocError;
@@ -49,7 +50,7 @@ pub(crate) fn in_order(
 /// Writes the tokens of a value in the order of the grammar.
 fn put_in(form: Form, value: &Value<'_>, writer: &mut Writer) -> Result<(), AllocError> {
     match form {
-        Form::Named(strictness) => put(strictness, ANYWHERE, value, writer),
+        Form::Named(strictness) => put(strictness, ANYWHERE, without_place(value), writer),
         Form::Dump { type_, id } => put_dump(type_, id, value, writer),
     }
 }

@@ -4,6 +4,7 @@
 mod dump;
 mod form;
 mod order;
+mod place;
 mod reading;
 
 pub use form::Form;

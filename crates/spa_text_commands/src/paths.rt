@@ -1,0 +1,145 @@
+//! The path from a top-level pod to one inside it.
+ghost use Rattle.std.specs.Prelude.{◌≡◌, ◌+◌, ◌<◌, ◌^◌, ◌&&◌, ◌++◌, IfOk, OnOk, length, nat_eq, nat_le, slice_index_or, string_bytes};
+ghost use Rattle.spa_format.specs.Tree.{object_type};
+ghost use Rattle.spa_format.specs.Words.{header_size};
+ghost use Rattle.spa_text_commands.specs.Numbers.{AreNumbers, IsCountedIn};
+ghost use Rattle.spa_text_commands.specs.Paths as spec;
+ghost use Rattle.spa_text_commands.specs.Paths.{is_keyed, is_object_in, numbered, path_to, step_in};
+
+use crate::properties::Name;
+use spa_bytes::{HEADER_LEN, u32_at};
+use spa_events::Event;
+use spa_names::keys_of;
+use spa_utils::SpaTypes;
+use std::alloc::{AllocError, Global};
+use std::fmt::Write;
+
+/// How many bytes the header, the type and the id of an object take.
+pub(crate) const OBJECT_LEN: usize = 16;
+
+/// How many steps of a path are written.
+pub(crate) const STEP_LIMIT: usize = 32;
+
+/// The event of this number; one of no pod where there is none.
+pub(crate) fn event_at(events: &[Event], number: usize) -> Event
+    ensures { result ≡ spec.event_at events.now number }
+{
+    if number < events.len() {
+        return events[number];
+    }
+    Event {
+        type_: 0,
+        size: 0,
+        depth: 0,
+        at: 0,
+        parent: 0,
+    }
+}
+
+/// Whether the event is of an object, whose type and id are there.
+pub(crate) fn is_object_in(pod: &[u8], event: Event) -> bool
+    ensures { result ≡ is_object_in pod.now event }
+{
+    is_object(event) && OBJECT_LEN <= pod.len().saturating_sub(event.at)
+}
+
+/// Whether the event is of an object that has room for its type and id.
+fn is_object(event: Event) -> bool
+    ensures { result ≡ (nat_eq event.type_ object_type && nat_le header_size event.size) }
+{
+    event.type_ == SpaTypes::Object.0 && HEADER_LEN <= event.size as usize
+}
+
+/// Whether a key and flags stand before this byte.
+pub(crate) fn is_keyed(pod: &[u8], at: usize) -> bool
+    ensures { result ≡ is_keyed pod.now at }
+{
+    HEADER_LEN <= at && at <= pod.len()
+}
+
+/// How many pods stand before each in the same one.
+pub(crate) fn numbers_of(alloc: Global, events: &[Event]) -> Result<Vec<usize>, AllocError>
+    ensures { IfOk result (λ numbers. AreNumbers events.now numbers.items) }
+{
+    let mut counts = Vec::new(alloc);
+    counts.resize(events.len(), 0)?;
+    let mut numbers = Vec::new(alloc);
+    for number in 0..events.len() {
+        let parent = event_at(events, number).parent;
+        numbers.push(count_one(counts.as_mut_slice(), parent))?;
+    }
+    Ok(numbers)
+}
+
+/// Counts a pod in the one of this number, and answers how many were counted there before. One that is in none isn't counted.
+fn count_one(counts: &mut [usize], parent: usize) -> usize
+    requires { slice_index_or counts.now parent 0 + 1 < 2 ^ 64 }
+    ensures { IsCountedIn counts.old counts.new parent result }
+{
+    if parent >= counts.len() {
+        return 0;
+    }
+    let before = counts[parent];
+    counts[parent] = before + 1;
+    before
+}
+
+/// Writes the steps from a top-level pod to the one of the event of this number: of more than so many the last ones, behind two points.
+pub(crate) fn put_path(
+    text: &mut String,
+    limit: usize,
+    pod: &[u8],
+    events: &[Event],
+    numbers: &[usize],
+    number: usize,
+) -> Result<(), AllocError>
+    requires numbers { AreNumbers events.now numbers.now }
+    requires number { number < length events.now }
+    ensures { OnOk result (string_bytes text.new ≡ string_bytes text.old ++ path_to limit events.now pod.now number) }
+{
+    let event = event_at(events, number);
+    if event.parent >= events.len() {
+        return Ok(());
+    }
+    if limit == 0 {
+        return text.push_str("..");
+    }
+    put_path(text, limit - 1, pod, events, numbers, event.parent)?;
+    put_step(
+        text,
+        pod,
+        event_at(events, event.parent),
+        event,
+        numbers[number],
+    )
+}
+
+/// Writes the step to the pod of this event from the one that it is in, of which so many others stand before it.
+fn put_step(
+    text: &mut String,
+    pod: &[u8],
+    holder: Event,
+    event: Event,
+    count: usize,
+) -> Result<(), AllocError>
+    ensures { OnOk result (string_bytes text.new ≡ string_bytes text.old ++ step_in pod.now holder event count) }
+{
+    if is_object_in(pod, holder) && is_keyed(pod, event.at) {
+        let keys = keys_of(SpaTypes(u32_at(pod, holder.at + HEADER_LEN)));
+        let key = Name(keys, u32_at(pod, event.at - HEADER_LEN));
+        return write!(text, ".{key}");
+    }
+    write!(text, "[{count}]")
+}
+
+/// The number of the top-level pod, which so many stand before, and these steps; nothing where there are none.
+pub(crate) fn numbered(alloc: Global, count: usize, steps: &str) -> Result<String, AllocError>
+    requires { count + 1 < 2 ^ 64 }
+    ensures { IfOk result (λ path. string_bytes path ≡ numbered count steps.now) }
+{
+    if steps.is_empty() {
+        return Ok(String::new(alloc));
+    }
+    let number = count + 1;
+    format!(in alloc; "{number}{steps}")
+}

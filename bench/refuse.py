@@ -33,10 +33,12 @@ PROGRAMS = ("podtool", "pod")
 WORDS = (
     ("json",),
     ("json", "--pretty"),
+    ("json", "--pw-dump"),
     ("show",),
     ("rewrite",),
     ("rewrite", "--lenient"),
     ("rewrite", "--keep-going"),
+    ("rewrite", "--resync"),
     ("rewrite", "--stream"),
     ("fixate",),
     ("check",),

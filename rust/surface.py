@@ -9,7 +9,7 @@ ATTRIBUTES = {
                          'ArrayPodSerializer', 'Maybe', 'StructPodSerializer', 'ObjectPodSerializer', 'PodSerializer', 'SerializeSuccess', 'Held',
                          'HeldProperties', 'VecVisitor', 'StringVisitor', 'BytesVisitor', 'BitmapVisitor', 'PointerVisitor', 'HandedVisitor',
                          'ValueVisitor', 'OpenPod', 'Frames', 'Remainder', 'Written',
-                         'BegunPod', 'What', 'Stage', 'Elements', 'TextPrinter', 'TextReader', 'AtPath', 'InPlace'],
+                         'BegunPod', 'What', 'Stage', 'Elements', 'TextPrinter', 'TextReader', 'FreeReader', 'Shape', 'AtPath', 'InPlace'],
     '#[derive(Clone)]': ['DeserializeError', 'Fault'],
     '#[derive(Eq)]': ['DeserializeError', 'Fault', 'Value', 'ValueArray', 'ChoiceValue', 'Object', 'Property'],
     '#[derive(Hash)]': ['Value', 'ValueArray', 'ChoiceValue', 'Object', 'Property', 'PropertyFlags', 'Choice', 'ChoiceEnum', 'ChoiceFlags',
@@ -38,6 +38,10 @@ PLACES = {
     'tests/src/parts/spa_typed_tests/reading/visitors.rs': [
         ('assert_said(found.as_str(), "InvalidType", "a deep value")', 'assert_said(found.as_str(), "TooDeep", "a deep value")'),
     ],
+    # What the reader of texts, which is public, keeps from one text to the next, and what it takes.
+    'spa-pod/src/parts/spa_text_read/inside.rs': [('pub(crate) enum Inside {', '#[derive(Debug)]\npub(crate) enum Inside {')],
+    'spa-pod/src/parts/spa_text_read/open_object.rs': [('pub(crate) struct OpenObject {', '#[derive(Debug)]\npub(crate) struct OpenObject {')],
+    'spa-pod/src/parts/spa_text_forms/form.rs': [('#[derive(Clone, Copy)]\npub enum Form {', '#[derive(Debug)]\n#[derive(Clone, Copy)]\npub enum Form {')],
     # A text that is read is copied, and then checked.
     'spa-pod/src/parts/spa_read/leaves.rs': [
         ('let Some(text) = text_of(body) else {', 'let Some(text) = crate::shims::memory::try_text_of(body)? else {'),
@@ -70,7 +74,7 @@ PLACES = {
     'spa-pod/src/parts/spa_read/lenient.rs': [
         ('CHOICE_HEADER_LEN + u32_at(body, HEADER_LEN) as usize', '(u32_at(body, HEADER_LEN) as usize).saturating_add(CHOICE_HEADER_LEN)'),
     ],
-    'spa-pod/src/parts/spa_rewrite/patch.rs': [
+    'spa-pod/src/parts/spa_scan/array.rs': [
         ('RANGE_SHAPE => 3 * size', 'RANGE_SHAPE => size.saturating_mul(3)'), ('STEP_SHAPE => 4 * size', 'STEP_SHAPE => size.saturating_mul(4)'),
     ],
     'spa-pod/src/parts/spa_write/size.rs': [

@@ -1,7 +1,9 @@
 #!/usr/bin/env bash
 # measure.sh: instructions a byte of the Rust crate, counted by callgrind, on the corpora of bench/make.py at a twentieth of their sizes, of strings
 # on the whole, whose texts begin with their numbers. A count is half of the difference of one round and three. Without the tunables valgrind
-# counts long copies by their bytes. Then instructions a pod where each is rewritten by a call of its own, appended to a vector and in place. As a program is built that doesn't ask for link-time optimization:
+# counts long copies by their bytes. Then instructions a pod where each is rewritten by a call of its own, appended to a vector and in place; and, where
+# PipeWire's headers are there, a pair of bench/meets.c, filtered and negotiated, here and by PipeWire. As a program is built that doesn't ask for
+# link-time optimization:
 #   CARGO_PROFILE_RELEASE_LTO=false CARGO_PROFILE_RELEASE_CODEGEN_UNITS=16 measure.sh
 set -eu
 here=$(dirname "$(readlink -f "${BASH_SOURCE[0]}")")
@@ -46,6 +48,20 @@ for pods in object0 object9 surplus mixed0 mixed9 struct0 struct9; do
   printf '%-18s' $pods
   for work in appended in-place; do
     python3 -c "print(' %8.0f' % (($(count $work 3 $pods) - $(count $work 1 $pods)) / 2 / 200), end='')"
+  done
+  echo
+done
+pkg-config --exists libspa-0.2 || exit 0
+gcc -O2 $(pkg-config --cflags libspa-0.2) "$here/../../bench/meets.c" -o "$room/meets"
+by_pipewire() {
+  valgrind --tool=callgrind --callgrind-out-file=/dev/null "$room/meets" "$1" "$3" "$2" 2>&1 | sed -n 's/.*Collected : //p'
+}
+printf '%-18s %10s %10s %10s %10s\n' 'a pair' filtered PipeWire negotiated PipeWire
+for pairs in met refused; do
+  "$room/meets" pods $pairs 0 > "$room/$pairs"
+  printf '%-18s' $pairs
+  for work in 'count filtered' 'by_pipewire filter' 'count negotiated' 'by_pipewire fixate'; do
+    python3 -c "print(' %10.0f' % (($($work 3 $pairs) - $($work 1 $pairs)) / 2 / 200), end='')"
   done
   echo
 done

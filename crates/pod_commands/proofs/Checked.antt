@@ -60,49 +60,49 @@ stops_by P S F r holds (x ∷ xs) out why fact (inr h) =
 
 -- nothing is made
 none_checked : (r : Option (List ℕ)) (holds : List ℕ → Option (List ℕ)) (names : List (Bor (List ℕ))) (out : List ℕ) (n : ℕ) →
-    AreMade (StreamsAs streaming.Check) r holds names out n → (out ≡ []) × (n ≡ 0)
+    AreMade (StreamsAs Exact streaming.Check) r holds names out n → (out ≡ []) × (n ≡ 0)
 none_checked r holds [] out n h = h
 none_checked r holds (x ∷ xs) out n h =
     let t = none_checked (left_behind r x.now) holds xs h.2 h.4 h.9 in
-    let i = h.6.2 in
+    let i = h.6.2.2 in
     let j = t.1 in
     let k = h.8 in
-    (h.7 ∙ ap (λ z. z ++ h.2) h.6.0 ∙ t.0, omega (arith, i, j, k))
+    (h.7 ∙ ap (λ z. z ++ h.2) h.6.2.0 ∙ t.0, omega (arith, i, j, k))
 
 -- nor where it can't be written
 none_unwritten : (r : Option (List ℕ)) (holds : List ℕ → Option (List ℕ)) (names : List (Bor (List ℕ))) (out : List ℕ)
-    (target : Option (Bor (List ℕ))) → StopsAt (StreamsAs streaming.Check) (EndsIn streaming.Check) r holds names out (Unwritten target) → out ≡ []
+    (target : Option (Bor (List ℕ))) → StopsAt (StreamsAs Exact streaming.Check) (EndsIn Exact streaming.Check) r holds names out (Unwritten target) → out ≡ []
 none_unwritten r holds [] out target h = absurd h
-none_unwritten r holds (x ∷ xs) out target (inl h) = h.2.2.made.0
+none_unwritten r holds (x ∷ xs) out target (inl h) = h.2.2.made.2.0
 none_unwritten r holds (x ∷ xs) out target (inr h) =
-    h.6 ∙ ap (λ z. z ++ h.2) h.5.0 ∙ none_unwritten (left_behind r x.now) holds xs h.2 target h.7
+    h.6 ∙ ap (λ z. z ++ h.2) h.5.2.0 ∙ none_unwritten (left_behind r x.now) holds xs h.2 target h.7
 
-checked : (input out : List ℕ) (n : ℕ) → StreamsAs streaming.Check input out n → MakesAll Exact Check input out n
-checked input out n h = ((input, refl, (h.0, h.1)), h.2)
+checked : (input out : List ℕ) (n : ℕ) → StreamsAs Exact streaming.Check input out n → MakesAll Exact Check input out n
+checked input out n h = ((h.0, h.1, (h.2.0, h.2.1)), h.2.2)
 
 pub all_checked : (r : Option (List ℕ)) (holds : List ℕ → Option (List ℕ)) (names : List (Bor (List ℕ))) (out : List ℕ) (n : ℕ) →
-    AreMade (StreamsAs streaming.Check) r holds names out n → AreMade (MakesAll Exact Check) r holds names [] 0
+    AreMade (StreamsAs Exact streaming.Check) r holds names out n → AreMade (MakesAll Exact Check) r holds names [] 0
 all_checked r holds names out n h =
     let none = none_checked r holds names out n h in
-    let made = made_more (StreamsAs streaming.Check) (MakesAll Exact Check) r holds names out n checked h in
+    let made = made_more (StreamsAs Exact streaming.Check) (MakesAll Exact Check) r holds names out n checked h in
     subst (λ z. AreMade (MakesAll Exact Check) r holds names z 0) none.0
     (subst (AreMade (MakesAll Exact Check) r holds names out) none.1 made)
 
 pub not_checked : (r : Option (List ℕ)) (holds : List ℕ → Option (List ℕ)) (names : List (Bor (List ℕ))) (old new : Option (List ℕ)) (why : Failure) →
-    IsBroken streaming.Check r holds names old new why → AreUnmade Exact Check r holds names why
+    IsBroken Exact streaming.Check r holds names old new why → AreUnmade Exact Check r holds names why
 not_checked r holds names old new OutOfMemory b = inl (inl refl)
 not_checked r holds names old new (Unread n words) b = inl (inr (n, words, refl))
 not_checked r holds names old new (Unwritten target) b = absurd (b.2.0 (none_unwritten r holds names b.0 target b.1))
 not_checked r holds names old new (Pods n w) b =
-    inr (stops_more (StreamsAs streaming.Check) (MakesAll Exact Check) (EndsIn streaming.Check) (λ name input made. RefusesBy Exact Check name input) r
+    inr (stops_more (StreamsAs Exact streaming.Check) (MakesAll Exact Check) (EndsIn Exact streaming.Check) (λ name input made. RefusesBy Exact Check name input) r
     holds names b.0 (Pods n w) (λ input made i h. (made, i, checked input made i h))
     (λ name input made e. (made, (e.0, first_refused input made e.1 w e.2 e.3))) b.1)
 not_checked r holds names old new (Texts n w) b =
-    absurd (stops_by (StreamsAs streaming.Check) (EndsIn streaming.Check) ⊥ r holds names b.0 (Texts n w) (λ name input made e. e) b.1)
+    absurd (stops_by (StreamsAs Exact streaming.Check) (EndsIn Exact streaming.Check) ⊥ r holds names b.0 (Texts n w) (λ name input made e. e) b.1)
 not_checked r holds names old new (Pair n w) b =
-    absurd (stops_by (StreamsAs streaming.Check) (EndsIn streaming.Check) ⊥ r holds names b.0 (Pair n w) (λ name input made e. e) b.1)
+    absurd (stops_by (StreamsAs Exact streaming.Check) (EndsIn Exact streaming.Check) ⊥ r holds names b.0 (Pair n w) (λ name input made e. e) b.1)
 not_checked r holds names old new (Lists n m w) b =
-    absurd (stops_by (StreamsAs streaming.Check) (EndsIn streaming.Check) ⊥ r holds names b.0 (Lists n m w) (λ name input made e. e) b.1)
+    absurd (stops_by (StreamsAs Exact streaming.Check) (EndsIn Exact streaming.Check) ⊥ r holds names b.0 (Lists n m w) (λ name input made e. e) b.1)
 
 -- however a check is asked for
 pub made_by_check : (reading : Reading) (making : Making) (r : Option (List ℕ)) (holds : List ℕ → Option (List ℕ)) (names : List (Bor (List ℕ)))

@@ -12,7 +12,8 @@ use Rattle.spa_format.proofs.Fronts.{front_and_rest, front_of_whole}
 use Rattle.spa_format.proofs.WalkLemmas.{walk-there}
 use Rattle.spa_read.proofs.Conveying as conveying
 use Rattle.spa_recordings.specs.Blocks.{AreWhole, no_pods, one_more}
-use Rattle.spa_recordings.specs.GoingOn.{EndsBySize, GoesOn, GoesOnBehind, MakesOf, PassesPod, ends, kept_of, passes}
+use Rattle.spa_recordings.specs.GoingOn.{EndsBySize, GoesOnBehind, GoesOnFrom, MakesOf, PassesPod, ends, kept_of, passes}
+use Rattle.spa_recordings.specs.declared.going_on.Overlap.{Overlap}
 use Rattle.spa_recordings.specs.Rewritings.{encodings_joined}
 use Rattle.spa_recordings.specs.declared.going_on.Refused.{Refused}
 use Rattle.spa_recordings.specs.declared.going_on.Refused.TheVariants.{LeftOut, Kept, Resynced}
@@ -64,15 +65,17 @@ conveyed_whole (member v vs) b m =
     one_more b f.0 (subst AreWhole f.2 (conveyed_whole vs m.1 m.4))
 
 -- a refused pod that ends by its size word, in more bytes
-by_size : (refused : Refused) (left : List ℕ) (n : ℕ) → EndsBySize refused → GoesOnBehind refused left n → n ≡ length (front_of left)
-by_size LeftOut left n s g = g
-by_size Kept left n s g = g
-by_size Resynced left n s g = absurd s
+by_size : (refused : Refused) (reading : Reading) (place : ℕ) (left : List ℕ) (before these : Overlap) (n : ℕ) → EndsBySize refused →
+    GoesOnBehind refused reading place left before n these → (n ≡ length (front_of left)) × (these ≡ before)
+by_size LeftOut reading place left before these n s g = g
+by_size Kept reading place left before these n s g = g
+by_size Resynced reading place left before these n s g = absurd s
 
-goes_on_by_size : (refused : Refused) (left : List ℕ) (n : ℕ) → EndsBySize refused → n ≡ length (front_of left) → GoesOnBehind refused left n
-goes_on_by_size LeftOut left n s e = e
-goes_on_by_size Kept left n s e = e
-goes_on_by_size Resynced left n s e = absurd s
+goes_on_by_size : (refused : Refused) (reading : Reading) (place : ℕ) (left : List ℕ) (before these : Overlap) (n : ℕ) → EndsBySize refused →
+    n ≡ length (front_of left) → these ≡ before → GoesOnBehind refused reading place left before n these
+goes_on_by_size LeftOut reading place left before these n s e o = (e, o)
+goes_on_by_size Kept reading place left before these n s e o = (e, o)
+goes_on_by_size Resynced reading place left before these n s e o = absurd s
 
 front_taken : (left more : List ℕ) (n : ℕ) → n ≡ length (front_of left) →
     (take n (left ++ more) ≡ front_of left) × (drop n (left ++ more) ≡ rest_of left ++ more)
@@ -110,18 +113,19 @@ module _ (name : List ℕ) (reading : Reading) (refused : Refused) (Makes : List
   made_whole Lenient first x m = conveyed_whole m.1.0 first m.1.1
 
   -- what is made of all of a first part, and of what follows it
-  made_before : (count place all next : ℕ) (a b x y : List ℕ) (qs : List RefusedPod) → all ≡ count + length (walk a) → next ≡ place + length a →
-      MakesOf reading Makes a x → GoesOn name reading refused Makes all next b y qs →
-      GoesOn name reading refused Makes count place (a ++ b) (x ++ y) qs
-  made_before count place all next a b x y qs c e m (ends _ p i o n) = ends count place (a ++ b) (x ++ y) (made_joined reading a b x y m n)
-  made_before count place all next a b x y qs c e m (passes _ p n first left made others pod pods k its on) =
+  made_before : (o : Overlap) (count place all next : ℕ) (a b x y : List ℕ) (qs : List RefusedPod) → all ≡ count + length (walk a) →
+      next ≡ place + length a → MakesOf reading Makes a x → GoesOnFrom name reading refused Makes o all next b y qs →
+      GoesOnFrom name reading refused Makes o count place (a ++ b) (x ++ y) qs
+  made_before o count place all next a b x y qs c e m (ends _ _ p i out n) = ends o count place (a ++ b) (x ++ y) (made_joined reading a b x y m n)
+  made_before o count place all next a b x y qs c e m (passes _ these _ p n first left made others pod pods k its on) =
       let l = length-append a first in
       let j = count_joined a first (made_whole reading a x m) in
       let number = its.its_number in
       let is = its.its_place in
-      subst (λ z. GoesOn name reading refused Makes count place z (x ++ y) qs) (append_assoc a first left)
-      (subst (λ z. GoesOn name reading refused Makes count place ((a ++ first) ++ left) z qs) (append_assoc x made (kept_of refused (take n left) ++ others))
-      (passes count place n (a ++ first) left (x ++ made) others pod pods (made_joined reading a first x made m k)
+      subst (λ z. GoesOnFrom name reading refused Makes o count place z (x ++ y) qs) (append_assoc a first left)
+      (subst (λ z. GoesOnFrom name reading refused Makes o count place ((a ++ first) ++ left) z qs)
+      (append_assoc x made (kept_of refused (take n left) ++ others))
+      (passes o these count place n (a ++ first) left (x ++ made) others pod pods (made_joined reading a first x made m k)
       (record {
         some = its.some;
         nothing = its.nothing;
@@ -135,26 +139,28 @@ module _ (name : List ℕ) (reading : Reading) (refused : Refused) (Makes : List
 
   module _ (sized : EndsBySize refused) where
     -- the refused pod of a first part, in all
-    passes_longer : (count place n : ℕ) (first left b : List ℕ) (pod : RefusedPod) → HasFront left →
-        PassesPod name reading refused count place first left n pod → PassesPod name reading refused count place first (left ++ b) n pod
-    passes_longer count place n first left b pod f its = record {
-      some = some_longer left b its.some;
-      nothing = no_pod_longer left b f reading pod.kind.now its.nothing;
-      passed =
-          goes_on_by_size refused (left ++ b) n sized (by_size refused left n sized its.passed ∙ ap length (sym (front_same left b f)));
-      its_name = its.its_name;
-      its_number = its.its_number;
-      its_place = its.its_place;
-      left_out = its.left_out;
-    }
+    passes_longer : (o these : Overlap) (count place n : ℕ) (first left b : List ℕ) (pod : RefusedPod) → HasFront left →
+        PassesPod name reading refused o count place first left n these pod → PassesPod name reading refused o count place first (left ++ b) n these pod
+    passes_longer o these count place n first left b pod f its =
+        let size = by_size refused reading pod.place left o these n sized its.passed in
+        record {
+          some = some_longer left b its.some;
+          nothing = no_pod_longer left b f reading pod.kind.now its.nothing;
+          passed =
+              goes_on_by_size refused reading pod.place (left ++ b) o these n sized (size.0 ∙ ap length (sym (front_same left b f))) size.1;
+          its_name = its.its_name;
+          its_number = its.its_number;
+          its_place = its.its_place;
+          left_out = its.left_out;
+        }
 
     -- where it ends, so many pods and bytes stand before what follows it
-    behind_it : (count place n : ℕ) (first left x : List ℕ) (pod : RefusedPod) → MakesOf reading Makes first x → HasFront left →
-        PassesPod name reading refused count place first left n pod →
+    behind_it : (o these : Overlap) (count place n : ℕ) (first left x : List ℕ) (pod : RefusedPod) → MakesOf reading Makes first x → HasFront left →
+        PassesPod name reading refused o count place first left n these pod →
         (pod.number + length (walk (rest_of left)) ≡ count + length (walk (first ++ left)))
         × ((pod.place + n) + length (rest_of left) ≡ place + length (first ++ left))
-    behind_it count place n first left x pod m f its =
-        let size = by_size refused left n sized its.passed in
+    behind_it o these count place n first left x pod m f its =
+        let size = (by_size refused reading pod.place left o these n sized its.passed).0 in
         let number = its.its_number in
         let is = its.its_place in
         let j = count_joined first left (made_whole reading first x m) in
@@ -163,46 +169,47 @@ module _ (name : List ℕ) (reading : Reading) (refused : Refused) (Makes : List
         let fr = ap length (front_and_rest left) ∙ length-append (front_of left) (rest_of left) in
         (omega (arith, number, j, t), omega (arith, is, l, fr, size))
 
-    pub joined : (count place all next : ℕ) (a b x y : List ℕ) (ps qs : List RefusedPod) → AreWhole a → all ≡ count + length (walk a) →
-        next ≡ place + length a → GoesOn name reading refused Makes count place a x ps → GoesOn name reading refused Makes all next b y qs →
-        GoesOn name reading refused Makes count place (a ++ b) (x ++ y) (ps ++ qs)
-    joined count place all next a b x y ps qs w c e (ends _ p i o m) g = made_before count place all next a b x y qs c e m g
-    joined count place all next a b x y ps qs w c e (passes _ p n first left made others pod pods m its on) g =
+    pub joined : (o : Overlap) (count place all next : ℕ) (a b x y : List ℕ) (ps qs : List RefusedPod) → AreWhole a → all ≡ count + length (walk a) →
+        next ≡ place + length a → GoesOnFrom name reading refused Makes o count place a x ps → GoesOnFrom name reading refused Makes o all next b y qs →
+        GoesOnFrom name reading refused Makes o count place (a ++ b) (x ++ y) (ps ++ qs)
+    joined o count place all next a b x y ps qs w c e (ends _ _ p i out m) g = made_before o count place all next a b x y qs c e m g
+    joined o count place all next a b x y ps qs w c e (passes _ these _ p n first left made others pod pods m its on) g =
         let wl = whole_behind first left (made_whole reading first made m) w in
         let f = whole_front left wl its.some in
-        let size = by_size refused left n sized its.passed in
-        let alone = front_alone left n size in
-        let both = front_taken left b n size in
-        let behind = behind_it count place n first left made pod m f its in
+        let size = by_size refused reading pod.place left o these n sized its.passed in
+        let alone = front_alone left n size.0 in
+        let both = front_taken left b n size.0 in
+        let behind = behind_it o these count place n first left made pod m f its in
         let counted = behind.0 in
         let placed = behind.1 in
         let pods_left = ap (λ z. length (walk z)) alone.1 in
         let bytes_left = ap length alone.1 in
-        let more : GoesOn name reading refused Makes pod.number (pod.place + n) (drop n left ++ b) (others ++ y) (pods ++ qs) =
-        joined pod.number (pod.place + n) all next (drop n left) b others y pods qs (subst AreWhole (sym alone.1) (whole_rest left wl f))
-        (omega (arith, c, counted, pods_left)) (omega (arith, e, placed, bytes_left)) on g in
+        let more : GoesOnFrom name reading refused Makes these pod.number (pod.place + n) (drop n left ++ b) (others ++ y) (pods ++ qs) =
+        joined these pod.number (pod.place + n) all next (drop n left) b others y pods qs (subst AreWhole (sym alone.1) (whole_rest left wl f))
+        (omega (arith, c, counted, pods_left)) (omega (arith, e, placed, bytes_left)) on
+        (subst (λ z. GoesOnFrom name reading refused Makes z all next b y qs) (sym size.1) g) in
         let out : made ++ (kept_of refused (take n (left ++ b)) ++ (others ++ y)) ≡ (made ++ (kept_of refused (take n left) ++ others)) ++ y =
         ap (λ z. made ++ (kept_of refused z ++ (others ++ y))) (both.0 ∙ sym alone.0)
         ∙ ap (λ z. made ++ z) (sym (append_assoc (kept_of refused (take n left)) others y))
         ∙ sym (append_assoc made (kept_of refused (take n left) ++ others) y) in
         subst
-        (λ z. GoesOn name reading refused Makes count place z ((made ++ (kept_of refused (take n left) ++ others)) ++ y) (pod ∷ (pods ++ qs)))
+        (λ z. GoesOnFrom name reading refused Makes o count place z ((made ++ (kept_of refused (take n left) ++ others)) ++ y) (pod ∷ (pods ++ qs)))
         (sym (append_assoc first left b))
-        (subst (λ z. GoesOn name reading refused Makes count place (first ++ (left ++ b)) z (pod ∷ (pods ++ qs))) out
-        (passes count place n first (left ++ b) made (others ++ y) pod (pods ++ qs) m (passes_longer count place n first left b pod f its)
-        (subst (λ z. GoesOn name reading refused Makes pod.number (pod.place + n) z (others ++ y) (pods ++ qs))
+        (subst (λ z. GoesOnFrom name reading refused Makes o count place (first ++ (left ++ b)) z (pod ∷ (pods ++ qs))) out
+        (passes o these count place n first (left ++ b) made (others ++ y) pod (pods ++ qs) m
+        (passes_longer o these count place n first left b pod f its)
+        (subst (λ z. GoesOnFrom name reading refused Makes these pod.number (pod.place + n) z (others ++ y) (pods ++ qs))
         (ap (λ z. z ++ b) alone.1 ∙ sym both.1) more)))
 
     -- the refused pods of whole ones are whole
-    pub fronts : (a left x : List ℕ) (count place : ℕ) (ps : List RefusedPod) → AreWhole left → drop place a ≡ left → place + length left ≡ length a →
-        GoesOn name reading refused Makes count place left x ps → AreFronts a ps
-    fronts a left x count place ps w e l (ends _ p i o m) = tt
-    fronts a left x count place ps w e l (passes _ p n first at made others pod pods m its on) =
+    pub fronts : (o : Overlap) (a left x : List ℕ) (count place : ℕ) (ps : List RefusedPod) → AreWhole left → drop place a ≡ left →
+        place + length left ≡ length a → GoesOnFrom name reading refused Makes o count place left x ps → AreFronts a ps
+    fronts o a left x count place ps w e l (ends _ _ p i out m) = tt
+    fronts o a left x count place ps w e l (passes _ these _ p n first at made others pod pods m its on) =
         let wl = whole_behind first at (made_whole reading first made m) w in
         let f = whole_front at wl its.some in
-        let size = by_size refused at n sized its.passed in
-        let alone = front_alone at n size in
-        let placed = (behind_it count place n first at made pod m f its).1 in
+        let alone = front_alone at n (by_size refused reading pod.place at o these n sized its.passed).0 in
+        let placed = (behind_it o these count place n first at made pod m f its).1 in
         let is = its.its_place in
         let len = length-append first at in
         let here : drop pod.place a ≡ at =
@@ -211,7 +218,7 @@ module _ (name : List ℕ) (reading : Reading) (refused : Refused) (Makes : List
         let after : drop (pod.place + n) a ≡ drop n at = sym (drop-drop n pod.place a) ∙ ap (drop n) here in (
           omega (arith, is, l, len),
           subst HasFront (sym here) f,
-          fronts a (drop n at) others pod.number (pod.place + n) pods (subst AreWhole (sym alone.1) (whole_rest at wl f)) after
+          fronts these a (drop n at) others pod.number (pod.place + n) pods (subst AreWhole (sym alone.1) (whole_rest at wl f)) after
               (omega (arith, placed, l, bytes_left)) on,
         )
 

@@ -1,9 +1,11 @@
 -- What is printed of inputs that are read leniently.
-use Rattle.std.proofs.Common.{◌≡◌, ◌∙◌, inl, inr, refl, sym, subst, List, ℕ, Option}
+use Rattle.std.proofs.Common.{◌≡◌, ◌∙◌, inl, inr, [], sym, subst, List, ℕ, Option}
+use Rattle.std.specs.Prelude.{Decides}
 use Rattle.std.specs.Borrow.{Bor}
 use Rattle.spa_recordings.specs.declared.reading.Reading.TheVariants.{Lenient}
+use Rattle.spa_recordings.specs.declared.streaming.Made.{Made}
 use Rattle.spa_text_commands.specs.declared.selection.Selection.{Selection}
-use Rattle.pod_commands.specs.Answers.{AreUnmade, IsOutcome, IsPrintedLeniently, Outlet, outlet, sought_in}
+use Rattle.pod_commands.specs.Answers.{AreUnmade, IsFound, IsOutcome, IsPrintedLeniently, Outlet, outlet, sought_in}
 use Rattle.pod_commands.specs.Inputs.{AreMade}
 use Rattle.pod_commands.specs.Making.{MakesAll}
 use Rattle.pod_commands.specs.Sending.{IsSent}
@@ -13,17 +15,20 @@ use Rattle.pod_commands.specs.declared.answer.Failure.{Failure}
 use Rattle.pod_commands.specs.declared.request.Making.TheVariants.{Print}
 use Rattle.pod_commands.specs.declared.request.Printing.{Printing}
 use Rattle.pod_commands.proofs.Running.{untouched}
+use Rattle.pod_commands.proofs.Streamed.{found_by}
 
 -- all was printed and sent, or that couldn't be written
-pub all_printed : (printing : Printing) (remaining : Option (List ℕ)) (names : List (Bor (List ℕ))) (o : Outlet) (made : List ℕ) (given answer : Answer) →
-    AreMade (MakesAll Lenient (Print printing)) remaining o.before names made 0 → (sought : Option Selection) → sought ≡ sought_in printing.printout.selection → IsOutcome sought 0 given →
-    IsSent made given answer o → IsPrintedLeniently printing answer remaining names o
-all_printed printing remaining names o made given answer m sought looks (inl e) (inl k) =
-    subst (λ a. IsPrintedLeniently printing a remaining names o) (sym (k.0 ∙ e.1)) (made, m, k.1)
-all_printed printing remaining names o made given answer m sought looks (inr (inl e)) (inl k) = absurd (e.0 refl)
-all_printed printing remaining names o made given answer m sought looks (inr (inr e)) (inl k) =
-    subst (λ a. IsPrintedLeniently printing a remaining names o) (sym (k.0 ∙ e.3)) (sym looks ∙ e.2, (made, m, k.1))
-all_printed printing remaining names o made given answer m sought looks e (inr k) =
+pub all_printed : (printing : Printing) (remaining : Option (List ℕ)) (names : List (Bor (List ℕ))) (o : Outlet) (made : List ℕ) (its : Made) (given answer : Answer) →
+    AreMade (MakesAll Lenient (Print printing)) remaining o.before names made 0 → its.refused ≡ 0 → Decides its.nothing (made ≡ []) →
+    (sought : Option Selection) → sought ≡ sought_in printing.printout.selection → IsOutcome sought its given → IsSent made given answer o →
+    IsPrintedLeniently printing answer remaining names o
+all_printed printing remaining names o made its given answer m none d sought looks (inl e) (inl k) =
+    subst (λ a. IsPrintedLeniently printing a remaining names o) (sym (k.0 ∙ e.2))
+    (made, (m, subst (λ z. IsFound z made) looks (found_by sought its made d e.1)), k.1)
+all_printed printing remaining names o made its given answer m none d sought looks (inr (inl e)) (inl k) = absurd (e.0 none)
+all_printed printing remaining names o made its given answer m none d sought looks (inr (inr e)) (inl k) =
+    subst (λ a. IsPrintedLeniently printing a remaining names o) (sym (k.0 ∙ e.4)) (sym looks ∙ e.3, (made, (m, d.0 e.2), k.1))
+all_printed printing remaining names o made its given answer m none d sought looks e (inr k) =
     subst (λ a. IsPrintedLeniently printing a remaining names o) (sym k.1) (inr (k.2, (made, m, k.3)))
 
 -- not all inputs are read

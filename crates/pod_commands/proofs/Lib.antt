@@ -15,6 +15,7 @@ mod Paired
 mod Passed
 mod Running
 mod Streamed
+mod Through
 mod Twice
 mod Unread
 mod Worked

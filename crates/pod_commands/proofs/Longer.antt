@@ -12,7 +12,7 @@ use Rattle.spa_fixed_sized.specs.declared.fault.FaultKind.TheVariants as fault_k
 use Rattle.spa_format.specs.Faults.{Fault, IsInvalidType, IsWrongSize, LacksValues, Stands, StandsAtFront, at_front, in_key, in_member, in_property}
 use Rattle.spa_format.specs.Faults as fault
 use Rattle.spa_format.specs.Front.{HasFront, front_of}
-use Rattle.spa_format.specs.Pod.{AreMembers, IsPod}
+use Rattle.spa_format.specs.Pod.{AreMembers}
 use Rattle.spa_format.specs.Walk.{walk}
 use Rattle.spa_format.specs.Words.{body_of, extent, word_at}
 use Rattle.spa_format.proofs.Refused.{refused_behind_members}
@@ -21,12 +21,12 @@ use Rattle.spa_bodies.specs.Reading.{Names, NamesFaultKind}
 use Rattle.spa_recordings.specs.Streaming.{EndsAtPod}
 use Rattle.spa_read.specs.Reading.{StandsLeniently, in_body, no_front}
 use Rattle.spa_read.specs.Reading as leniently
-use Rattle.spa_format.specs.Lenient.{Conveys}
+use Rattle.spa_recordings.proofs.Holding.{nothing_longer}
 use Rattle.spa_recordings.specs.Reading.{IsNoPod}
 use Rattle.spa_recordings.specs.declared.reading.Reading.{Reading}
 use Rattle.spa_recordings.specs.declared.reading.Reading.TheVariants.{Exact, Lenient}
 use Rattle.spa_refusals.specs.Paths.{HaveRead, HoldsMember, HoldsValue, IsInnermost, LeadsTo, StepsTo, cut_off, further, holds_none, itself, member, members_read, number_of, properties_read, property, short_object, step_limit, type_name, type_number, type_text}
-use Rattle.spa_refusals.specs.Refusals.{IsCutOf, IsFirstRefusal, IsNothing, IsRefusalOf, IsUnreadFor, LeadsBy, StandsBy, wanted}
+use Rattle.spa_refusals.specs.Refusals.{IsCutOf, IsFirstRefusal, IsRefusalOf, IsUnreadFor, LeadsBy, StandsBy, wanted}
 use Rattle.spa_refusals.specs.declared.refusal.Cut.{Cut}
 use Rattle.spa_refusals.specs.declared.refusal.Refusal.{Refusal}
 use Rattle.pod_commands.specs.Streaming.{StreamsAs}
@@ -90,10 +90,6 @@ module _ (pod more : List ℕ) (f : HasFront pod) where
   pub front_same : front_of (pod ++ more) ≡ front_of pod
   front_same =
       ap (λ s. take (extent s) (pod ++ more)) size_longer ∙ take-append-le (extent (word_at pod 0)) pod more f.whole
-
-  nothing_longer : (reading : Reading) → IsNothing reading pod → IsNothing reading (pod ++ more)
-  nothing_longer Exact r = λ v h. r v (record { there = f; pod = subst (λ p. IsPod p v) front_same h.pod })
-  nothing_longer Lenient r = λ v h. r v (record { there = f; conveys = subst (λ p. Conveys p v) front_same h.conveys })
 
   innermost_longer : IsInnermost pod → IsInnermost (pod ++ more)
   innermost_longer (cut_off n) = absurd (n f)
@@ -195,7 +191,7 @@ module _ (pod more : List ℕ) (f : HasFront pod) where
   same reading e u named = (
     e,
     record {
-      nothing = nothing_longer reading u.nothing;
+      nothing = nothing_longer reading pod more f u.nothing;
       fault = u.fault;
       named = named;
       short_first = λ none. absurd (none front_longer);
@@ -210,7 +206,7 @@ module _ (pod more : List ℕ) (f : HasFront pod) where
       let at : Bor (List ℕ) = record { ref_ptr = x.input.ref_ptr; now = n.0 } in (
         error.Nom (record { input = at; kind = x.kind }),
         record {
-          nothing = nothing_longer reading u.nothing;
+          nothing = nothing_longer reading pod more f u.nothing;
           fault = tt;
           named = n.1;
           short_first = λ none. absurd (none front_longer);
@@ -264,7 +260,7 @@ module _ (pod more : List ℕ) (f : HasFront pod) where
             let u = unread_longer reading h.cause (subst (λ z. IsUnreadFor reading z h.cause) l.0 h.its) in
             record {
               type = h.type ∙ sym name_longer;
-              nothing = nothing_longer reading h.nothing;
+              nothing = nothing_longer reading pod more f h.nothing;
               inner = pod ++ more;
               path = l.1;
               inner_type = h.inner_type ∙ ap type_name l.0 ∙ sym name_longer;
@@ -278,7 +274,7 @@ module _ (pod more : List ℕ) (f : HasFront pod) where
         | inr l ↦
             record {
               type = h.type ∙ sym name_longer;
-              nothing = nothing_longer reading h.nothing;
+              nothing = nothing_longer reading pod more f h.nothing;
               inner = h.inner;
               path = l;
               inner_type = h.inner_type;
@@ -301,11 +297,12 @@ refusal_ahead left read unread r e (inr w) h =
 
 -- the pod at which a check ends is the first refused one
 pub first_refused : (input out read : List ℕ) (r : Refusal) →
-    EndsAtPod ⊤ (StreamsAs streaming.Check) input out r.number r.place read → IsRefusalOf Exact read r →
+    EndsAtPod Exact ⊤ (StreamsAs Exact streaming.Check) input out r.number r.place read → IsRefusalOf Exact read r →
     IsFirstRefusal Exact input r
 first_refused input out read r e h =
     let made = e.made in
-    let vs = made.made.1 in
+    let vs = made.made.2.1 in
+    let first = subst (AreMembers vs.0) made.made.1 vs.1 in
     let p = e.its_place in
     let l = ap length made.parts ∙ length-append made.first e.left in
     let behind : drop r.place input ≡ e.left =
@@ -313,9 +310,9 @@ first_refused input out read r e h =
     let before : take r.place input ≡ made.first =
     ap (take r.place) made.parts ∙ take_at made.first e.left r.place (sym p) in (
       λ m.
-          refused_behind_members vs.0 m.0 made.first e.left vs.1 e.ahead.some e.ahead.refused
+          refused_behind_members vs.0 m.0 made.first e.left first e.ahead.some e.ahead.refused
           (subst (AreMembers m.0) made.parts m.1),
-      (vs.0, made.first, made.parts ∙ ap (λ z. made.first ++ z) (sym behind), vs.1, λ z. e.ahead.some (sym behind ∙ z)),
+      (vs.0, made.first, made.parts ∙ ap (λ z. made.first ++ z) (sym behind), first, λ z. e.ahead.some (sym behind ∙ z)),
       record {
         within = omega (arith, p, l);
         number = e.its_number ∙ ap (λ z. length (walk z) + 1) (sym before);

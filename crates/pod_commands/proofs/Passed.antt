@@ -9,7 +9,7 @@ use Rattle.spa_format.specs.Pod.{AreMembers}
 use Rattle.spa_format.specs.Tree.{Trees, no_trees}
 use Rattle.spa_format.specs.Walk.{walk}
 use Rattle.spa_recordings.specs.Blocks.{no_pods}
-use Rattle.spa_recordings.specs.GoingOn.{MakesOf, ends}
+use Rattle.spa_recordings.specs.GoingOn.{MakesOf, ends, no_overlap}
 use Rattle.spa_recordings.specs.Passing.{AreBlocks, IsWrittenTill, StopsWork, WorksThrough, nothing, one_more}
 use Rattle.spa_recordings.specs.declared.going_on.Refused.{Refused}
 use Rattle.spa_recordings.specs.declared.reading.Reading.{Reading}
@@ -93,7 +93,7 @@ blocks_worked start _ _ _ e nothing = record {
   works = record {
     pods = [];
     these = [];
-    goes_on = ends 0 0 [] [] (none_made start.manner.reading start.making e.0);
+    goes_on = ends no_overlap 0 0 [] [] (none_made start.manner.reading start.making e.0);
     said = refl;
     added = sym (append-nil start.said.items);
   };
@@ -118,11 +118,11 @@ blocks_worked start _ _ _ e (one_more mid new first block out made before whole 
         pods = w.pods ++ its.pods;
         these = w.these ++ its.these;
         goes_on =
-            joined name reading refused m (joins start.making e.0) (members start.making e.0) e.1 0 0 (length (walk first)) (length first) first block out made
+            joined name reading refused m (joins start.making e.0) (members start.making e.0) e.1 no_overlap 0 0 (length (walk first)) (length first) first block out made
             w.pods its.pods whole (omega arith) (omega arith) w.goes_on its.goes_on;
         said =
             said_joined reading first block (length first) w.pods its.pods w.these its.these refl
-            (fronts name reading refused m (joins start.making e.0) (members start.making e.0) e.1 first first out 0 0 w.pods whole refl (omega arith)
+            (fronts name reading refused m (joins start.making e.0) (members start.making e.0) e.1 no_overlap first first out 0 0 w.pods whole refl (omega arith)
             w.goes_on) w.said its.said;
         added = its.added ∙ ap (λ z. z ++ its.these) w.added ∙ append_assoc start.said.items w.these its.these;
       };
@@ -139,7 +139,7 @@ passed start end content old new e w =
 
 -- the work ended before
 pub broken : (start : Worker) (name : Bor (List ℕ)) (content old new : Option (List ℕ)) (why : Stop) (failure : Failure) → IsMadeInBlocks start.manner.refused start.making →
-    name.now ≡ start.name.now → IsFailureOf name why failure → StopsWork WorksOnBlock start content old new why →
+    name.now ≡ start.name.now → IsFailureOf start.manner.reading name why failure → StopsWork WorksOnBlock start content old new why →
     IsBrokenInPartAt start.manner.reading start.manner.refused start.making start.name.now content old new failure
 broken start name content old new why failure e same t h = of why t h.written
   where
@@ -148,7 +148,7 @@ broken start name content old new why failure e same t h = of why t h.written
         let so = blocks_worked start h.state h.first h.out e h.made in
         record { first = h.first; left = h.left; parts = h.parts; whole = h.behind; pods = so.works.pods; made = so.works.goes_on }
 
-    of : (why : Stop) → IsFailureOf name why failure → IsWrittenTill why old new h.out →
+    of : (why : Stop) → IsFailureOf start.manner.reading name why failure → IsWrittenTill why old new h.out →
         IsBrokenInPartAt start.manner.reading start.manner.refused start.making start.name.now content old new failure
     of (stop.Pod number place read) t w = absurd w
     of stop.OutOfMemory t w =
@@ -162,7 +162,7 @@ broken start name content old new why failure e same t h = of why t h.written
         (h.input, h.out, h.its, (refl, first), w)
 
 -- no pod ends it
-pub no_pod : (start : Worker) (content old new : Option (List ℕ)) (why : Stop) → StopsWork WorksOnBlock start content old new why → HasNoPod why
+pub no_pod : (start : Worker) (content old new : Option (List ℕ)) (why : Stop) → StopsWork WorksOnBlock start content old new why → HasNoPod start.manner.reading why
 no_pod start content old new (stop.Pod number place read) h = absurd h.written
 no_pod start content old new stop.OutOfMemory h = tt
 no_pod start content old new stop.ReadFailed h = tt
@@ -180,7 +180,7 @@ module _ (reading : Reading) (refused : Refused) (making : Making) where
 
       none_of : (input : List ℕ) → MakesFirstInPart reading refused making name input []
       none_of input =
-          record { first = []; left = input; parts = refl; whole = inl no_pods; pods = []; made = ends 0 0 [] [] (none_made reading making e.0) }
+          record { first = []; left = input; parts = refl; whole = inl no_pods; pods = []; made = ends no_overlap 0 0 [] [] (none_made reading making e.0) }
 
       of : (input : List ℕ) × IsAllOf content input → IsUnread why → IsBrokenInPartAt reading refused making name content old old why
       of k (inl u) =
@@ -236,7 +236,8 @@ module _ (reading : Reading) (refused : Refused) (making : Making) where
       out = so.out ++ w.out;
       written = appends_more old mid new so.out w.out so.written w.written;
       works =
-          worked.goes_on reading refused making remaining holds names now after left behind name w.input w.out so.out (so.out ++ w.out) olds news e w.its k w.works refl
+          worked.goes_on reading refused making remaining holds names now after left behind name w.input w.out so.out (so.out ++ w.out) olds news e w.its k
+          (worked.all_through reading refused making name.now w.input w.out olds news w.works) refl
           so.works;
       made =
           step.goes_on _ _ remaining holds names now after left behind name w.input w.out so.out (so.out ++ w.out) 0 0 0 e w.its k

@@ -118,7 +118,7 @@ has_texts rows name (Make (Making.Print printing) manner) texts e r h = tt
 has_texts rows name (Make Check manner) texts e r h = tt
 has_texts rows name (Print printing manner) texts e r h = tt
 has_texts rows name (Stream streaming manner) texts e r h = tt
-has_texts rows name (Diff reading) texts e r h = tt
+has_texts rows name (Diff comparison reading) texts e r h = tt
 has_texts rows name (Agree work reading) texts e r h = tt
 
 -- what becomes of an input is what the rows say
@@ -163,7 +163,7 @@ has_dump rows name (Stream (Streaming.Json style) manner) dumps e d h = subst (A
 has_dump rows name (Stream Streaming.Rewrite manner) dumps e d h = tt
 has_dump rows name (Stream (Streaming.Print printing) manner) dumps e d h = is_json rows name printing.printout.form dumps e h d
 has_dump rows name (Stream Streaming.Check manner) dumps e d h = tt
-has_dump rows name (Diff reading) dumps e d h = tt
+has_dump rows name (Diff comparison reading) dumps e d h = tt
 has_dump rows name (Agree work reading) dumps e d h = tt
 
 -- options are those that the rows have

@@ -82,27 +82,28 @@ stops_at_files P S r s holds (x ∷ xs) out why files (inr h) =
 -- ---- No pod is counted
 
 none_refused : (r : Option (List ℕ)) (holds : List ℕ → Option (List ℕ)) (names : List (Bor (List ℕ))) (out : List ℕ) (n : ℕ) →
-    AreMade (StreamsAs streaming.Rewrite) r holds names out n → n ≡ 0
+    AreMade (StreamsAs Exact streaming.Rewrite) r holds names out n → n ≡ 0
 none_refused r holds [] out n h = h.1
 none_refused r holds (x ∷ xs) out n h =
     let j = none_refused (left_behind r x.now) holds xs h.2 h.4 h.9 in
-    let i = h.6.1 in
+    let i = h.6.2.1 in
     let k = h.8 in
     omega (arith, i, j, k)
 
 -- ---- What was accepted isn't refused, where it is known
 
 differs : (R : Type 0) (content : Option (List ℕ)) (first second out : List ℕ) (vs : Trees) (number place : ℕ) (read : List ℕ) → IsAllOf content first →
-    IsAllOf content second → AreMembers vs first → EndsAtPod R (StreamsAs streaming.Rewrite) second out number place read → content ≡ None
+    IsAllOf content second → AreMembers vs first → EndsAtPod Exact R (StreamsAs Exact streaming.Rewrite) second out number place read → content ≡ None
 differs R None first second out vs number place read f s m e = refl
 differs R (Some b) first second out vs number place read f s m e =
     let made = e.made in
-    absurd (refused_behind_members made.made.0.0 vs made.first e.left made.made.0.1 e.ahead.some e.ahead.refused
+    let rewrites = made.made.2.0 in
+    absurd (refused_behind_members rewrites.0 vs made.first e.left (subst (AreMembers rewrites.0) made.made.1 rewrites.1) e.ahead.some e.ahead.refused
     (subst (AreMembers vs) (f ∙ sym s ∙ made.parts) m))
 
 pods_unknown : (r : Option (List ℕ)) (holds : List ℕ → Option (List ℕ)) (names : List (Bor (List ℕ))) (made out : List ℕ) (n : ℕ) (name : Bor (List ℕ))
     (why : Refusal) → AreFiles names → AreMade (MakesAll Exact Check) r holds names made n →
-    StopsAt (StreamsAs streaming.Rewrite) (EndsIn streaming.Rewrite) r holds names out (Pods name why) → holds name.now ≡ None
+    StopsAt (StreamsAs Exact streaming.Rewrite) (EndsIn Exact streaming.Rewrite) r holds names out (Pods name why) → holds name.now ≡ None
 pods_unknown r holds [] made out n name why files m s = absurd s
 pods_unknown r holds (x ∷ xs) made out n name why files m (inl s) =
     let vs = m.6.0.2.1 in
@@ -114,26 +115,26 @@ pods_unknown r holds (x ∷ xs) made out n name why files m (inr s) =
 
 unknown : (r : Option (List ℕ)) (holds : List ℕ → Option (List ℕ)) (names : List (Bor (List ℕ))) (made out : List ℕ) (n : ℕ) (why : Failure) →
     AreFiles names → AreMade (MakesAll Exact Check) r holds names made n →
-    StopsAt (StreamsAs streaming.Rewrite) (EndsIn streaming.Rewrite) r holds names out why → IsUnknown holds why
+    StopsAt (StreamsAs Exact streaming.Rewrite) (EndsIn Exact streaming.Rewrite) r holds names out why → IsUnknown holds why
 unknown r holds names made out n (Pods name why) files m s = pods_unknown r holds names made out n name why files m s
 unknown r holds names made out n _ files m s = tt
 
 -- ---- The passes
 
-rewritten : (input out : List ℕ) (n : ℕ) → StreamsAs streaming.Rewrite input out n → MakesAll Exact Rewrite input out n
-rewritten input out n h = ((input, refl, h.0), h.1)
+rewritten : (input out : List ℕ) (n : ℕ) → StreamsAs Exact streaming.Rewrite input out n → MakesAll Exact Rewrite input out n
+rewritten input out n h = ((h.0, h.1, h.2.0), h.2.1)
 
 none_some : {X : Type 0} (x : X) → None ≡ Some x → ⊥
 none_some x e = true≢false (sym (ap is_some e))
 
 pub read_again : (answer : Answer) (r s : Option (List ℕ)) (names : List (Bor (List ℕ))) (o : Outlet) → MayReadTwice Exact Rewrite names o.target →
-    AreMade (MakesAll Exact Check) r o.before names [] 0 → IsWrittenAs streaming.Rewrite answer s names o → IsMadeBy Exact Stops Rewrite answer r names o
+    AreMade (MakesAll Exact Check) r o.before names [] 0 → IsWrittenAs Exact streaming.Rewrite answer s names o → IsMadeBy Exact Stops Rewrite answer r names o
 read_again Done r s names o may m h =
-    inl (h.0, made_of_files (StreamsAs streaming.Rewrite) (MakesAll Exact Rewrite) s r o.before names h.0 0 rewritten may.files h.1, h.2)
+    inl (h.0, made_of_files (StreamsAs Exact streaming.Rewrite) (MakesAll Exact Rewrite) s r o.before names h.0 0 rewritten may.files h.1.0, h.2)
 read_again (Missing k) r s names o may m h = absurd (none_some k h.0)
 read_again (Shown k) r s names o may m h = absurd (h.0 (none_refused s o.before names h.1.0 k h.1.1))
 read_again (Refused why) r s names o may m h =
-    let stops = stops_at_files (StreamsAs streaming.Rewrite) (EndsIn streaming.Rewrite) s r o.before names h.0.0 why may.files h.0.1 in
+    let stops = stops_at_files (StreamsAs Exact streaming.Rewrite) (EndsIn Exact streaming.Rewrite) s r o.before names h.0.0 why may.files h.0.1 in
     inr (
       why,
       refl,

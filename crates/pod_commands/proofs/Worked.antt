@@ -1,24 +1,21 @@
 -- What is made of inputs whose refused pods are left out or kept, name by name.
-use Rattle.std.proofs.Common.{length-take, ◌≢◌, ◌<◌, ◌≡◌, ◌≤◌, ◌∙◌, ◌∷◌, ◌++◌, ◌+◌, ◌-◌, [], append_assoc, append-nil, ap, arith, drop, inl, length, length-append, length-drop, refl, sym, subst, List, ℕ, Option}
+use Rattle.std.proofs.Common.{◌≡◌, ◌≤◌, ◌∙◌, ◌∷◌, ◌++◌, ◌+◌, ◌-◌, [], append_assoc, append-nil, ap, arith, drop, inl, length, length-append, length-drop, refl, sym, subst, List, ℕ, Option}
 use Rattle.std.proofs.lemmas.List.{drop-drop, drop_at}
 use Rattle.std.specs.Borrow.{Bor}
 use Rattle.spa_device.specs.Whole.{IsAllOf}
-use Rattle.spa_format.specs.Front.{front_of}
-use Rattle.spa_format.specs.Words.{extent, word_at}
-use Rattle.spa_recordings.specs.Plausible.{IsPlausible, a_struct, an_object}
-use Rattle.spa_recordings.specs.GoingOn.{GoesOn, GoesOnBehind, Resyncs, at_end, at_plausible, behind_pod, ends, passes}
-use Rattle.spa_recordings.specs.declared.going_on.Refused.TheVariants.{LeftOut, Kept, Resynced}
+use Rattle.spa_recordings.specs.GoingOn.{GoesOn, GoesOnFrom, ends, no_overlap, passes}
+use Rattle.spa_recordings.specs.declared.going_on.Overlap.{Overlap}
 use Rattle.spa_recordings.specs.declared.going_on.Refused.{Refused}
 use Rattle.spa_recordings.specs.declared.going_on.RefusedPod.{RefusedPod}
-use Rattle.spa_recordings.specs.Reading.{IsNoPod}
+use Rattle.spa_recordings.specs.Reading.{IsNoPod, IsNothing}
+use Rattle.spa_recordings.proofs.Going.{passed_some}
 use Rattle.spa_recordings.specs.declared.reading.Reading.{Reading}
 use Rattle.spa_recordings.specs.declared.reading.Reading.TheVariants.{Exact, Lenient}
-use Rattle.spa_refusals.specs.Refusals.{IsNothing}
 use Rattle.spa_refusals.specs.Several.{AreRefused}
 use Rattle.spa_refusals.specs.declared.several.NamedRefusal.{NamedRefusal}
 use Rattle.pod_commands.specs.Inputs.{IsKnown, content_of, left_behind}
 use Rattle.pod_commands.specs.Making.{Makes}
-use Rattle.pod_commands.specs.Working.{AreWorked, WorksOn}
+use Rattle.pod_commands.specs.Working.{AreWorked, WorksOn, WorksThrough, to_end}
 use Rattle.pod_commands.specs.declared.request.Making.{Making}
 use Rattle.pod_commands.proofs.Known.{known_all, known_behind}
 
@@ -26,39 +23,16 @@ no_pod : (reading : Reading) (left kind : List ℕ) → IsNoPod reading left kin
 no_pod Exact left kind h = h.0
 no_pod Lenient left kind h = h.0
 
--- some bytes are passed with a refused pod, at most all that are left
-some_bytes : (left : List ℕ) → left ≢ [] → 0 < length left
-some_bytes [] n = absurd (n refl)
-some_bytes (x ∷ xs) n = omega arith
-
-front_some : (left : List ℕ) (n : ℕ) → 0 < length left → n ≡ length (front_of left) → (0 < n) × (n ≤ length left)
-front_some left n s e = let t = length-take (extent (word_at left 0)) left in (omega (arith, s, e, t), omega (arith, e, t))
-
-plausible_fits : (left : List ℕ) (n : ℕ) → IsPlausible (drop n left) → n ≤ length left
-plausible_fits left n (a_struct front is whole) = let h = front.header in let d = length-drop n left in omega (arith, h, d)
-plausible_fits left n (an_object there is whole) = let h = there.front.header in let d = length-drop n left in omega (arith, h, d)
-
-resyncs_some : (left : List ℕ) (n : ℕ) → 0 < length left → Resyncs left n → (0 < n) × (n ≤ length left)
-resyncs_some left n s (behind_pod m f e) = front_some left n s e
-resyncs_some left n s (at_plausible m f next) =
-    let b = next.behind in (omega (arith, b), plausible_fits left n next.plausible)
-resyncs_some left n s (at_end m f none e) = (omega (arith, s, e), omega (arith, e))
-
-passed_some : (refused : Refused) (left : List ℕ) (n : ℕ) → left ≢ [] → GoesOnBehind refused left n → (0 < n) × (n ≤ length left)
-passed_some LeftOut left n s g = front_some left n (some_bytes left s) g
-passed_some Kept left n s g = front_some left n (some_bytes left s) g
-passed_some Resynced left n s g = resyncs_some left n (some_bytes left s) g
-
 -- the refused pods of what is left of a part of an input aren't read
-left_refused : (name : List ℕ) (reading : Reading) (refused : Refused) (Makes : List ℕ → List ℕ → Type 0) (before : ℕ) (part : List ℕ) (count place : ℕ)
-    (left out : List ℕ) (pods : List RefusedPod) → GoesOn name reading refused Makes count place left out pods → before ≤ place →
+left_refused : (name : List ℕ) (reading : Reading) (refused : Refused) (Makes : List ℕ → List ℕ → Type 0) (before : ℕ) (part : List ℕ) (these : Overlap)
+    (count place : ℕ) (left out : List ℕ) (pods : List RefusedPod) → GoesOnFrom name reading refused Makes these count place left out pods → before ≤ place →
     drop (place - before) part ≡ left → place + length left ≡ before + length part → AreRefused reading before part pods
-left_refused name reading refused Makes before part count place left out pods (ends _ p i o m) b e l = tt
-left_refused name reading refused Makes before part count place left out pods (passes _ p n first at made others pod more m its on) b e l =
+left_refused name reading refused Makes before part these count place left out pods (ends _ _ p i o m) b e l = tt
+left_refused name reading refused Makes before part these count place left out pods (passes _ behind _ p n first at made others pod more m its on) b e l =
     let is = its.its_place in
     let a = length-append first at in
     let d = length-drop n at in
-    let passed = passed_some refused at n its.some its.passed in
+    let passed = passed_some refused reading pod.place at these behind n its.some its.passed in
     let some = passed.0 in
     let fits = passed.1 in
     let here : drop (pod.place - before) part ≡ at =
@@ -70,7 +44,7 @@ left_refused name reading refused Makes before part count place left out pods (p
       omega (arith, is, b),
       omega (arith, is, l, a, some, fits),
       subst (IsNothing reading) (sym here) (no_pod reading at pod.kind.now its.nothing),
-      left_refused name reading refused Makes before part pod.number (pod.place + n) (drop n at) others more on (omega (arith, is, b)) after
+      left_refused name reading refused Makes before part behind pod.number (pod.place + n) (drop n at) others more on (omega (arith, is, b)) after
           (omega (arith, is, l, a, d, fits)),
     )
 
@@ -78,8 +52,14 @@ left_refused name reading refused Makes before part count place left out pods (p
 pub all_refused : (name : List ℕ) (reading : Reading) (refused : Refused) (Makes : List ℕ → List ℕ → Type 0) (count before : ℕ) (part out : List ℕ)
     (pods : List RefusedPod) → GoesOn name reading refused Makes count before part out pods → AreRefused reading before part pods
 all_refused name reading refused Makes count before part out pods on =
-    left_refused name reading refused Makes before part count before part out pods on (omega arith)
+    left_refused name reading refused Makes before part no_overlap count before part out pods on (omega arith)
     (ap (λ z. drop z part) (let z : before - before ≡ 0 = omega arith in z)) refl
+
+-- a part of an input that is all of it
+pub all_through : (reading : Reading) (refused : Refused) (making : Making) (name input out : List ℕ) (olds news : List NamedRefusal) →
+    WorksOn reading refused making name 0 0 input out olds news → WorksThrough reading refused making name input out olds news
+all_through reading refused making name input out olds news w =
+    record { these = w.these; made = to_end 0 0 input out w.pods w.these w.goes_on w.said; added = w.added }
 
 module _ (reading : Reading) (refused : Refused) (making : Making) (remaining : Option (List ℕ)) (holds : List ℕ → Option (List ℕ))
     (names : List (Bor (List ℕ))) where
@@ -102,7 +82,7 @@ module _ (reading : Reading) (refused : Refused) (making : Making) (remaining : 
   -- one name more
   pub goes_on : (now after : Option (List ℕ)) (left behind : List (Bor (List ℕ))) (name : Bor (List ℕ)) (bytes made old new : List ℕ)
       (olds news : List NamedRefusal) → left ≡ name ∷ behind → IsAllOf (content_of now holds name.now) bytes → IsKnown (left_behind now name.now) after →
-      WorksOn reading refused making name.now 0 0 bytes made olds news → new ≡ old ++ made → WorkedSoFar now left old olds →
+      WorksThrough reading refused making name.now bytes made olds news → new ≡ old ++ made → WorkedSoFar now left old olds →
       WorkedSoFar after behind new news
   goes_on now after left behind name bytes made old new olds news e all k m w so =
       let its = known_all so.expected now holds name.now bytes so.known all in
@@ -115,7 +95,7 @@ module _ (reading : Reading) (refused : Refused) (making : Making) (remaining : 
             (sym (ap (λ z. z ++ those) m.added ∙ append_assoc olds m.these those))
             (so.made (made ++ others) (m.these ++ those)
             (subst (λ l. AreWorked reading refused making so.expected holds l (made ++ others) (m.these ++ those)) (sym e)
-            (bytes, made, others, m.pods, m.these, those, its, m.goes_on, m.said, refl, refl, h))));
+            (bytes, made, others, m.these, those, its, m.made, refl, refl, h))));
       }
 
   -- no name is left

@@ -18,12 +18,14 @@ use Rattle.spa_recordings.specs.declared.going_on.Refused.{Refused as OfRefused}
 use Rattle.spa_recordings.specs.declared.going_on.Refused.TheVariants.{Resynced}
 use Rattle.spa_recordings.specs.declared.reading.Reading.{Reading}
 use Rattle.spa_recordings.specs.declared.reading.Reading.TheVariants.{Exact, Lenient}
+use Rattle.spa_recordings.specs.declared.streaming.Made.{Made}
 use Rattle.spa_refusals.specs.Refusals.{refusal_text}
 use Rattle.spa_refusals.specs.declared.several.NamedRefusal.{NamedRefusal}
 use Rattle.spa_text_read.specs.Letters.{shown_text}
 use Rattle.spa_text_commands.specs.Answers as text
 use Rattle.spa_text_commands.specs.Differences.{Differ, SayTheSame}
 use Rattle.spa_text_commands.specs.Selection.{looks_inside}
+use Rattle.spa_text_commands.specs.declared.comparing.Comparison.{Comparison}
 use Rattle.spa_text_commands.specs.declared.selection.Selection.{Selection}
 use Rattle.spa_meet_commands.specs.Answers as meet
 use Rattle.spa_meet_commands.specs.Lists.{AreListsRefused, ListsGive}
@@ -34,7 +36,7 @@ use Rattle.pod_commands.specs.Making.{AreNoPods, HasNoForm, IsNotRead, MakesAll,
 use Rattle.pod_commands.specs.Program.{program}
 use Rattle.pod_commands.specs.Requests.{Asks, AsksNothing, dash, file_of, fills_terminal}
 use Rattle.pod_commands.specs.Streaming.{EndsIn, IsBroken, IsBrokenInPart, StreamsAs, made_as}
-use Rattle.pod_commands.specs.Working.{AreWorked}
+use Rattle.pod_commands.specs.Working.{AreWorked, leaves_formless_out}
 use Rattle.pod_commands.specs.declared.answer.Answer.{Answer}
 use Rattle.pod_commands.specs.declared.answer.Answer.TheVariants.{Done, Differs, Passed, Shown, Missing, Refused, Misused, Said}
 use Rattle.pod_commands.specs.declared.answer.Failure.{Failure}
@@ -116,9 +118,11 @@ Refuses IsSo IsRefused o why = (IsRefused why × IsUntouched o) ⊎ (IsUnwritten
 abbrev pub IsUnread : Failure → Type 0
 IsUnread why = (why ≡ OutOfMemory) ⊎ ((name : Bor (List ℕ)) × (words : Bor (List ℕ)) × (why ≡ Unread name words))
 
--- so, or pw-dump has no form for a pod of one
-abbrev pub IsUnworked : Making → Failure → Type 0
-IsUnworked making why = IsUnread why ⊎ ((name : List ℕ) × (input : List ℕ) × HasNoForm making name input why)
+-- so, or pw-dump has no form for a pod of one, where such pods aren't left out
+abbrev pub IsUnworked : OfRefused → Making → Failure → Type 0
+IsUnworked refused making why =
+    IsUnread why
+    ⊎ ((leaves_formless_out refused making ≡ false) × (name : List ℕ) × (input : List ℕ) × HasNoForm making name input why)
 
 -- the work on several inputs stops at one of them, which isn't read or is refused
 abbrev pub AreUnmade : Reading → Making → (remaining : Option (List ℕ)) → (holds : List ℕ → Option (List ℕ)) → List (Bor (List ℕ)) → Failure → Type 0
@@ -126,9 +130,9 @@ AreUnmade reading making remaining holds names why =
     IsUnread why
     ⊎ ((out : List ℕ) × StopsAt (MakesAll reading making) (λ name input made. RefusesBy reading making name input) remaining holds names out why)
 
--- these are the lines that differ of two inputs, which are none where they say the same values
-abbrev pub Compare : (out a b : List ℕ) → Type 0
-Compare out a b = ((out ≡ []) × SayTheSame a b) ⊎ Differ out a b
+-- these are the lines that differ of two inputs that are compared so, which are none where they say the same values
+abbrev pub Compare : Comparison → (out a b : List ℕ) → Type 0
+Compare k out a b = ((out ≡ []) × SayTheSame k a b) ⊎ Differ k out a b
 
 -- an input can't be read, or leniently conveys no values one after another
 abbrev pub IsOneUnread : Reading → (remaining : Option (List ℕ)) → (holds : List ℕ → Option (List ℕ)) → (n : List ℕ) → Failure → Type 0
@@ -165,10 +169,9 @@ AreTwoApart work reading remaining holds n m why =
     × OfTwo reading remaining holds n m (AreListsRefused work e))
 
 -- `--stream` excludes this option, which is given
-abbrev pub IsExcluded : Reading → Fate → Option (Bor (List ℕ)) → Excluded → Type 0
-IsExcluded reading fate target excluded.Lenient = (reading ≡ Lenient) × (fate ≡ Stops)
-IsExcluded reading fate target excluded.Output = ¬ (target ≡ None)
-IsExcluded reading fate target excluded.Resync = fate ≡ GoesOn Resynced
+abbrev pub IsExcluded : Fate → Option (Bor (List ℕ)) → Excluded → Type 0
+IsExcluded fate target excluded.Output = ¬ (target ≡ None)
+IsExcluded fate target excluded.Resync = fate ≡ GoesOn Resynced
 
 -- what is wrong with another number of inputs than a word takes
 abbrev pub misuse_of : List (Bor (List ℕ)) → Misuse
@@ -179,13 +182,13 @@ misuse_of _ = TooFew
 abbrev pub IsMisuse : Misuse → Answer → Outlet → Type 0
 IsMisuse why answer o = (answer ≡ Misused why) × IsUntouched o
 
--- what an answer says of two inputs that are read so and compared, and of the word with another number of them
-abbrev pub IsCompared : Reading → Answer → (remaining : Option (List ℕ)) → List (Bor (List ℕ)) → Outlet → Type 0
-IsCompared reading answer remaining (n ∷ m ∷ []) o =
-    OnAnswer answer (OfTwo reading remaining o.before n.now m.now SayTheSame × Gets o.target o [])
-    (Gives (λ out. OfTwo reading remaining o.before n.now m.now (Differ out)) o)
-    (Refuses (λ out. OfTwo reading remaining o.before n.now m.now (Compare out)) (AreNotCompared reading remaining o.before n.now m.now) o)
-IsCompared reading answer remaining names o = IsMisuse (misuse_of names) answer o
+-- what an answer says of two inputs that are compared and read so, and of the word with another number of them
+abbrev pub IsCompared : Comparison → Reading → Answer → (remaining : Option (List ℕ)) → List (Bor (List ℕ)) → Outlet → Type 0
+IsCompared k reading answer remaining (n ∷ m ∷ []) o =
+    OnAnswer answer (OfTwo reading remaining o.before n.now m.now (SayTheSame k) × Gets o.target o [])
+    (Gives (λ out. OfTwo reading remaining o.before n.now m.now (Differ k out)) o)
+    (Refuses (λ out. OfTwo reading remaining o.before n.now m.now (Compare k out)) (AreNotCompared reading remaining o.before n.now m.now) o)
+IsCompared k reading answer remaining names o = IsMisuse (misuse_of names) answer o
 
 -- what it says of inputs that are read so, in which two objects agree
 abbrev pub IsAgreed : Work → Reading → Answer → (remaining : Option (List ℕ)) → List (Bor (List ℕ)) → Outlet → Type 0
@@ -226,7 +229,7 @@ IsUnknown holds _ = ⊤
 -- written; what was made till it ended was written.
 pub record EndsInSecondPass (remaining : Option (List ℕ)) (names : List (Bor (List ℕ))) (o : Outlet) (why : Failure) : Type 0 where
   pub accepted : AreMade (MakesAll Exact Check) remaining o.before names [] 0
-  pub broken : IsBroken streaming.Rewrite remaining o.before names o.old o.new why
+  pub broken : IsBroken Exact streaming.Rewrite remaining o.before names o.old o.new why
   pub changed : IsUnknown o.before why
   pub no_file : KeepsFiles o
 
@@ -236,7 +239,7 @@ IsMadeInPart reading refused making Done remaining names o = Gives (λ out. AreW
 IsMadeInPart reading refused making (Passed pods) remaining names o =
     (pods.items ≢ []) × Gives (λ out. AreWorked reading refused making remaining o.before names out pods.items) o
 IsMadeInPart reading refused making (Refused why) remaining names o =
-    Refuses (λ out. (pods : List NamedRefusal) × AreWorked reading refused making remaining o.before names out pods) (IsUnworked making) o why
+    Refuses (λ out. (pods : List NamedRefusal) × AreWorked reading refused making remaining o.before names out pods) (IsUnworked refused making) o why
 IsMadeInPart reading refused making _ remaining names o = ⊥
 
 abbrev pub IsMadeBy : Reading → Fate → Making → Answer → (remaining : Option (List ℕ)) → List (Bor (List ℕ)) → Outlet → Type 0
@@ -245,8 +248,6 @@ IsMadeBy reading Stops making answer remaining names o =
     ⊎ ((why : Failure) × (answer ≡ Refused why) × MayReadTwice reading making names o.target × EndsInSecondPass remaining names o why)
 IsMadeBy reading (GoesOn refused) making answer remaining names o = IsMadeInPart reading refused making answer remaining names o
 
--- what it says of work that is written as inputs come: all was written, of which no pod is refused, or so many of those that are shown; or what was
--- made till the work ended
 -- what is looked for inside pods, if something is
 abbrev pub sought_in : Selection → Option Selection
 sought_in selection = if looks_inside selection then Some selection else None
@@ -257,21 +258,28 @@ looked_for streaming.Rewrite = None
 looked_for (streaming.Print printing) = sought_in printing.printout.selection
 looked_for streaming.Check = None
 
-abbrev pub IsWrittenAs : Streaming → Answer → (remaining : Option (List ℕ)) → List (Bor (List ℕ)) → Outlet → Type 0
-IsWrittenAs streaming Done remaining names o = Gives (λ out. AreMade (StreamsAs streaming) remaining o.before names out 0) o
-IsWrittenAs streaming (Shown refused) remaining names o =
-    (refused ≢ 0) × Gives (λ out. AreMade (StreamsAs streaming) remaining o.before names out refused) o
-IsWrittenAs streaming (Missing selection) remaining names o =
-    (looked_for streaming ≡ Some selection) × Gives (λ out. AreMade (StreamsAs streaming) remaining o.before names out 0) o
-IsWrittenAs streaming (Refused why) remaining names o = IsBroken streaming remaining o.before names o.old o.new why × KeepsFiles o
-IsWrittenAs streaming _ remaining names o = ⊥
+-- where something is looked for, something is made
+abbrev pub IsFound : Option Selection → (out : List ℕ) → Type 0
+IsFound None out = ⊤
+IsFound (Some selection) out = out ≢ []
 
--- The answer where all is printed, and so many of the printed pods are refused: where none is and something was looked for, it may be that this
--- wasn't found. Only private clauses cite it.
-abbrev pub IsOutcome : Option Selection → ℕ → Answer → Type 0
-IsOutcome sought refused answer =
-    ((refused ≡ 0) × (answer ≡ Done)) ⊎ ((refused ≢ 0) × (answer ≡ Shown refused))
-    ⊎ ((selection : Selection) × (refused ≡ 0) × (sought ≡ Some selection) × (answer ≡ Missing selection))
+-- what it says of work that is written as inputs come: all was written, of which no pod is refused, or so many of those that are shown; or nothing, as
+-- what is looked for isn't there; or what was made till the work ended
+abbrev pub IsWrittenAs : Reading → Streaming → Answer → (remaining : Option (List ℕ)) → List (Bor (List ℕ)) → Outlet → Type 0
+IsWrittenAs reading streaming Done remaining names o =
+    Gives (λ out. AreMade (StreamsAs reading streaming) remaining o.before names out 0 × IsFound (looked_for streaming) out) o
+IsWrittenAs reading streaming (Shown refused) remaining names o =
+    (refused ≢ 0) × Gives (λ out. AreMade (StreamsAs reading streaming) remaining o.before names out refused) o
+IsWrittenAs reading streaming (Missing selection) remaining names o =
+    (looked_for streaming ≡ Some selection) × Gives (λ out. AreMade (StreamsAs reading streaming) remaining o.before names out 0 × (out ≡ [])) o
+IsWrittenAs reading streaming (Refused why) remaining names o = IsBroken reading streaming remaining o.before names o.old o.new why × KeepsFiles o
+IsWrittenAs reading streaming _ remaining names o = ⊥
+
+-- The answer where all is printed, of which this is answered. Only private clauses cite it.
+abbrev pub IsOutcome : Option Selection → Made → Answer → Type 0
+IsOutcome sought made answer =
+    ((made.refused ≡ 0) × ((sought ≡ None) ⊎ (made.nothing ≡ false)) × (answer ≡ Done)) ⊎ ((made.refused ≢ 0) × (answer ≡ Shown made.refused))
+    ⊎ ((selection : Selection) × (made.refused ≡ 0) × (made.nothing ≡ true) × (sought ≡ Some selection) × (answer ≡ Missing selection))
 
 -- what it says of work on inputs as they come that goes on behind refused pods: what it says without `--stream`, but that where the work ends before an
 -- input does, what was made till then was written
@@ -286,47 +294,52 @@ IsPassed None reading refused answer remaining names o = IsMisuse (WithPart refu
 IsPassed (Some making) reading refused answer remaining names o = IsStreamedInPart reading refused making answer remaining names o
 
 abbrev pub IsStreamedBy : Streaming → Reading → Fate → Answer → (remaining : Option (List ℕ)) → List (Bor (List ℕ)) → Outlet → Type 0
-IsStreamedBy streaming reading Stops answer remaining names o = (reading ≡ Exact) × IsWrittenAs streaming answer remaining names o
+IsStreamedBy streaming reading Stops answer remaining names o = IsWrittenAs reading streaming answer remaining names o
 IsStreamedBy streaming reading (GoesOn refused) answer remaining names o = IsPassed (made_as streaming) reading refused answer remaining names o
 
 -- what it says of that where other options may be given: one that `--stream` excludes is misuse
 abbrev pub IsStreamed : Streaming → Reading → Fate → Answer → (remaining : Option (List ℕ)) → List (Bor (List ℕ)) → Outlet → Type 0
 IsStreamed streaming reading fate answer remaining names o =
     ((o.target ≡ None) × IsStreamedBy streaming reading fate answer remaining names o)
-    ⊎ ((other : Excluded) × IsExcluded reading fate o.target other × IsMisuse (WithStream other) answer o)
+    ⊎ ((other : Excluded) × IsExcluded fate o.target other × IsMisuse (WithStream other) answer o)
 
--- input that comes is read leniently only where refused pods are left out or kept, and these end by their size words; only private clauses cite it
-abbrev pub IsExact : Reading → Fate → Type 0
-IsExact reading Stops = reading ≡ Exact
-IsExact reading (GoesOn refused) = EndsBySize refused
+-- the work goes on behind refused pods of input that comes only where these end by their size words; only private clauses cite it
+abbrev pub MayStream : Fate → Type 0
+MayStream Stops = ⊤
+MayStream (GoesOn refused) = EndsBySize refused
 
 -- why not all inputs are printed in a file: the work stops at one of them, or memory for what is printed ran out
 abbrev pub AreUnshown : Printing → (remaining : Option (List ℕ)) → (holds : List ℕ → Option (List ℕ)) → List (Bor (List ℕ)) → Failure → Type 0
 AreUnshown printing remaining holds names why =
     (why ≡ OutOfMemory)
-    ⊎ ((out : List ℕ) × StopsAt (StreamsAs (streaming.Print printing)) (EndsIn (streaming.Print printing)) remaining holds names out why)
+    ⊎ ((out : List ℕ) × StopsAt (StreamsAs Exact (streaming.Print printing)) (EndsIn Exact (streaming.Print printing)) remaining holds names out why)
 
 -- what it says of inputs that are printed in a file
 abbrev pub IsShownIn : Printing → Answer → (remaining : Option (List ℕ)) → List (Bor (List ℕ)) → Outlet → Type 0
-IsShownIn printing Done remaining names o = Gives (λ out. AreMade (StreamsAs (streaming.Print printing)) remaining o.before names out 0) o
+IsShownIn printing Done remaining names o =
+    Gives (λ out. AreMade (StreamsAs Exact (streaming.Print printing)) remaining o.before names out 0 × IsFound (sought_in printing.printout.selection) out) o
 IsShownIn printing (Shown refused) remaining names o =
-    (refused ≢ 0) × Gives (λ out. AreMade (StreamsAs (streaming.Print printing)) remaining o.before names out refused) o
+    (refused ≢ 0) × Gives (λ out. AreMade (StreamsAs Exact (streaming.Print printing)) remaining o.before names out refused) o
 IsShownIn printing (Missing selection) remaining names o =
-    (sought_in printing.printout.selection ≡ Some selection) × Gives (λ out. AreMade (StreamsAs (streaming.Print printing)) remaining o.before names out 0) o
+    (sought_in printing.printout.selection ≡ Some selection)
+    × Gives (λ out. AreMade (StreamsAs Exact (streaming.Print printing)) remaining o.before names out 0 × (out ≡ [])) o
 IsShownIn printing (Refused why) remaining names o =
-    Refuses (λ out. (refused : ℕ) × AreMade (StreamsAs (streaming.Print printing)) remaining o.before names out refused)
+    Refuses (λ out. (refused : ℕ) × AreMade (StreamsAs Exact (streaming.Print printing)) remaining o.before names out refused)
     (AreUnshown printing remaining o.before names) o why
 IsShownIn printing _ remaining names o = ⊥
 
 -- inputs are printed as they come, or where a file is written, all of them in it
 abbrev pub IsShown : Printing → Option (Bor (List ℕ)) → Answer → (remaining : Option (List ℕ)) → List (Bor (List ℕ)) → Outlet → Type 0
-IsShown printing None answer remaining names o = IsWrittenAs (streaming.Print printing) answer remaining names o
+IsShown printing None answer remaining names o = IsWrittenAs Exact (streaming.Print printing) answer remaining names o
 IsShown printing (Some name) answer remaining names o = IsShownIn printing answer remaining names o
 
--- inputs are read leniently, and printed as pods of which none is refused; where nothing that is looked for is there, it may say so
+-- inputs are read leniently, and printed as pods of which none is refused; where nothing that is looked for is there, it says so
 abbrev pub IsPrintedLeniently : Printing → Answer → (remaining : Option (List ℕ)) → List (Bor (List ℕ)) → Outlet → Type 0
+IsPrintedLeniently printing Done remaining names o =
+    Gives (λ out. AreMade (MakesAll Lenient (making.Print printing)) remaining o.before names out 0 × IsFound (sought_in printing.printout.selection) out) o
 IsPrintedLeniently printing (Missing selection) remaining names o =
-    (sought_in printing.printout.selection ≡ Some selection) × Gives (λ out. AreMade (MakesAll Lenient (making.Print printing)) remaining o.before names out 0) o
+    (sought_in printing.printout.selection ≡ Some selection)
+    × Gives (λ out. AreMade (MakesAll Lenient (making.Print printing)) remaining o.before names out 0 × (out ≡ [])) o
 IsPrintedLeniently printing answer remaining names o = IsMadeWhole Lenient (making.Print printing) answer remaining names o
 
 -- what it says of inputs that are read so and printed
@@ -344,7 +357,7 @@ abbrev pub IsDone : Word → Answer → (remaining : Option (List ℕ)) → List
 IsDone (Print printing manner) answer remaining names o = IsPrinted printing manner.reading manner.fate answer remaining names o
 IsDone (Make making manner) answer remaining names o = IsMadeBy manner.reading manner.fate making answer remaining names o
 IsDone (Stream streaming manner) answer remaining names o = IsStreamed streaming manner.reading manner.fate answer remaining names o
-IsDone (Diff reading) answer remaining names o = IsCompared reading answer remaining names o
+IsDone (Diff k reading) answer remaining names o = IsCompared k reading answer remaining names o
 IsDone (Agree work reading) answer remaining names o = IsAgreed work reading answer remaining names o
 
 -- What an answer says of a run: what the words ask for was done, or refused; clap refuses them for one of the causes that stand, help

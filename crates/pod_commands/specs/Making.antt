@@ -1,13 +1,15 @@
 -- What each word makes of an input, and what it refuses it for.
-use Rattle.std.specs.Prelude.{⊤, ◌≡◌, ◌≤◌, ◌⊎◌, ℕ, codes, List, [], length}
+use Rattle.std.specs.Prelude.{⊤, ◌≡◌, ◌≤◌, ◌+◌, ◌⊎◌, ℕ, codes, List, [], drop, length, take}
 use Rattle.spa_format.specs.Pod.{AreMembers}
 use Rattle.spa_format.specs.Tree.{Trees}
+use Rattle.spa_format.specs.Walk.{walk}
 use Rattle.spa_meet_commands.specs.Settling.{SettlesAll}
 use Rattle.spa_pod_commands.specs.Answers.{Fixates, Rewrites}
 use Rattle.spa_recordings.specs.GoingOn.{MakesOf}
 use Rattle.spa_recordings.specs.declared.reading.Reading.{Reading}
 use Rattle.spa_recordings.specs.declared.reading.Reading.TheVariants.{Exact, Lenient}
 use Rattle.spa_refusals.specs.Refusals.{IsFirstRefusal, IsRefusalFor}
+use Rattle.spa_refusals.specs.declared.refusal.Refusal.{Refusal}
 use Rattle.spa_text_commands.specs.Hexadecimal.{ReadsHexadecimal, RefusesHexadecimal}
 use Rattle.spa_text_commands.specs.Texts.{ReadsTexts, RefusesTexts}
 use Rattle.spa_text_forms.specs.declared.form.Form.{Form}
@@ -49,10 +51,14 @@ AreNoPods reading name input (Pods n why) = (n.now ≡ name) × IsFirstRefusal r
 AreNoPods reading name input OutOfMemory = ⊤
 AreNoPods reading name input _ = ⊥
 
+-- this is said of a pod that begins with these bytes: pw-dump has no form for it
+abbrev pub IsNoForm : (pod : List ℕ) → Refusal → Type 0
+IsNoForm pod why = IsRefusalFor pod (codes "NoForm") (codes "pw-dump has no form for it") why
+
 -- of an input of this name this is said of a pod for which pw-dump has no form, and nothing else of that pod; or memory ran out
 abbrev pub IsFormless : (name input : List ℕ) → Failure → Type 0
 IsFormless name input (Pods n why) =
-    (n.now ≡ name) × (why.place ≤ length input) × IsRefusalFor input why.place (codes "NoForm") (codes "pw-dump has no form for it") why
+    (n.now ≡ name) × (why.place ≤ length input) × (why.number ≡ length (walk (take why.place input)) + 1) × IsNoForm (drop why.place input) why
 IsFormless name input OutOfMemory = ⊤
 IsFormless name input _ = ⊥
 

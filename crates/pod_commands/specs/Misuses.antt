@@ -7,20 +7,18 @@ use Rattle.spa_text_commands.specs.declared.naming.Named.{Named}
 use Rattle.spa_text_commands.specs.declared.naming.Named.TheVariants.{Types, Ids, Keys}
 use Rattle.spa_text_read.specs.Letters.{shown_text}
 use Rattle.pod_commands.specs.declared.misuse.Excluded.{Excluded}
-use Rattle.pod_commands.specs.declared.misuse.Excluded.TheVariants.{Lenient, Output, Resync}
+use Rattle.pod_commands.specs.declared.misuse.Excluded.TheVariants.{Output, Resync}
 use Rattle.pod_commands.specs.declared.misuse.Misuse.{Misuse}
 use Rattle.pod_commands.specs.declared.misuse.Misuse.TheVariants.{NoWord, Nth, Color, Name, TooFew, TooMany, ToTerminal, WithStream, WithPart, WithResync, Read, Path, WithDump}
 use Rattle.pod_commands.specs.declared.misuse.OfRead.{OfRead}
 use Rattle.pod_commands.specs.declared.misuse.OfRead.TheVariants.{TypeName, IdName, DumpAlone, HexDump, WithoutDump, LooseDump}
 
 abbrev pub excluded_text : Excluded → List ℕ
-excluded_text Lenient = codes "--lenient"
 excluded_text Output = codes "--output"
 excluded_text Resync = codes "--resync"
 
 -- why `--stream` excludes it
 abbrev pub stream_reason : Excluded → List ℕ
-stream_reason Lenient = codes "an input is held whole for that, but by rewrite and json with --keep-going"
 stream_reason Output = codes "it writes as input comes, and a file is written at the end"
 stream_reason Resync = codes "an input is held whole to find where the next pod begins"
 

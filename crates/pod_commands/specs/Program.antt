@@ -91,6 +91,10 @@ bare =
       top = record app.top { no_binary_name = true; has_version = true; subcommand_required = true; arg_required_else_help = true };
     }
 
+-- words of two inputs, of which `diff` takes `--across-runs`
+abbrev pub diff : App
+diff = with_rule (reading_pods (word (codes "diff"))) (flag (codes "across-runs"))
+
 abbrev pub with_pair : App → Text → App
 with_pair app name = with_subcommand app (reading_pods (word name)).top
 
@@ -104,7 +108,7 @@ with_writers app =
     (over_pods (word (codes "check"))).top
 
 abbrev pub with_pairs : App → App
-with_pairs app = with_pair (with_pair (with_pair app (codes "diff")) (codes "meet")) (codes "filter")
+with_pairs app = with_pair (with_pair (with_subcommand app diff.top) (codes "meet")) (codes "filter")
 
 -- the program
 abbrev pub program : App

@@ -15,6 +15,7 @@ use Rattle.pod_commands.specs.declared.misuse.OfRead.TheVariants as read
 use Rattle.pod_commands.specs.declared.colours.Colours.{Colours}
 use Rattle.pod_commands.specs.declared.colours.Colours.TheVariants.{Off, On}
 use Rattle.pod_commands.specs.declared.request.Fate.{Fate}
+use Rattle.pod_commands.specs.declared.request.Flags.{Flags}
 use Rattle.pod_commands.specs.declared.request.Fate.TheVariants.{Stops, GoesOn}
 use Rattle.pod_commands.specs.declared.request.Making.{Making as OfMaking}
 use Rattle.pod_commands.specs.declared.request.Streaming.{Streaming as OfStreaming}
@@ -38,6 +39,8 @@ use Rattle.spa_meet_commands.specs.declared.pair.Work.TheVariants.{Negotiate, Fi
 use Rattle.spa_text_commands.specs.Naming.{AreNames}
 use Rattle.spa_text_commands.specs.Lines.{is_pods}
 use Rattle.spa_text_commands.specs.Selection.{looks_inside}
+use Rattle.spa_text_commands.specs.declared.comparing.Comparison.{Comparison}
+use Rattle.spa_text_commands.specs.declared.comparing.Comparison.TheVariants.{Whole, AcrossRuns}
 use Rattle.spa_text_commands.specs.declared.naming.Named.{Named as OfNames}
 use Rattle.spa_text_commands.specs.declared.naming.Named.TheVariants as named
 use Rattle.spa_text_commands.specs.declared.selection.Selection.{Selection}
@@ -75,7 +78,7 @@ name_of (Stream (Streaming.Json style) manner) = codes "json"
 name_of (Stream Streaming.Rewrite manner) = codes "rewrite"
 name_of (Stream (Streaming.Print printing) manner) = word_of_form printing.printout.form
 name_of (Stream Streaming.Check manner) = codes "check"
-name_of (Diff reading) = codes "diff"
+name_of (Diff comparison reading) = codes "diff"
 name_of (Agree Negotiate reading) = codes "meet"
 name_of (Agree Filter reading) = codes "filter"
 
@@ -258,7 +261,7 @@ HasManner reading fate (Make making manner) = (manner.reading ≡ reading) × (m
 HasManner reading fate (Print printing manner) = HasMannerOf reading fate printing.printout.form manner
 HasManner reading fate (Stream (Streaming.Print printing) manner) = HasMannerOf reading fate printing.printout.form manner
 HasManner reading fate (Stream streaming manner) = (manner.reading ≡ reading) × (manner.fate ≡ fate)
-HasManner reading fate (Diff its) = its ≡ reading
+HasManner reading fate (Diff comparison its) = its ≡ reading
 HasManner reading fate (Agree work its) = its ≡ reading
 
 -- what is written as input comes is so where `--stream` is given, and else not
@@ -367,10 +370,20 @@ DumpsAs dumps word = HasDumpBy (λ its. dumps ≡ its) word
 abbrev pub fixating : (settles : Bool) → OfMaking
 fixating settles = if settles then Settle else Fixate
 
-abbrev pub HasSettle : Bool → Word → Type 0
-HasSettle settles (Make Fixate manner) = settles ≡ false
-HasSettle settles (Make Settle manner) = settles ≡ true
-HasSettle settles _ = ⊤
+-- recorded messages are compared without what each run sets anew where `--across-runs` is given
+abbrev pub comparison_by : (across_runs : Bool) → Comparison
+comparison_by across_runs = if across_runs then AcrossRuns else Whole
+
+-- the flags that one word alone takes
+abbrev pub flags_in : List Row → Flags
+flags_in rows = record { settles = is_given (codes "settle") rows; across_runs = is_given (codes "across-runs") rows }
+
+-- what they are given for is so: `fixate` settles or doesn't, and `diff` compares so
+abbrev pub HasFlags : Flags → Word → Type 0
+HasFlags flags (Make Fixate manner) = flags.settles ≡ false
+HasFlags flags (Make Settle manner) = flags.settles ≡ true
+HasFlags flags (Diff comparison reading) = comparison ≡ comparison_by flags.across_runs
+HasFlags flags _ = ⊤
 
 -- the name that stands for the standard input, also where none is given
 abbrev pub dash : Text
@@ -397,7 +410,7 @@ pub record Asks (words : List (Bor (List ℕ))) (screen : Screen) (request : Req
   pub stream : HasStream (is_given (codes "stream") rows) request.word
   pub read_as : HasTexts rows request.word
   pub dump : HasDump rows request.word
-  pub settle : HasSettle (is_given (codes "settle") rows) request.word
+  pub flags : HasFlags (flags_in rows) request.word
   pub names : texts request.names.items ≡ names_in rows
   pub target : option_map (λ s. s.now) request.target ≡ first_of (codes "output") rows
 
@@ -426,7 +439,7 @@ abbrev pub writes_pods : Word → Bool
 writes_pods (Print printing manner) = prints_pods printing
 writes_pods (Make making manner) = makes_pods making
 writes_pods (Stream streaming manner) = streams_pods streaming
-writes_pods (Diff reading) = false
+writes_pods (Diff comparison reading) = false
 writes_pods (Agree work reading) = true
 
 -- pods would go to a terminal, which `-o` doesn't ask for

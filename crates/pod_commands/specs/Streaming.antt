@@ -3,17 +3,16 @@ use Rattle.std.specs.Prelude.{◌≡◌, ◌≢◌, ◌⊎◌, ⊤, ℕ, List, [
 use Rattle.std.specs.Io.KnownBytes.{Appends}
 use Rattle.std.specs.Borrow.{Bor}
 use Rattle.spa_device.specs.Whole.{IsAllOf}
-use Rattle.spa_format.specs.Front.{IsRefused}
 use Rattle.spa_format.specs.Pod.{AreMembers}
 use Rattle.spa_format.specs.Tree.{Trees}
 use Rattle.spa_recordings.specs.Rewritings.{RewritesAll}
-use Rattle.spa_recordings.specs.Streaming.{EndsAtPod, MakesFirst}
+use Rattle.spa_recordings.specs.Reading.{IsNothing}
+use Rattle.spa_recordings.specs.Streaming.{EndsAtPod, MakesAs, MakesFirst, MayStop}
 use Rattle.spa_recordings.specs.Blocks.{AreWhole}
 use Rattle.spa_recordings.specs.GoingOn.{EndsBySize, GoesOn}
 use Rattle.spa_recordings.specs.declared.going_on.Refused.{Refused}
 use Rattle.spa_recordings.specs.declared.going_on.RefusedPod.{RefusedPod}
 use Rattle.spa_recordings.specs.declared.reading.Reading.{Reading}
-use Rattle.spa_recordings.specs.declared.reading.Reading.TheVariants.{Exact}
 use Rattle.spa_recordings.specs.declared.streaming.Stop.{Stop}
 use Rattle.spa_recordings.specs.declared.streaming.Stop.TheVariants as stop
 use Rattle.spa_refusals.specs.Refusals.{IsRefusalOf}
@@ -43,18 +42,20 @@ MayRefuse streaming.Rewrite = ⊤
 MayRefuse (streaming.Print printing) = ⊥
 MayRefuse streaming.Check = ⊤
 
--- what is made of an input
-abbrev pub StreamsAs : Streaming → (input out : List ℕ) → (refused : ℕ) → Type 0
-StreamsAs s input out refused = WritesOf s 0 0 input out refused
+-- what is made of an input that is read so
+abbrev pub StreamsAs : Reading → Streaming → (input out : List ℕ) → (refused : ℕ) → Type 0
+StreamsAs reading s input out refused = MakesAs reading (WritesOf s 0 0) input out refused
 
--- why the work on an input of this name ends before that does, and what was made of it till then: of some first pods
-abbrev pub EndsIn : Streaming → (name input out : List ℕ) → Failure → Type 0
-EndsIn s name input out (Pods n why) =
-    (n.now ≡ name) × (read : List ℕ) × EndsAtPod (MayRefuse s) (StreamsAs s) input out why.number why.place read × IsRefusalOf Exact read why
-EndsIn s name input out (Unread n words) = (left : List ℕ) × MakesFirst (StreamsAs s) input out left
-EndsIn s name input out OutOfMemory = (left : List ℕ) × MakesFirst (StreamsAs s) input out left
-EndsIn s name input out (Unwritten target) = (target ≡ None) × (left : List ℕ) × MakesFirst (StreamsAs s) input out left
-EndsIn s name input out _ = ⊥
+-- why the work on an input of this name, read so, ends before that does, and what was made of it till then: of some first pods
+abbrev pub EndsIn : Reading → Streaming → (name input out : List ℕ) → Failure → Type 0
+EndsIn reading s name input out (Pods n why) =
+    (n.now ≡ name)
+    × (read : List ℕ) × EndsAtPod reading (MayStop reading (MayRefuse s)) (StreamsAs reading s) input out why.number why.place read
+    × IsRefusalOf reading read why
+EndsIn reading s name input out (Unread n words) = (left : List ℕ) × MakesFirst (StreamsAs reading s) input out left
+EndsIn reading s name input out OutOfMemory = (left : List ℕ) × MakesFirst (StreamsAs reading s) input out left
+EndsIn reading s name input out (Unwritten target) = (target ≡ None) × (left : List ℕ) × MakesFirst (StreamsAs reading s) input out left
+EndsIn reading s name input out _ = ⊥
 
 -- these bytes were written, or where a write failed, of which there are some, so many first ones of them
 abbrev pub IsWritten : Failure → (old new : Option (List ℕ)) → (out : List ℕ) → Type 0
@@ -67,10 +68,10 @@ IsWritten OutOfMemory old new out = Appends old new out
 IsWritten (Unread n words) old new out = Appends old new out
 
 -- why the work on several inputs ends in one of them, and what was written: what was made of those before it, and of its first pods
-abbrev pub IsBroken : Streaming → (remaining : Option (List ℕ)) → (holds : List ℕ → Option (List ℕ)) → List (Bor (List ℕ)) → (old new : Option (List ℕ)) →
+abbrev pub IsBroken : Reading → Streaming → (remaining : Option (List ℕ)) → (holds : List ℕ → Option (List ℕ)) → List (Bor (List ℕ)) → (old new : Option (List ℕ)) →
     Failure → Type 0
-IsBroken s remaining holds names old new why =
-    (out : List ℕ) × StopsAt (StreamsAs s) (EndsIn s) remaining holds names out why × IsWritten why old new out
+IsBroken reading s remaining holds names old new why =
+    (out : List ℕ) × StopsAt (StreamsAs reading s) (EndsIn reading s) remaining holds names out why × IsWritten why old new out
 
 -- ---- Behind refused pods
 
@@ -112,26 +113,28 @@ IsBrokenInPart reading refused making remaining holds names old new why =
 -- ---- Only private clauses cite these.
 
 -- why the work on an input of this name ends before that does, and what was written of it
-abbrev pub IsBrokenAt : Streaming → (name : List ℕ) → (content old new : Option (List ℕ)) → Failure → Type 0
-IsBrokenAt s name content old new why = (input : List ℕ) × (out : List ℕ) × IsAllOf content input × EndsIn s name input out why × IsWritten why old new out
+abbrev pub IsBrokenAt : Reading → Streaming → (name : List ℕ) → (content old new : Option (List ℕ)) → Failure → Type 0
+IsBrokenAt reading s name content old new why =
+    (input : List ℕ) × (out : List ℕ) × IsAllOf content input × EndsIn reading s name input out why × IsWritten why old new out
 
--- the bytes of a refused pod begin none
-abbrev pub HasNoPod : Stop → Type 0
-HasNoPod (stop.Pod number place read) = IsRefused read.items
-HasNoPod _ = ⊤
+-- no pod is read at the front of the bytes of a refused one
+abbrev pub HasNoPod : Reading → Stop → Type 0
+HasNoPod reading (stop.Pod number place read) = IsNothing reading read.items
+HasNoPod reading _ = ⊤
 
 -- the refusal of this pod of the input of this name
-abbrev pub IsRefusedAs : (name : List ℕ) → (number place : ℕ) → (read : List ℕ) → Failure → Type 0
-IsRefusedAs name number place read (Pods n why) = (n.now ≡ name) × (why.number ≡ number) × (why.place ≡ place) × IsRefusalOf Exact read why
-IsRefusedAs name number place read OutOfMemory = ⊤
-IsRefusedAs name number place read _ = ⊥
+abbrev pub IsRefusedAs : Reading → (name : List ℕ) → (number place : ℕ) → (read : List ℕ) → Failure → Type 0
+IsRefusedAs reading name number place read (Pods n why) =
+    (n.now ≡ name) × (why.number ≡ number) × (why.place ≡ place) × IsRefusalOf reading read why
+IsRefusedAs reading name number place read OutOfMemory = ⊤
+IsRefusedAs reading name number place read _ = ⊥
 
 -- the failure of the input of this name for this reason
-abbrev pub IsFailureOf : Bor (List ℕ) → Stop → Failure → Type 0
-IsFailureOf name stop.OutOfMemory why = why ≡ OutOfMemory
-IsFailureOf name stop.ReadFailed why = (n : Bor (List ℕ)) × (words : Bor (List ℕ)) × (n.now ≡ name.now) × (why ≡ Unread n words)
-IsFailureOf name stop.WriteFailed why = why ≡ Unwritten None
-IsFailureOf name (stop.Pod number place read) why = IsRefusedAs name.now number place read.items why
+abbrev pub IsFailureOf : Reading → Bor (List ℕ) → Stop → Failure → Type 0
+IsFailureOf reading name stop.OutOfMemory why = why ≡ OutOfMemory
+IsFailureOf reading name stop.ReadFailed why = (n : Bor (List ℕ)) × (words : Bor (List ℕ)) × (n.now ≡ name.now) × (why ≡ Unread n words)
+IsFailureOf reading name stop.WriteFailed why = why ≡ Unwritten None
+IsFailureOf reading name (stop.Pod number place read) why = IsRefusedAs reading name.now number place read.items why
 
 -- what is made of pods is what is made of each
 abbrev pub IsMadeOfEach : Making → Type 0

@@ -16,7 +16,7 @@ const ABOUT: &str =
 
 /// What stands behind the help of the program.
 const EXAMPLES: &str =
-    "Without a FILE, or where FILE is -, the standard input is read. show, --stream, --nth, --type, --id, --key and --hex write as input is read, unless --lenient is given. Other output is written once all input is accepted, or with --keep-going, --keep-refused and --resync once it is read.
+    "Without a FILE, or where FILE is -, the standard input is read. --stream writes as input is read; so do show, --nth, --type, --id, --key and --hex, unless --lenient is given. Other output is written once all input is accepted, or with --keep-going, --keep-refused and --resync once it is read.
 
 Status: 0 the work is done; 1 a pod is refused, two inputs differ, nothing has the type, id, key or path that is looked for, or something can't be read or written; 2 the command line is wrong.
 
@@ -403,6 +403,26 @@ fn bare<'a>(alloc: Global) -> Result<Command<'a>, AllocError>
         .bin_name("pod")
 }
 
+/// The word `diff`.
+fn diff<'a>(alloc: Global) -> Result<Command<'a>, AllocError>
+    ensures app { IfOk result (λ it. app_of it ≡ spec.diff) }
+    ensures local { IfOk result (λ it. (out-Command it).has_globals ≡ false) }
+{
+    let plain = word(
+        alloc,
+        "diff",
+        "Aligns the pods of two FILEs and prints what differs; the status is 1 if something does",
+        "Example: pod diff --across-runs before.pods after.pods",
+    )?;
+    let with_reading = reading_pods(alloc, plain)?;
+    with_flag(
+        alloc,
+        with_reading,
+        "across-runs",
+        "Compares recorded messages without the times and the processes, which each run has anew; prints 0 for them",
+    )
+}
+
 /// A command with one more word, of two inputs.
 fn with_pair<'a>(
     alloc: Global,
@@ -455,13 +475,8 @@ fn with_writers<'a>(alloc: Global, command: Command<'a>) -> Result<Command<'a>, 
 fn with_pairs<'a>(alloc: Global, command: Command<'a>) -> Result<Command<'a>, AllocError>
     ensures { IfOk result (λ it. app_of it ≡ spec.with_pairs (app_of command.entry)) }
 {
-    let first = with_pair(
-        alloc,
-        command,
-        "diff",
-        "Aligns the pods of two FILEs and prints what differs; the status is 1 if something does",
-        "Example: pod diff before.pods after.pods",
-    )?;
+    let one = diff(alloc)?;
+    let first = command.subcommand(one)?;
     let second = with_pair(
         alloc,
         first,

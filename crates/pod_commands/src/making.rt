@@ -1,10 +1,11 @@
 //! What is made of each input.
-ghost use Rattle.std.specs.Prelude.{◌≡◌, ◌+◌, ◌<◌, ◌^◌, ◌++◌, IfErr, IfOk, OnOk, length};
+ghost use Rattle.std.specs.Prelude.{◌≡◌, ◌+◌, ◌<◌, ◌^◌, ◌++◌, true, IfErr, IfOk, IfSome, OnOk, length};
 ghost use Rattle.pod_commands.specs.Answers.{AreUnmade, IsUnworked};
 ghost use Rattle.pod_commands.specs.Colours.{DumpsIn, PrintsIn, ShowsIn};
 ghost use Rattle.pod_commands.specs.Inputs.{AreMade};
 ghost use Rattle.pod_commands.specs.Making.{AreNoDumps, AreNoPods, AreNoTexts, AreUnread, IsNoHexadecimal, Makes, MakesAll, Reads, RefusesBy, RefusesIn};
-ghost use Rattle.pod_commands.specs.Working.{AreWorked, WorksOn};
+ghost use Rattle.pod_commands.specs.Working as spec;
+ghost use Rattle.pod_commands.specs.Working.{AreWorked, StandsBehind, WorksOn, WorksThrough};
 ghost use Rattle.spa_meet_commands.specs.Settling.{SettlesAll};
 ghost use Rattle.spa_pod_commands.specs.Answers.{Fixates, Rewrites};
 ghost use Rattle.spa_recordings.specs.GoingOn.{MakesOf};
@@ -16,13 +17,15 @@ use crate::answer::Failure;
 use crate::colours::{Colours, colours_of, in_colours};
 use crate::files::{Files, read_named};
 use crate::reading::read_leniently;
-use crate::refusing::{formless, refused, unmade};
+use crate::refusing::{
+    FormlessPod, first_formless, formless, refusal_of_formless, refused, unmade,
+};
 use crate::request::{Making, Printing, Style, Texts};
 use crate::streaming::check_all;
 use spa_in_place::rewrite_in_place;
 use spa_meet_commands::settling::settle_all;
 use spa_pod_commands::making::{check, fixated};
-use spa_recordings::going_on::{Made, Maker, Manner, make_each};
+use spa_recordings::going_on::{Made, Maker, Manner, Overlap, Progress, Refused, make_each};
 use spa_recordings::reading::Reading;
 use spa_refusals::{NamedRefusal, add_refusals};
 use spa_text_commands::answer::Failure as TextFailure;
@@ -321,19 +324,103 @@ pub(crate) fn make_what_is_read<'a, R: Read, S: Files>(
 ) -> Result<Worked<'a>, Failure<'a>>
     ensures made { IfOk result (λ worked. AreWorked manner.reading manner.refused making.entry
         (R.remaining input.old) (S.holds files.now) names.now worked.out.items worked.refused.items) }
-    ensures refused { IfErr result (IsUnworked making.entry) }
+    ensures refused { IfErr result (IsUnworked manner.refused making.entry) }
 {
     let mut out = Vec::new(alloc);
     let mut refused = Vec::new(alloc);
     for name in names {
         let bytes = read_named(alloc, *name, input, files)?;
         let bytes = bytes.as_slice();
-        let Ok(made) = work_on(alloc, making, manner, *name, 0, 0, bytes, &mut refused) else {
-            return Err(unmade(alloc, making, manner.reading, *name, bytes));
+        let Ok(made) = work_through(alloc, making, manner, *name, bytes, &mut refused) else {
+            return Err(unworked(alloc, making, manner, *name, bytes));
         };
         add(&mut out, made)?;
     }
     Ok(Worked { out, refused })
+}
+
+/// Why nothing is made of the input of this name, whose refused pods are left out or kept: `pw-dump` has no form for a pod that isn't left out for that, or
+/// memory ran out.
+fn unworked<'a>(
+    alloc: Global,
+    making: Making<'_>,
+    manner: Manner,
+    name: &'a str,
+    input: &[u8],
+) -> Failure<'a>
+    ensures { IsUnworked manner.refused making.entry result }
+{
+    if leaves_formless_out(manner.refused, making) {
+        return Failure::OutOfMemory;
+    }
+    unmade(alloc, making, manner.reading, name, input)
+}
+
+/// Whether pods for which `pw-dump` has no form are left out.
+fn leaves_formless_out(refused: Refused, making: Making<'_>) -> bool
+    ensures { result ≡ spec.leaves_formless_out refused making.entry }
+{
+    match (refused, making) {
+        (Refused::LeftOut, Making::Dump(_)) => true,
+        _ => false,
+    }
+}
+
+/// The first pod for which `pw-dump` has no form, where such pods are left out.
+fn formless_ahead(
+    alloc: Global,
+    making: Making<'_>,
+    manner: Manner,
+    left: &[u8],
+) -> Result<Option<FormlessPod>, AllocError>
+    ensures left_out { IfOk result (λ found. IfSome found (λ _. spec.leaves_formless_out manner.refused making.entry ≡ true)) }
+    ensures behind { IfOk result (λ found. IfSome found (StandsBehind left.now)) }
+{
+    if leaves_formless_out(manner.refused, making) {
+        return first_formless(alloc, manner.reading, left);
+    }
+    Ok(None)
+}
+
+/// What is made of the input of this name, whose refused pods are left out or kept. What is said of these is added.
+fn work_through<'a>(
+    alloc: Global,
+    making: Making<'_>,
+    manner: Manner,
+    name: &'a str,
+    input: &[u8],
+    said: &mut Vec<NamedRefusal<'a>>,
+) -> Result<Vec<u8>, AllocError>
+    ensures { IfOk result (λ out. WorksThrough manner.reading manner.refused making.entry name.entry.now input.now
+        out.items said.old.items said.new.items) }
+{
+    let mut out = Vec::new(alloc);
+    let mut before: usize = 0;
+    let mut left = input;
+    loop {
+        let place = input.len() - left.len();
+        match formless_ahead(alloc, making, manner, left)? {
+            Some(found) => {
+                let (first, pod) = left.split_at(found.at);
+                let made = work_on(alloc, making, manner, name, before, place, first, said)?;
+                add(&mut out, made)?;
+                before += found.before + 1;
+                let refusal = refusal_of_formless(alloc, pod, place + found.at, before)?;
+                said.push(NamedRefusal {
+                    name,
+                    refusal,
+                    left_out: None,
+                })?;
+                let (_, rest) = pod.split_at(found.len);
+                left = rest;
+            }
+            None => {
+                let made = work_on(alloc, making, manner, name, before, place, left, said)?;
+                add(&mut out, made)?;
+                return Ok(out);
+            }
+        }
+    }
 }
 
 /// What is made of a part of the input of this name, which so many pods and bytes of it stand before. What is said of its refused pods is added.
@@ -356,7 +443,13 @@ pub(crate) fn work_on<'a>(
         out: Vec::new(alloc),
         refused: Vec::new(alloc),
     };
-    make_each(alloc, &making, manner, name, count, place, part, &mut made)?;
+    let start = Progress {
+        name,
+        count,
+        place,
+        overlap: Overlap { more: 0, end: 0 },
+    };
+    make_each(alloc, &making, manner, start, part, &mut made)?;
     add_refusals(
         alloc,
         manner.reading,

@@ -10,8 +10,6 @@ use std::fmt;
 /// An option that `--stream` excludes.
 #[derive(Clone, Copy, Debug)]
 pub enum Excluded {
-    /// `--lenient`, unless refused pods are left out or kept.
-    Lenient,
     /// `-o`
     Output,
     /// `--resync`
@@ -74,7 +72,6 @@ impl fmt::Display for Excluded {
 
     fn fmt<W: fmt::Write>(&self, f: &mut fmt::Formatter<W>) -> fmt::Result {
         match self {
-            Excluded::Lenient => f.write_str("--lenient"),
             Excluded::Output => f.write_str("--output"),
             Excluded::Resync => f.write_str("--resync"),
         }
@@ -86,8 +83,6 @@ fn stream_reason(excluded: Excluded) -> &'static str
     ensures { result.now ≡ spec.stream_reason excluded }
 {
     match excluded {
-        Excluded::Lenient =>
-            "an input is held whole for that, but by rewrite and json with --keep-going",
         Excluded::Output => "it writes as input comes, and a file is written at the end",
         Excluded::Resync => "an input is held whole to find where the next pod begins",
     }

@@ -12,7 +12,7 @@ use spa_meet_commands::lists::of_lists;
 use spa_meet_commands::pair::{Work, of_pair};
 use spa_meet_commands::progress::Progress;
 use spa_recordings::reading::Reading;
-use spa_text_commands::comparing::differences;
+use spa_text_commands::comparing::{Comparison, differences};
 use std::alloc::Global;
 use std::io::Read;
 
@@ -20,6 +20,7 @@ use std::io::Read;
 #[tactic(auto, using(crate::proofs::Unread::of_both))]
 pub(crate) fn compare<'a, R: Read, S: Files>(
     alloc: Global,
+    comparison: Comparison,
     reading: Reading,
     ours: &'a str,
     theirs: &'a str,
@@ -27,9 +28,9 @@ pub(crate) fn compare<'a, R: Read, S: Files>(
     files: &S,
 ) -> Result<Vec<u8>, Failure<'a>>
     ensures same { IfOk result (λ lines. lines.items ≡ [] →
-        OfTwo reading (R.remaining input.old) (S.holds files.now) ours.entry.now theirs.entry.now SayTheSame) }
+        OfTwo reading (R.remaining input.old) (S.holds files.now) ours.entry.now theirs.entry.now (SayTheSame comparison)) }
     ensures other { IfOk result (λ lines. lines.items ≢ [] →
-        OfTwo reading (R.remaining input.old) (S.holds files.now) ours.entry.now theirs.entry.now (Differ lines.items)) }
+        OfTwo reading (R.remaining input.old) (S.holds files.now) ours.entry.now theirs.entry.now (Differ comparison lines.items)) }
     ensures refused { IfErr result
         (AreNotCompared reading (R.remaining input.old) (S.holds files.now) ours.entry.now theirs.entry.now) }
 {
@@ -37,7 +38,7 @@ pub(crate) fn compare<'a, R: Read, S: Files>(
         Ok(both) => both,
         Err(why) => return Err(why),
     };
-    match differences(alloc, first.as_slice(), second.as_slice()) {
+    match differences(alloc, comparison, first.as_slice(), second.as_slice()) {
         Ok(lines) => Ok(lines),
         // What is read leniently is refused for lack of memory alone.
         Err(_) => Err(either_refused(alloc, ours, theirs, first.as_slice(), second.as_slice())),

@@ -122,7 +122,7 @@ fn pass_reader<'a, R: Read, W: Write>(
             let Worker { said, .. } = worker;
             Ok(said)
         }
-        Err(why) => Err(failure_of(alloc, name, why)),
+        Err(why) => Err(failure_of(alloc, manner.reading, name, why)),
     }
 }
 

@@ -1,7 +1,7 @@
 //! Why inputs aren't read as pods.
-ghost use Rattle.std.specs.Prelude.{◌≡◌, ◌≤◌, ◌⊎◌, IfOk, IfSome, length};
-ghost use Rattle.pod_commands.specs.Making.{AreNoPods, HasNoForm, IsFormless};
-ghost use Rattle.spa_format.specs.Front.{rest_of};
+ghost use Rattle.std.specs.Prelude.{◌≡◌, ◌⊎◌, IfOk, IfSome};
+ghost use Rattle.pod_commands.specs.Making.{AreNoPods, HasNoForm, IsFormless, IsNoForm};
+ghost use Rattle.pod_commands.specs.Working.{StandsBehind};
 ghost use Rattle.spa_recordings.specs.declared.reading.Reading.TheVariants.{Exact};
 
 use crate::answer::Failure;
@@ -9,7 +9,7 @@ use crate::request::Making;
 use spa_bytes::open;
 use spa_pod_commands::answer::Failure as Unread;
 use spa_recordings::reading::{Reading, read_as};
-use spa_refusals::{first_refusal, refusal_for};
+use spa_refusals::{Refusal, first_refusal, refusal_for};
 use spa_text_commands::params::{Unprinted, print_params};
 use std::alloc::{AllocError, Global};
 
@@ -78,45 +78,70 @@ pub(crate) fn formless<'a>(
 ) -> Failure<'a>
     ensures { IsFormless name.entry.now input.now result }
 {
-    let Ok(Some(place)) = first_formless(alloc, reading, input) else {
+    let Ok(Some(found)) = first_formless(alloc, reading, input) else {
         return Failure::OutOfMemory;
     };
-    match refusal_for(alloc, input, place, "NoForm", "pw-dump has no form for it") {
+    let (_, pod) = input.split_at(found.at);
+    match refusal_of_formless(alloc, pod, found.at, found.before + 1) {
         Ok(why) => Failure::Pods(name, why),
         Err(_) => Failure::OutOfMemory,
     }
 }
 
-/// The place of the first pod that is read so and for which `pw-dump` has no form.
-#[tactic(auto, using(crate::proofs::Formless::shorter))]
-fn first_formless(
+/// The refusal of the pod of this number, which begins with these bytes at this byte, and for which `pw-dump` has no form.
+pub(crate) fn refusal_of_formless(
+    alloc: Global,
+    pod: &[u8],
+    place: usize,
+    number: usize,
+) -> Result<Refusal, AllocError>
+    ensures place { IfOk result (λ why. why.place ≡ place) }
+    ensures number { IfOk result (λ why. why.number ≡ number) }
+    ensures refusal { IfOk result (IsNoForm pod.now) }
+{
+    refusal_for(
+        alloc,
+        pod,
+        place,
+        number,
+        "NoForm",
+        "pw-dump has no form for it",
+    )
+}
+
+/// A pod for which `pw-dump` has no form.
+#[derive(Clone, Copy)]
+pub(crate) struct FormlessPod {
+    /// How many pods stand before it.
+    pub(crate) before: usize,
+    /// The byte where it begins.
+    pub(crate) at: usize,
+    /// How many bytes it takes.
+    pub(crate) len: usize,
+}
+
+/// The first pod that is read so and for which `pw-dump` has no form.
+#[tactic(auto, using(crate::proofs::Formless::stands_behind))]
+pub(crate) fn first_formless(
     alloc: Global,
     reading: Reading,
     input: &[u8],
-) -> Result<Option<usize>, AllocError>
-    ensures { IfOk result (λ found. IfSome found (λ place. place ≤ length input.now)) }
+) -> Result<Option<FormlessPod>, AllocError>
+    ensures { IfOk result (λ found. IfSome found (StandsBehind input.now)) }
 {
     let mut left = input;
-    while !left.is_empty() {
-        let rest = behind_front(left);
-        let (pod, _) = left.split_at(left.len() - rest.len());
+    let mut before: usize = 0;
+    while let Some(front) = open(left) {
+        let len = left.len() - front.rest.len();
+        let (pod, _) = left.split_at(len);
         if is_formless(alloc, reading, pod)? {
-            return Ok(Some(input.len() - left.len()));
+            let at = input.len() - left.len();
+            return Ok(Some(FormlessPod { before, at, len }));
         }
-        left = rest;
+        before += 1;
+        left = front.rest;
     }
     Ok(None)
-}
-
-/// What follows the pod at the front; nothing where none is whole.
-#[tactic(auto, using(crate::proofs::Formless::none_behind))]
-fn behind_front(left: &[u8]) -> &[u8]
-    ensures { result.now ≡ rest_of left.now }
-{
-    match open(left) {
-        Some(front) => front.rest,
-        None => &[],
-    }
 }
 
 /// Whether this pod is read so, and `pw-dump` has no form for it.

@@ -8,9 +8,10 @@ ghost use Rattle.clap.specs.Walk.{rows_of, texts};
 ghost use Rattle.clap.specs.Words.{first_of};
 ghost use Rattle.clap.specs.Matches.{found_of};
 ghost use Rattle.pod_commands.specs.Program.{program};
-ghost use Rattle.pod_commands.specs.Requests.{AreColours, AreGiven, HasNoSelection, HasUnknownValue, Asks, AsksNothing, HasManner, HasNoFate, HasNoNumber, HasPrintout, HasSettle, HasStream, HasUnknownName, HasUnknownWhen, IsAllAsJson, IsFate, IsFateIn, IsNoFate, AreNamesOf, IsNumber, IsSelected, ReadsAs, is_given, is_true_text, layout_in, name_of, names_in, reading_in, HasNoPath, AsksForDump, DumpsAs, ExcludesDump};
+ghost use Rattle.pod_commands.specs.Requests.{AreColours, AreGiven, HasNoSelection, HasUnknownValue, Asks, AsksNothing, HasFlags, HasManner, HasNoFate, HasNoNumber, HasPrintout, HasStream, HasUnknownName, HasUnknownWhen, IsAllAsJson, IsFate, IsFateIn, IsNoFate, AreNamesOf, IsNumber, IsSelected, ReadsAs, is_given, is_true_text, layout_in, name_of, names_in, reading_in, HasNoPath, AsksForDump, DumpsAs, ExcludesDump};
 ghost use Rattle.pod_commands.specs.declared.request.Word.{Word};
 ghost use Rattle.pod_commands.specs.declared.request.Fate.{Fate as FateOf};
+ghost use Rattle.pod_commands.specs.declared.request.Flags.{Flags as FlagsOf};
 ghost use Rattle.pod_commands.specs.declared.request.Options.{Options as OptionsOf};
 ghost use Rattle.pod_commands.specs.declared.request.Texts.{Texts as TextsOf};
 
@@ -24,6 +25,7 @@ use clap::{ArgMatches, Error};
 use spa_meet_commands::pair::Work;
 use spa_recordings::going_on::Refused;
 use spa_recordings::reading::Reading;
+use spa_text_commands::comparing::Comparison;
 use spa_text_commands::naming::{Named, are_names};
 use spa_text_commands::printing::Layout;
 use spa_text_commands::selection::{Form, Printout, Selection};
@@ -113,13 +115,21 @@ pub enum Word<'a> {
     Print(Printing<'a>, Manner),
     /// This is made of each input, which is read so.
     Make(Making<'a>, Manner),
-    /// This is written of each input as it comes, which is read so. `--lenient`, `--keep-going`, `--keep-refused` and
-    /// `-o` don't go with it.
+    /// This is written of each input as it comes, which is read so. `-o` and `--resync` don't go with it.
     Stream(Streaming<'a>, Manner),
-    /// Two inputs, which are read so, are compared.
-    Diff(Reading),
+    /// Two inputs, which are read so, are compared so.
+    Diff(Comparison, Reading),
     /// The object is sought on which two of one input agree, or the first pair of two lists, of inputs that are read so.
     Agree(Work, Reading),
+}
+
+/// The flags that one word alone takes.
+#[derive(Clone, Copy)]
+pub struct Flags {
+    /// `fixate` puts plain values in place of choices.
+    pub settles: bool,
+    /// `diff` compares recorded messages without what each run sets anew.
+    pub across_runs: bool,
 }
 
 /// What the words ask for.
@@ -170,7 +180,7 @@ pub(crate) fn request_of<'a>(
         manner,
         is_set(given, "stream"),
         read_as,
-        is_set(given, "settle"),
+        flags_in(given),
         dumps,
     ) else {
         return Ok(Err(Misuse::NoWord));
@@ -190,7 +200,7 @@ fn word_of<'a>(
     manner: Manner,
     streams: bool,
     read_as: Texts,
-    settles: bool,
+    flags: Flags,
     dumps: bool,
 ) -> Option<Word<'a>>
     ensures word { IfSome result (λ word. name.now ≡ name_of word) }
@@ -198,7 +208,7 @@ fn word_of<'a>(
     ensures manner { IfSome result (HasManner manner.reading manner.fate) }
     ensures stream { IfSome result (HasStream streams) }
     ensures texts { IfSome result (ReadsAs read_as) }
-    ensures settle { IfSome result (HasSettle settles) }
+    ensures flags { IfSome result (HasFlags flags) }
     ensures dump { IfSome result (DumpsAs dumps) }
     ensures none { IfNone result ((word : Word) → ¬ (name.now ≡ name_of word)) }
 {
@@ -208,9 +218,9 @@ fn word_of<'a>(
         "json" => Some(json_or_dump(options, manner, streams, dumps)),
         "read" => Some(Word::Make(Making::Read(read_as), PLAIN)),
         "rewrite" => Some(rewriting(manner, streams)),
-        "fixate" => Some(Word::Make(fixating(settles), manner)),
+        "fixate" => Some(Word::Make(fixating(flags.settles), manner)),
         "check" => Some(Word::Make(Making::Check, manner)),
-        "diff" => Some(Word::Diff(manner.reading)),
+        "diff" => Some(Word::Diff(comparison_by(flags.across_runs), manner.reading)),
         "meet" => Some(Word::Agree(Work::Negotiate, manner.reading)),
         "filter" => Some(Word::Agree(Work::Filter, manner.reading)),
         _ => None,
@@ -366,7 +376,7 @@ fn writes_pods(word: Word<'_>) -> bool
         Word::Print(printing, _) => printing.printout.form.is_pods(),
         Word::Make(making, _) => makes_pods(making),
         Word::Stream(streaming, _) => streams_pods(streaming),
-        Word::Diff(_) => false,
+        Word::Diff(_, _) => false,
         Word::Agree(_, _) => true,
     }
 }
@@ -500,7 +510,7 @@ fn shown<'a>(options: Options<'a>, reading: Reading, streams: bool) -> Word<'a>
     ensures manner { (fate : FateOf) → HasManner reading fate result }
     ensures stream { HasStream streams result }
     ensures texts { (read_as : TextsOf) → ReadsAs read_as result }
-    ensures settle { (settles : Bool) → HasSettle settles result }
+    ensures flags { (flags : FlagsOf) → HasFlags flags result }
     ensures dump { (dumps : Bool) → DumpsAs dumps result }
 {
     let form = if options.hex {
@@ -528,7 +538,7 @@ fn cut_out<'a>(options: Options<'a>, manner: Manner, streams: bool) -> Word<'a>
     ensures manner { HasManner manner.reading manner.fate result }
     ensures stream { HasStream streams result }
     ensures texts { (read_as : TextsOf) → ReadsAs read_as result }
-    ensures settle { (settles : Bool) → HasSettle settles result }
+    ensures flags { (flags : FlagsOf) → HasFlags flags result }
     ensures dump { (dumps : Bool) → DumpsAs dumps result }
 {
     let printing = options.printing(Form::Pods);
@@ -546,7 +556,7 @@ fn json_or_dump<'a>(options: Options<'a>, manner: Manner, streams: bool, dumps: 
     ensures manner { HasManner manner.reading manner.fate result }
     ensures stream { HasStream streams result }
     ensures texts { (read_as : TextsOf) → ReadsAs read_as result }
-    ensures settle { (settles : Bool) → HasSettle settles result }
+    ensures flags { (flags : FlagsOf) → HasFlags flags result }
     ensures dump { DumpsAs dumps result }
 {
     if dumps {
@@ -562,7 +572,7 @@ fn as_json<'a>(options: Options<'a>, manner: Manner, streams: bool) -> Word<'a>
     ensures manner { HasManner manner.reading manner.fate result }
     ensures stream { HasStream streams result }
     ensures texts { (read_as : TextsOf) → ReadsAs read_as result }
-    ensures settle { (settles : Bool) → HasSettle settles result }
+    ensures flags { (flags : FlagsOf) → HasFlags flags result }
     ensures dump { DumpsAs false result }
 {
     if options.is_plain() {
@@ -599,13 +609,34 @@ fn rewriting<'a>(manner: Manner, streams: bool) -> Word<'a>
     ensures manner { HasManner manner.reading manner.fate result }
     ensures stream { HasStream streams result }
     ensures texts { (read_as : TextsOf) → ReadsAs read_as result }
-    ensures settle { (settles : Bool) → HasSettle settles result }
+    ensures flags { (flags : FlagsOf) → HasFlags flags result }
     ensures dump { (dumps : Bool) → DumpsAs dumps result }
 {
     if streams {
         Word::Stream(Streaming::Rewrite, manner)
     } else {
         Word::Make(Making::Rewrite, manner)
+    }
+}
+
+/// The flags that one word alone takes, as they are given.
+fn flags_in(given: &ArgMatches<'_>) -> Flags
+    ensures { result ≡ spec.flags_in (rows_of (found_of given.now)) }
+{
+    Flags {
+        settles: is_set(given, "settle"),
+        across_runs: is_set(given, "across-runs"),
+    }
+}
+
+/// As what pods are compared where `--across-runs` is given, or isn't.
+fn comparison_by(across_runs: bool) -> Comparison
+    ensures { result ≡ spec.comparison_by across_runs }
+{
+    if across_runs {
+        Comparison::AcrossRuns
+    } else {
+        Comparison::Whole
     }
 }
 

@@ -1,7 +1,7 @@
 //! The program's work, over a reader, files and a writer.
 ghost use Rattle.std.specs.Prelude.{◌≡◌, ◌≢◌, ◌⊎◌, IfNone, IfSome, None, false, true};
 ghost use Rattle.pod_commands.specs.Answers as spec;
-ghost use Rattle.pod_commands.specs.Answers.{AreFiles, AreUnmade, Gives, IsAgreed, IsAnswer, IsCompared, IsDone, IsExact, IsExcluded, IsMadeBy, IsMadeInPart, IsPrinted, IsPrintedAs, IsPrintedLeniently, IsShown, IsShownIn, IsStreamed, IsStreamedBy, IsStreamedInPart, IsOutcome, IsWrittenAs, MayReadTwice, OnAnswer, Refuses, outlet};
+ghost use Rattle.pod_commands.specs.Answers.{AreFiles, AreUnmade, Gives, IsAgreed, IsAnswer, IsCompared, IsDone, IsExcluded, IsMadeBy, IsMadeInPart, IsPrinted, IsPrintedAs, IsPrintedLeniently, IsShown, IsShownIn, IsStreamed, IsStreamedBy, IsStreamedInPart, IsOutcome, IsWrittenAs, MayReadTwice, MayStream, OnAnswer, Refuses, outlet};
 ghost use Rattle.pod_commands.specs.Streaming as streams;
 ghost use Rattle.pod_commands.specs.Streaming.{IsMadeInBlocks, IsMadeOfEach};
 ghost use Rattle.pod_commands.specs.declared.request.Fate.TheVariants.{Stops};
@@ -26,9 +26,11 @@ use spa_meet_commands::progress::Progress;
 use spa_recordings::going_on as recordings;
 use spa_recordings::going_on::Refused;
 use spa_recordings::reading::Reading;
+use spa_recordings::streaming::Made;
+use spa_text_commands::comparing::Comparison;
 use spa_text_commands::selection::Selection;
 use std::alloc::Global;
-use std::io::{self, Read, Write};
+use std::io::{Read, Write};
 
 /// Does what the words ask for, the program's own name not among them.
 ///
@@ -92,7 +94,9 @@ fn do_work<'a, R: Read, S: Files, P: Progress, W: Write + Drop>(
                 alloc, streaming, manner, names, target, input, files, device,
             )
         }
-        Word::Diff(reading) => diff(alloc, reading, names, target, input, files, device),
+        Word::Diff(comparison, reading) => diff(
+            alloc, comparison, reading, names, target, input, files, device,
+        ),
         Word::Agree(work, reading) => {
             seek(
                 alloc, work, reading, names, target, input, files, progress, device,
@@ -183,6 +187,7 @@ fn rewrite_twice<'a, R: Read, S: Files, W: Write + Drop>(
             }
             None => write_as(
                 alloc,
+                Reading::Exact,
                 Streaming::Rewrite,
                 names,
                 target,
@@ -231,18 +236,17 @@ fn go_on<'a, R: Read, S: Files, W: Write + Drop>(
 }
 
 /// An option that `--stream` excludes, if one is given.
-fn excluded_in(manner: Manner, target: Option<&str>) -> Option<Excluded>
+fn excluded_in(fate: Fate, target: Option<&str>) -> Option<Excluded>
     ensures to_output { IfNone result (target.entry ≡ None) }
-    ensures plain { IfNone result (IsExact manner.reading manner.fate) }
-    ensures other { IfSome result (IsExcluded manner.reading manner.fate target.entry) }
+    ensures streams { IfNone result (MayStream fate) }
+    ensures other { IfSome result (IsExcluded fate target.entry) }
 {
-    match (manner.reading, manner.fate, target) {
-        (_, _, Some(_)) => Some(Excluded::Output),
-        (Reading::Lenient, Fate::Stops, None) => Some(Excluded::Lenient),
-        (Reading::Exact, Fate::Stops, None) => None,
-        (_, Fate::GoesOn(Refused::Resynced), None) => Some(Excluded::Resync),
-        (_, Fate::GoesOn(Refused::LeftOut), None) => None,
-        (_, Fate::GoesOn(Refused::Kept), None) => None,
+    match (fate, target) {
+        (_, Some(_)) => Some(Excluded::Output),
+        (Fate::Stops, None) => None,
+        (Fate::GoesOn(Refused::LeftOut), None) => None,
+        (Fate::GoesOn(Refused::Kept), None) => None,
+        (Fate::GoesOn(Refused::Resynced), None) => Some(Excluded::Resync),
     }
 }
 
@@ -274,7 +278,7 @@ fn stream<'a, R: Read, S: Files, W: Write + Drop>(
     ensures { IsStreamed streaming.entry manner.reading manner.fate result.0 (R.remaining input.old) names.now
         (outlet target.entry (W.contents device) (W.contents result.1) (S.holds files.old) (S.holds files.new)) }
 {
-    if let Some(other) = excluded_in(manner, target) {
+    if let Some(other) = excluded_in(manner.fate, target) {
         return (Answer::Misused(Misuse::WithStream(other)), device);
     }
     stream_by(
@@ -295,12 +299,23 @@ fn stream_by<'a, R: Read, S: Files, W: Write + Drop>(
     device: W,
 ) -> (Answer<'a>, W)
     requires to_output { target ≡ None }
-    requires plain { IsExact manner.reading manner.fate }
+    requires streams { MayStream manner.fate }
     ensures { IsStreamedBy streaming.entry manner.reading manner.fate result.0 (R.remaining input.old) names.now
         (outlet target.entry (W.contents device) (W.contents result.1) (S.holds files.old) (S.holds files.new)) }
 {
     match manner.fate {
-        Fate::Stops => write_as(alloc, streaming, names, target, input, files, device),
+        Fate::Stops => {
+            write_as(
+                alloc,
+                manner.reading,
+                streaming,
+                names,
+                target,
+                input,
+                files,
+                device,
+            )
+        }
         Fate::GoesOn(refused) => match made_as(streaming) {
             Some(making) => {
                 let manner = recordings::Manner {
@@ -342,51 +357,25 @@ fn pass<'a, R: Read, S: Files, W: Write + Drop>(
     }
 }
 
-/// Writes this of the inputs of these names as they come; no file is written.
+/// Writes this of the inputs of these names, which are read so, as they come; no file is written.
 #[tactic(auto, using(crate::proofs::Streamed::all_written, crate::proofs::Streamed::part_written))]
 fn write_as<'a, R: Read, S: Files, W: Write + Drop>(
     alloc: Global,
+    reading: Reading,
     streaming: Streaming<'a>,
     names: &[&'a str],
     target: Option<&'a str>,
     input: &mut R,
     files: &mut S,
-    device: W,
+    mut device: W,
 ) -> (Answer<'a>, W)
     requires { target ≡ None }
-    ensures { IsWrittenAs streaming.entry result.0 (R.remaining input.old) names.now
+    ensures { IsWrittenAs reading streaming.entry result.0 (R.remaining input.old) names.now
         (outlet target.entry (W.contents device) (W.contents result.1) (S.holds files.old) (S.holds files.new)) }
 {
-    let mut output = Noted {
-        device,
-        is_written: false,
-    };
-    match stream_all(alloc, streaming, names, input, files, &mut output) {
-        Ok(refused) => {
-            let Noted { device, is_written } = output;
-            (shown(refused, looked_for(streaming), is_written), device)
-        }
-        Err(why) => (Answer::Refused(why), output.device),
-    }
-}
-
-/// A device, and whether anything was written to it.
-#[derive(Drop)]
-struct Noted<W> {
-    device: W,
-    is_written: bool,
-}
-
-impl<W: Write> Write for Noted<W> {
-    ghost contents = { λ it. W.contents it.device };
-
-    fn write(&mut self, bytes: &[u8]) -> io::Result<usize> {
-        self.is_written = self.is_written || !bytes.is_empty();
-        self.device.write(bytes)
-    }
-
-    fn flush(&mut self) -> io::Result<()> {
-        self.device.flush()
+    match stream_all(alloc, reading, streaming, names, input, files, &mut device) {
+        Ok(made) => (shown(made, looked_for(streaming)), device),
+        Err(why) => (Answer::Refused(why), device),
     }
 }
 
@@ -413,20 +402,20 @@ fn sought_in<'a>(selection: Selection<'a>) -> Option<Selection<'a>>
     }
 }
 
-/// The answer where all is written, which may be nothing, so many pods are refused, and this was looked for.
-fn shown<'a>(refused: usize, sought: Option<Selection<'a>>, is_written: bool) -> Answer<'a>
-    ensures { IsOutcome sought.entry refused result }
+/// The answer where all is printed, of which this is answered, and this was looked for.
+fn shown<'a>(made: Made, sought: Option<Selection<'a>>) -> Answer<'a>
+    ensures { IsOutcome sought.entry made result }
 {
-    if refused != 0 {
-        return Answer::Shown(refused);
+    if made.refused != 0 {
+        return Answer::Shown(made.refused);
     }
     let Some(selection) = sought else {
         return Answer::Done;
     };
-    if is_written {
-        return Answer::Done;
+    if made.nothing {
+        return Answer::Missing(selection);
     }
-    Answer::Missing(selection)
+    Answer::Done
 }
 
 /// Prints this of the inputs of these names, where no refused pod is to be left out.
@@ -503,7 +492,7 @@ fn print_leniently<'a, R: Read, S: Files, W: Write + Drop>(
     ) {
         Ok(made) => {
             let sought = sought_in(printing.printout.selection);
-            let done = shown(0, sought, !made.is_empty());
+            let done = shown(Made::of(0, made.as_slice()), sought);
             answered(files, target, device, Ok(made), done)
         }
         Err(why) => (Answer::Refused(why), device),
@@ -526,6 +515,7 @@ fn print_inputs<'a, R: Read, S: Files, W: Write + Drop>(
     match target {
         None => write_as(
             alloc,
+            Reading::Exact,
             Streaming::Print(printing),
             names,
             None,
@@ -553,18 +543,15 @@ fn print_to_file<'a, R: Read, S: Files, W: Write + Drop>(
     let mut printed = Vec::new(alloc);
     match stream_all(
         alloc,
+        Reading::Exact,
         Streaming::Print(printing),
         names,
         input,
         files,
         &mut printed,
     ) {
-        Ok(refused) => {
-            let done = shown(
-                refused,
-                looked_for(Streaming::Print(printing)),
-                !printed.is_empty(),
-            );
+        Ok(made) => {
+            let done = shown(made, looked_for(Streaming::Print(printing)));
             answered(files, target, device, Ok(printed), done)
         }
         Err(Failure::Unwritten(_)) => (Answer::Refused(Failure::OutOfMemory), device),
@@ -572,9 +559,10 @@ fn print_to_file<'a, R: Read, S: Files, W: Write + Drop>(
     }
 }
 
-/// Compares the two inputs of these names, which are read so.
+/// Compares the two inputs of these names, which are read so, as this.
 fn diff<'a, R: Read, S: Files, W: Write + Drop>(
     alloc: Global,
+    comparison: Comparison,
     reading: Reading,
     names: &[&'a str],
     target: Option<&'a str>,
@@ -582,13 +570,13 @@ fn diff<'a, R: Read, S: Files, W: Write + Drop>(
     files: &mut S,
     device: W,
 ) -> (Answer<'a>, W)
-    ensures { IsCompared reading result.0 (R.remaining input.old) names.now
+    ensures { IsCompared comparison reading result.0 (R.remaining input.old) names.now
         (outlet target.entry (W.contents device) (W.contents result.1) (S.holds files.old) (S.holds files.new)) }
 {
     let [ours, theirs] = names else {
         return (Answer::Misused(misuse_of(names)), device);
     };
-    let lines = match compare(alloc, reading, *ours, *theirs, input, files) {
+    let lines = match compare(alloc, comparison, reading, *ours, *theirs, input, files) {
         Ok(lines) => lines,
         Err(why) => return (Answer::Refused(why), device),
     };

@@ -1,5 +1,5 @@
 //! Inputs that are written of as they come.
-ghost use Rattle.std.specs.Prelude.{◌+◌, ◌<◌, ◌^◌, [], ℕ, IfErr, IfOk, List, OnOk, length};
+ghost use Rattle.std.specs.Prelude.{◌≡◌, ◌+◌, ◌<◌, ◌^◌, [], ℕ, Decides, IfErr, IfOk, List, OnOk, length};
 ghost use Rattle.std.specs.Io.KnownBytes.{Appends};
 ghost use Rattle.pod_commands.specs.Answers.{AreUnmade};
 ghost use Rattle.pod_commands.specs.Inputs.{AreMade, IsKnown, content_of, left_behind};
@@ -7,8 +7,8 @@ ghost use Rattle.pod_commands.specs.Making.{MakesAll};
 ghost use Rattle.pod_commands.specs.Streaming.{HasNoPod, IsBroken, IsBrokenAt, IsFailureOf, IsRefusedAs, MayRefuse, StreamsAs, WritesOf};
 ghost use Rattle.pod_commands.specs.declared.request.Making.TheVariants.{Check};
 ghost use Rattle.pod_commands.specs.declared.request.Streaming.TheVariants as streaming;
-ghost use Rattle.spa_format.specs.Front.{IsRefused};
 ghost use Rattle.spa_recordings.specs.declared.reading.Reading.TheVariants.{Exact};
+ghost use Rattle.spa_recordings.specs.Reading.{IsNothing};
 ghost use Rattle.spa_recordings.specs.Streaming.{IsNotMade, Streams, WritesMade};
 
 use crate::answer::Failure;
@@ -17,7 +17,7 @@ use crate::files::{Files, open_named};
 use crate::request::{Printing, Streaming, Style};
 use spa_pod_commands::making::check;
 use spa_recordings::reading::Reading;
-use spa_recordings::streaming::{BlockWriter, NotMade, Rewriter, Stop, stream, write_made};
+use spa_recordings::streaming::{BlockWriter, Made, NotMade, Rewriter, Stop, stream, write_made};
 use spa_refusals::refusal_of;
 use spa_text_commands::answer;
 use spa_text_commands::printing::print_all;
@@ -25,33 +25,43 @@ use spa_text_commands::showing::{Printed, show_pods};
 use std::alloc::Global;
 use std::io::{self, Read, Write};
 
-/// Writes this of the inputs of these names, and answers how many of their pods are refused.
+/// Writes this of the inputs of these names, which are read so, and answers how many of their pods are refused, and whether it is nothing.
 pub(crate) fn stream_all<'a, R: Read, S: Files, W: Write>(
     alloc: Global,
+    reading: Reading,
     streaming: Streaming<'_>,
     names: &[&'a str],
     input: &mut R,
     files: &S,
     output: &mut W,
-) -> Result<usize, Failure<'a>>
-    ensures streamed { IfOk result (λ refused. (out : List ℕ)
-        × AreMade (StreamsAs streaming.entry) (R.remaining input.old) (S.holds files.now) names.now out refused
+) -> Result<Made, Failure<'a>>
+    ensures streamed { IfOk result (λ made. (out : List ℕ)
+        × AreMade (StreamsAs reading streaming.entry) (R.remaining input.old) (S.holds files.now) names.now out made.refused
+        × Decides made.nothing (out ≡ [])
         × Appends (W.contents output.old) (W.contents output.new) out) }
-    ensures broken { IfErr result (IsBroken streaming.entry (R.remaining input.old) (S.holds files.now) names.now
+    ensures broken { IfErr result (IsBroken reading streaming.entry (R.remaining input.old) (S.holds files.now) names.now
         (W.contents output.old) (W.contents output.new)) }
 {
-    let mut refused: usize = 0;
+    let mut made = Made {
+        refused: 0,
+        nothing: true,
+    };
     for name in names {
-        match stream_named(alloc, streaming, *name, input, files, output) {
-            Ok(more) => match refused.checked_add(more) {
-                Some(sum) => refused = sum,
+        match stream_named(alloc, reading, streaming, *name, input, files, output) {
+            Ok(more) => match made.refused.checked_add(more.refused) {
+                Some(refused) => {
+                    made = Made {
+                        refused,
+                        nothing: made.nothing & more.nothing,
+                    };
+                }
                 // So many can't be counted.
                 None => return Err(Failure::OutOfMemory),
             },
             Err(why) => return Err(why),
         }
     }
-    Ok(refused)
+    Ok(made)
 }
 
 /// Passes where the inputs of these names consist of pods, which it looks at block by block; nothing is written.
@@ -68,86 +78,102 @@ pub(crate) fn check_all<'a, R: Read, S: Files>(
         (AreUnmade Exact Check (R.remaining input.old) (S.holds files.now) names.now) }
 {
     let mut nowhere = io::sink();
-    match stream_all(alloc, Streaming::Check, names, input, files, &mut nowhere) {
+    match stream_all(
+        alloc,
+        Reading::Exact,
+        Streaming::Check,
+        names,
+        input,
+        files,
+        &mut nowhere,
+    ) {
         Ok(_) => Ok(()),
         Err(why) => Err(why),
     }
 }
 
-/// Writes this of the input of this name, and answers how many of its pods are refused.
+/// Writes this of the input of this name, which is read so, and answers how many of its pods are refused, and whether it is nothing.
 fn stream_named<'a, R: Read, S: Files, W: Write>(
     alloc: Global,
+    reading: Reading,
     streaming: Streaming<'_>,
     name: &'a str,
     input: &mut R,
     files: &S,
     output: &mut W,
-) -> Result<usize, Failure<'a>>
-    ensures streamed { IfOk result (Streams (StreamsAs streaming.entry)
+) -> Result<Made, Failure<'a>>
+    ensures streamed { IfOk result (Streams (StreamsAs reading streaming.entry)
         (content_of (R.remaining input.old) (S.holds files.now) name.entry.now)
         (W.contents output.old) (W.contents output.new)) }
-    ensures broken { IfErr result (IsBrokenAt streaming.entry name.entry.now
+    ensures broken { IfErr result (IsBrokenAt reading streaming.entry name.entry.now
         (content_of (R.remaining input.old) (S.holds files.now) name.entry.now)
         (W.contents output.old) (W.contents output.new)) }
     ensures left { IsKnown (left_behind (R.remaining input.old) name.entry.now) (R.remaining input.new) }
 {
     if name == "-" {
-        return stream_reader(alloc, streaming, name, input, output);
+        return stream_reader(alloc, reading, streaming, name, input, output);
     }
-    stream_file(alloc, streaming, name, files, output)
+    stream_file(alloc, reading, streaming, name, files, output)
 }
 
-/// Writes this of the file of this name, and answers how many of its pods are refused.
+/// Writes this of the file of this name, which is read so, and answers how many of its pods are refused, and whether it is nothing.
 fn stream_file<'a, S: Files, W: Write>(
     alloc: Global,
+    reading: Reading,
     streaming: Streaming<'_>,
     name: &'a str,
     files: &S,
     output: &mut W,
-) -> Result<usize, Failure<'a>>
-    ensures streamed { IfOk result (Streams (StreamsAs streaming.entry) (S.holds files.now name.entry.now)
+) -> Result<Made, Failure<'a>>
+    ensures streamed { IfOk result (Streams (StreamsAs reading streaming.entry) (S.holds files.now name.entry.now)
         (W.contents output.old) (W.contents output.new)) }
     ensures broken { IfErr result
-        (IsBrokenAt streaming.entry name.entry.now (S.holds files.now name.entry.now)
+        (IsBrokenAt reading streaming.entry name.entry.now (S.holds files.now name.entry.now)
         (W.contents output.old) (W.contents output.new)) }
 {
     let mut file = match open_named(alloc, name, files) {
         Ok(file) => file,
         Err(why) => return Err(why),
     };
-    stream_reader(alloc, streaming, name, &mut file, output)
+    stream_reader(alloc, reading, streaming, name, &mut file, output)
 }
 
-/// Writes this of what the reader of this name gives, and answers how many of its pods are refused.
+/// Writes this of what the reader of this name gives, read so, and answers how many of its pods are refused, and whether it is nothing.
 fn stream_reader<'a, R: Read, W: Write>(
     alloc: Global,
+    reading: Reading,
     streaming: Streaming<'_>,
     name: &'a str,
     input: &mut R,
     output: &mut W,
-) -> Result<usize, Failure<'a>>
-    ensures streamed { IfOk result (Streams (StreamsAs streaming.entry) (R.remaining input.old)
+) -> Result<Made, Failure<'a>>
+    ensures streamed { IfOk result (Streams (StreamsAs reading streaming.entry) (R.remaining input.old)
         (W.contents output.old) (W.contents output.new)) }
-    ensures broken { IfErr result (IsBrokenAt streaming.entry name.entry.now (R.remaining input.old)
+    ensures broken { IfErr result (IsBrokenAt reading streaming.entry name.entry.now (R.remaining input.old)
         (W.contents output.old) (W.contents output.new)) }
 {
-    match stream(alloc, &streaming, input, output) {
-        Ok(refused) => Ok(refused),
-        Err(why) => Err(failure_of(alloc, name, why)),
+    match stream(alloc, reading, &streaming, input, output) {
+        Ok(made) => Ok(made),
+        Err(why) => Err(failure_of(alloc, reading, name, why)),
     }
 }
 
-/// The failure of the input of this name for this reason.
-pub(crate) fn failure_of<'a>(alloc: Global, name: &'a str, why: Stop) -> Failure<'a>
-    requires { HasNoPod why }
-    ensures { IsFailureOf name.entry why result }
+/// The failure of the input of this name, which is read so, for this reason.
+pub(crate) fn failure_of<'a>(
+    alloc: Global,
+    reading: Reading,
+    name: &'a str,
+    why: Stop,
+) -> Failure<'a>
+    requires { HasNoPod reading why }
+    ensures { IsFailureOf reading name.entry why result }
 {
     match why {
         Stop::Pod {
             number,
             place,
             read,
-        } => refused_at(alloc, name, number, place, read.as_slice()),
+        } => refused_at(alloc, reading, name, number, place, read.as_slice()),
         Stop::OutOfMemory => Failure::OutOfMemory,
         Stop::ReadFailed => Failure::Unread(name, "read failed"),
         Stop::WriteFailed => Failure::Unwritten(None),
@@ -157,15 +183,16 @@ pub(crate) fn failure_of<'a>(alloc: Global, name: &'a str, why: Stop) -> Failure
 /// The refusal of the pod of this number of the input of this name, which begins with these bytes at this byte.
 fn refused_at<'a>(
     alloc: Global,
+    reading: Reading,
     name: &'a str,
     number: usize,
     place: usize,
     read: &[u8],
 ) -> Failure<'a>
-    requires { IsRefused read.now }
-    ensures { IsRefusedAs name.entry.now number place read.now result }
+    requires { IsNothing reading read.now }
+    ensures { IsRefusedAs reading name.entry.now number place read.now result }
 {
-    match refusal_of(alloc, Reading::Exact, read, place, number) {
+    match refusal_of(alloc, reading, read, place, number) {
         Ok(refusal) => Failure::Pods(name, refusal),
         Err(_) => Failure::OutOfMemory,
     }
@@ -185,7 +212,7 @@ impl BlockWriter for Streaming<'_> {
         place: usize,
         block: &mut [u8],
         output: &mut W,
-    ) -> Result<usize, NotMade> {
+    ) -> Result<Made, NotMade> {
         match self {
             Streaming::Json(style) => write_texts(alloc, *style, count, place, &*block, output),
             Streaming::Rewrite => Rewriter.write_block(alloc, count, place, block, output),
@@ -193,7 +220,7 @@ impl BlockWriter for Streaming<'_> {
                 write_printed(alloc, *printing, count, place, &*block, output)
             }
             Streaming::Check => match check(alloc, &*block) {
-                Ok(()) => Ok(0),
+                Ok(()) => Ok(Made::of(0, &[])),
                 Err(_) => Err(NotMade::Refused),
             },
         }
@@ -214,7 +241,7 @@ fn write_texts<W: Write>(
     place: usize,
     block: &[u8],
     output: &mut W,
-) -> Result<usize, NotMade>
+) -> Result<Made, NotMade>
     ensures written { IfOk result (WritesMade (WritesOf (streaming.Json style) count place) block.now
         (W.contents output.old) (W.contents output.new)) }
     ensures refused { IfErr result (IsNotMade (MayRefuse (streaming.Json style))
@@ -230,13 +257,13 @@ fn write_texts<W: Write>(
         return Err(NotMade::OutOfMemory);
     };
     match write_made(output, made.as_slice()) {
-        Ok(()) => Ok(0),
+        Ok(()) => Ok(Made::of(0, made.as_slice())),
         Err(_) => Err(NotMade::Unwritten),
     }
 }
 
 /// Writes what is printed of the pods of a block, which so many pods and bytes of the input stand before, and answers how many of the printed pods
-/// are refused.
+/// are refused, and whether that is nothing.
 #[tactic(auto, using(crate::proofs::Blocks::printed_written, crate::proofs::Blocks::printed_begun))]
 fn write_printed<W: Write>(
     alloc: Global,
@@ -245,7 +272,7 @@ fn write_printed<W: Write>(
     place: usize,
     block: &[u8],
     output: &mut W,
-) -> Result<usize, NotMade>
+) -> Result<Made, NotMade>
     requires count { count + length block.now < 2 ^ 64 }
     requires place { place + length block.now < 2 ^ 64 }
     ensures written { IfOk result (WritesMade (WritesOf (streaming.Print printing.entry) count place) block.now
@@ -264,7 +291,7 @@ fn write_printed<W: Write>(
         return Err(NotMade::OutOfMemory);
     };
     match write_made(output, made.as_slice()) {
-        Ok(()) => Ok(refused),
+        Ok(()) => Ok(Made::of(refused, made.as_slice())),
         Err(_) => Err(NotMade::Unwritten),
     }
 }

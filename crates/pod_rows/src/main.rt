@@ -73,7 +73,7 @@ fn main(rt: HostRuntime) -> io::Result<()> {
 }
 
 /// More bytes than any row writes, or says.
-const ROOM: usize = 4000;
+const ROOM: usize = 16_000;
 
 /// Adds the label of a row and its answer. A line of one part is no row.
 fn answer_row(alloc: Global, row: &str, answers: &mut Vec<u8>) -> io::Result<()> {

@@ -148,6 +148,66 @@ fn blocks_in_pieces_are_rewritten(rt: HostRuntime) -> Result<(), AllocError> {
     Ok(())
 }
 
+/// A None choice over an array of the Ints 1 and 2, which conveys that array; a block ends within one of them, too.
+const WRAPPED: [u8; 40] = [
+    32, 0, 0, 0, 19, 0, 0, 0, 0, 0, 0, 0, 0, 0, 0, 0, 16, 0, 0, 0, 13, 0, 0, 0, 4, 0, 0, 0, 4, 0,
+    0, 0, 1, 0, 0, 0, 2, 0, 0, 0,
+];
+
+const UNWRAPPED: [u8; 24] = [
+    16, 0, 0, 0, 13, 0, 0, 0, 4, 0, 0, 0, 4, 0, 0, 0, 1, 0, 0, 0, 2, 0, 0, 0,
+];
+
+/// What is said of `WRONG` behind so many of `WRAPPED`.
+const REFUSED_LENIENTLY: &[u8] =
+    b"pod: standard input: pod 6001 (Int), byte 240000: a body or the size of elements isn't as long as its type's (WrongSize)\n";
+
+/// What is shown of the last of so many of `WRAPPED`: its byte is that of the encodings.
+const LAST_SHOWN: &[u8] =
+    b"pod 6000, byte 143976\nArray: child.size 4, child.type Spa:Int\n  Int 1\n  Int 2\n";
+
+/// Whether the pods of several blocks are read leniently, and the first that conveys nothing is named.
+fn are_blocks_read_leniently(rt: &HostRuntime, piece: usize) -> Result<bool, AllocError> {
+    let mut given = times(rt.alloc(), &WRAPPED, COUNT)?;
+    given.extend_from_slice(&WRONG)?;
+    given.extend_from_slice(&WRAPPED)?;
+    let mut room = times(rt.alloc(), &[0], COUNT * UNWRAPPED.len())?;
+    let written = times(rt.alloc(), &UNWRAPPED, COUNT)?;
+    let source = Source::whole(given.as_slice(), piece);
+    let some: Wanted<'_> = (written.as_slice(), REFUSED_LENIENTLY, 1);
+    let holds = streams(
+        rt,
+        &["rewrite", "--stream", "--lenient"],
+        source,
+        room.as_mut_slice(),
+        some,
+    )?;
+    let source = Source::whole(given.as_slice(), piece);
+    Ok(
+        streams(
+            rt,
+            &["show", "--stream", "--lenient", "--nth", "6000"],
+            source,
+            room.as_mut_slice(),
+            (LAST_SHOWN, REFUSED_LENIENTLY, 1),
+        )? && holds,
+    )
+}
+
+#[test]
+fn blocks_are_read_leniently(rt: HostRuntime) -> Result<(), AllocError> {
+    let holds = are_blocks_read_leniently(&rt, ALL)?;
+    assert!(rt; holds);
+    Ok(())
+}
+
+#[test]
+fn blocks_in_pieces_are_read_leniently(rt: HostRuntime) -> Result<(), AllocError> {
+    let holds = are_blocks_read_leniently(&rt, PIECE)?;
+    assert!(rt; holds);
+    Ok(())
+}
+
 /// The header of a Bytes pod with a body of 99,999 bytes, behind which one byte of padding stands.
 const LONG: [u8; 8] = [159, 134, 1, 0, 9, 0, 0, 0];
 

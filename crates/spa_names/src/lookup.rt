@@ -67,6 +67,16 @@ pub fn number_of(table: Table, name: &str) -> Option<u32>
             return Some(entry.0);
         }
     }
+    searched(table, name)
+}
+
+/// The same by a search, which few names need. It stands apart, so that the others keep fewer registers.
+#[cold]
+#[inline(never)]
+fn searched(table: Table, name: &str) -> Option<u32>
+    ensures { result ≡ number_of table name.now }
+{
+    let entries = entries_of(table);
     for entry in entries {
         if has_name(entry, name) {
             return Some(entry.0);
@@ -76,6 +86,7 @@ pub fn number_of(table: Table, name: &str) -> Option<u32>
 }
 
 /// The number of a key by its name, and what is expected of the value under it. None: the table of its object's keys doesn't have the name.
+#[inline(always)]
 pub fn key_named(keys: Table, name: &str) -> Option<(u32, Expected)>
     ensures { MatchOption result (number_of keys name.now ≡ None)
         (λ key. (number_of keys name.now ≡ Some key.0) × (key.1 ≡ expected_under keys key.0)) }

@@ -1,20 +1,31 @@
 -- Bytes that are read, held and passed.
-use Rattle.std.proofs.Common.{◌≡◌, ◌≢◌, ◌∙◌, ◌+◌, ◌-◌, ◌<◌, ◌≤◌, ◌*◌, ℕ, List, [], ◌∷◌, ◌++◌, Option, Some, None, append_assoc, ap, arith, drop, length, length-append, length-drop, length-take, refl, subst, sym, take, take-add}
+use Rattle.std.proofs.Common.{◌≡◌, ◌≢◌, ◌∙◌, ◌+◌, ◌-◌, ◌<◌, ◌≤◌, ◌*◌, ℕ, suc, List, [], ◌∷◌, ◌++◌, Option, Some, None, append_assoc, ap, ap₂, arith, drop, length, length-append, length-drop, length-take, refl, subst, sym, take, take-add}
 use Rattle.std.proofs.lemmas.List.{drop-append-le, drop-take, nil_from_length, take-append-le, take_all}
 use Rattle.std.proofs.lemmas.List.Edits.{take-paste}
 use Rattle.std.proofs.Math.Seq.{paste}
 use Rattle.std.specs.Io.KnownBytes.{Consumes, IsAtEnd}
 use Rattle.spa_device.specs.Whole.{IsAllOf}
 use Rattle.spa_format.specs.Front.{HasFront, front_of, rest_of}
-use Rattle.spa_format.specs.Pod.{AreMembers, IsPod}
-use Rattle.spa_format.specs.Front.{IsRefused}
-use Rattle.spa_format.specs.Tree.{Trees, no_trees, member}
+use Rattle.spa_format.specs.Encoding.{encoding_of, member_encodings}
+use Rattle.spa_format.specs.Lenient.{ConveyMembers, Conveys}
+use Rattle.spa_format.specs.Pod.{IsPod}
+use Rattle.spa_format.specs.Tree.{Trees, join_members, no_trees, member}
+use Rattle.spa_format.specs.Typed.{IsBytes}
 use Rattle.spa_format.specs.Walk.{walk}
 use Rattle.spa_format.specs.Words.{extent, word_at}
+use Rattle.spa_format.proofs.Conveyed.{conveying_front}
+use Rattle.spa_format.proofs.Exacted.{encoding_conveyed}
 use Rattle.spa_format.proofs.Fronts.{front_and_rest, front_of_whole, size_of_front}
+use Rattle.spa_format.proofs.Origin.{IsBytes-first, IsBytes-others}
 use Rattle.spa_format.proofs.WalkLemmas.{length-walk_behind, walk-end, walk-there}
 use Rattle.spa_format.proofs.WordLemmas.{word_at-append}
+use Rattle.spa_lenient.proofs.Lists.{members_convey}
+use Rattle.spa_read.proofs.Conveying.{members_joined}
 use Rattle.spa_recordings.specs.Blocks.{AreWhole, no_pods, one_more}
+use Rattle.spa_recordings.specs.Reading.{IsAccepted, IsNothing, ReadsAs}
+use Rattle.spa_recordings.specs.Rewritings.{encodings_joined}
+use Rattle.spa_recordings.specs.declared.reading.Reading.{Reading}
+use Rattle.spa_recordings.specs.declared.reading.Reading.TheVariants.{Exact, Lenient}
 
 -- ---- What a reader gives
 
@@ -194,12 +205,17 @@ walk_counts_all bytes left count so none =
     let n = ap length (walk-end left none) in
     omega (arith, c, e, j, n)
 
--- whole pods behind some that are accepted
-pub whole_behind : (vs : Trees) (b first left : List ℕ) → AreWhole b → b ≡ first ++ left → AreMembers vs first → AreWhole left
+-- what is accepted conveys values
+pub values_conveyed : (reading : Reading) (b : List ℕ) → IsAccepted reading b → (vs : Trees) × ConveyMembers vs b
+values_conveyed Exact b h = (h.0, members_convey h.0 b h.1)
+values_conveyed Lenient b h = h
+
+-- whole pods behind some that convey values
+pub whole_behind : (vs : Trees) (b first left : List ℕ) → AreWhole b → b ≡ first ++ left → ConveyMembers vs first → AreWhole left
 whole_behind no_trees b first left w e m = subst AreWhole (e ∙ ap (λ l. l ++ left) m) w
 whole_behind (member v vs) b first left w e m =
     let parts : b ≡ m.0 ++ (m.1 ++ left) = e ∙ ap (λ l. l ++ left) m.2 ∙ append_assoc m.0 m.1 left in
-    let f = front_of_whole b m.0 (m.1 ++ left) _ _ parts m.3 in
+    let f = conveying_front b m.0 (m.1 ++ left) _ _ _ parts m.3 in
     whole_behind vs (rest_of b) m.1 left (behind b w f.0) (sym f.2) m.4
   where
     behind : (b : List ℕ) → AreWhole b → HasFront b → AreWhole (rest_of b)
@@ -210,9 +226,46 @@ pub whole_front : (b : List ℕ) → AreWhole b → b ≢ [] → HasFront b
 whole_front _ no_pods n = absurd (n refl)
 whole_front _ (one_more b f h) n = f
 
--- what is refused is refused whatever follows it, where it has its front
-pub refused_longer : (b more : List ℕ) → HasFront b → IsRefused b → IsRefused (b ++ more)
-refused_longer b more f r = λ v h.
-    let same : front_of (b ++ more) ≡ front_of b =
-    ap (λ m. take (extent m) (b ++ more)) (same_size b more f) ∙ take-append-le (extent (word_at b 0)) b more f.whole in
-    r v (record { there = f; pod = subst (λ p. IsPod p v) same h.pod })
+front_longer : (b more : List ℕ) → HasFront b → front_of (b ++ more) ≡ front_of b
+front_longer b more f =
+    ap (λ m. take (extent m) (b ++ more)) (same_size b more f) ∙ take-append-le (extent (word_at b 0)) b more f.whole
+
+-- where no pod is read, none is whatever follows, if the front is there
+pub nothing_longer : (reading : Reading) (b more : List ℕ) → HasFront b → IsNothing reading b → IsNothing reading (b ++ more)
+nothing_longer Exact b more f r = λ v h. r v (record { there = f; pod = subst (λ p. IsPod p v) (front_longer b more f) h.pod })
+nothing_longer Lenient b more f r = λ v h. r v (record { there = f; conveys = subst (λ p. Conveys p v) (front_longer b more f) h.conveys })
+
+-- ---- The pods as which bytes are read
+
+-- the encodings of values are as many as what conveys these, and whole
+encodings_walked : (vs : Trees) (b : List ℕ) → IsBytes b → ConveyMembers vs b →
+    AreWhole (member_encodings vs) × (length (walk (member_encodings vs)) ≡ length (walk b))
+encodings_walked no_trees b f h = (no_pods, ap (λ z. length (walk z)) (sym h))
+encodings_walked (member v vs) b f h =
+    let enc = member_encodings (member v vs) in
+    let others = encodings_walked vs h.1 (IsBytes-others b h.0 h.1 h.2 f) h.4 in
+    let c = conveying_front b h.0 h.1 _ _ _ h.2 h.3 in
+    let e = front_of_whole enc (encoding_of v) (member_encodings vs) _ _ refl (encoding_conveyed h.0 v (IsBytes-first b h.0 h.1 h.2 f) h.3) in (
+      one_more enc e.0 (subst AreWhole e.2 others.0),
+      ap length (walk-there enc e.0) ∙ ap (λ z. suc (length (walk z))) (sym e.2) ∙ ap suc others.1 ∙ ap (λ z. suc (length (walk z))) c.2
+          ∙ sym (ap length (walk-there b c.0)),
+    )
+
+pub pods_walked : (reading : Reading) (b pods : List ℕ) → IsBytes b → ReadsAs reading b pods →
+    (AreWhole b → AreWhole pods) × (length (walk pods) ≡ length (walk b))
+pods_walked Exact b pods f r = (λ w. subst AreWhole (sym r) w, ap (λ z. length (walk z)) r)
+pods_walked Lenient b pods f r =
+    let e = encodings_walked r.0 b f r.1 in
+    (λ w. subst AreWhole (sym r.2) e.0, ap (λ z. length (walk z)) r.2 ∙ e.1)
+
+pub nothing_read : (reading : Reading) → ReadsAs reading [] []
+nothing_read Exact = refl
+nothing_read Lenient = (no_trees, refl, refl)
+
+pub reads_joined : (reading : Reading) (a b p q : List ℕ) → ReadsAs reading a p → ReadsAs reading b q → ReadsAs reading (a ++ b) (p ++ q)
+reads_joined Exact a b p q h k = ap₂ (λ x y. x ++ y) h k
+reads_joined Lenient a b p q h k = (
+  join_members h.0 k.0,
+  members_joined h.0 k.0 a b h.1 k.1,
+  ap₂ (λ x y. x ++ y) h.2 k.2 ∙ sym (encodings_joined h.0 k.0),
+)

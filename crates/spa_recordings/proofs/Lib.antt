@@ -1,4 +1,4 @@
-mod Going
+pub mod Going
 pub mod Holding
 mod Likely
 mod Passed

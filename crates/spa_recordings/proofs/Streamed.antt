@@ -1,66 +1,84 @@
 -- How far the work on an input is that is written block by block.
-use Rattle.std.proofs.Common.{◌≡◌, ◌≢◌, ◌∙◌, ◌+◌, ◌*◌, ◌-◌, ◌<◌, ◌≤◌, ℕ, List, [], ◌∷◌, ◌++◌, Option, append_assoc, append-nil, ap, arith, drop, inl, inr, length, length-append, length-take, refl, subst, suc, sym, take, take-append-drop}
+use Rattle.std.proofs.Common.{◌≡◌, ◌≢◌, ◌∙◌, ◌+◌, ◌*◌, ◌-◌, ◌<◌, ◌≤◌, ℕ, List, [], ◌∷◌, ◌++◌, Option, Bool, true, false, ◌&&◌, append_assoc, append-nil, ap, arith, drop, inl, inr, length, length-append, length-take, refl, subst, suc, sym, take, take-append-drop, true≢false}
 use Rattle.std.proofs.lemmas.List.{nil_from_length, take_all, take_at}
-use Rattle.std.specs.Prelude.{IfErr, IfOk, Result, Ok, Err}
+use Rattle.std.specs.Prelude.{Decides, IfErr, IfOk, Result, Ok, Err}
 use Rattle.std.specs.Io.KnownBytes.{Appends, Consumes, IsAtEnd, Keeps}
 use Rattle.spa_device.specs.CountingLaws.{known_more}
 use Rattle.spa_device.specs.Whole.{IsAllOf}
-use Rattle.spa_format.specs.Front.{HasFront, IsRefused}
+use Rattle.spa_format.specs.Front.{HasFront}
+use Rattle.spa_format.specs.Typed.{IsBytes}
 use Rattle.spa_format.specs.Walk.{walk}
 use Rattle.spa_pod_commands.proofs.Keeping.{appends_keeps, appends_nothing}
 use Rattle.spa_recordings.specs.Blocks.{AreWhole, IsReadFailure, ReadsOn, no_pods}
-use Rattle.spa_recordings.specs.Reading.{IsUnreadAt}
-use Rattle.spa_recordings.specs.Streaming.{BeginsBlock, IsEnded, IsFound, IsRefusedAhead, MakesFirst, Stops, StopsAtPod, StopsInBlock, Streams, WritesMade}
-use Rattle.spa_recordings.specs.declared.reading.Reading.TheVariants.{Exact}
+use Rattle.spa_recordings.specs.Reading.{IsAccepted, IsLeftOf, IsNoPod, IsNothing, IsUnreadAt, ReadsAs}
+use Rattle.spa_recordings.specs.Streaming.{AreRead, BeginsBlock, BeginsMade, IsEnded, IsFound, IsRefusedAhead, MakesAs, MakesFirst, Stops, StopsAtPod, StopsInBlock, Streams, WritesMade, WritesRead}
+use Rattle.spa_recordings.specs.declared.reading.Reading.{Reading}
+use Rattle.spa_recordings.specs.declared.reading.Reading.TheVariants.{Exact, Lenient}
+use Rattle.spa_recordings.specs.declared.streaming.Before.{Before}
 use Rattle.spa_recordings.specs.declared.streaming.Found.{Found}
+use Rattle.spa_recordings.specs.declared.streaming.Made.{Made}
+use Rattle.spa_recordings.specs.declared.streaming.Written.{Written}
 use Rattle.spa_recordings.specs.declared.streaming.Stop.{Stop}
 use Rattle.spa_recordings.specs.declared.streaming.Stop.TheVariants.{Pod, OutOfMemory, ReadFailed, WriteFailed}
-use Rattle.spa_recordings.proofs.Holding.{all_of, consumes_more, consumes_nothing, count_joined, few_whole, none_counted, none_unread, refused_longer, unread_of, whole_behind, whole_front, whole_joined}
+use Rattle.spa_recordings.proofs.Holding.{all_of, consumes_more, consumes_nothing, count_joined, few_whole, none_counted, none_unread, nothing_longer, nothing_read, pods_walked, reads_joined, unread_of, values_conveyed, whole_behind, whole_front, whole_joined}
 
--- what was begun to be written of a part of a block
-begins_more : (Makes : List ℕ → List ℕ → ℕ → Type 0) (block part left : List ℕ) (old new : Option (List ℕ)) → block ≡ part ++ left →
-    BeginsBlock Makes part old new → BeginsBlock Makes block old new
-begins_more Makes block part left old new e s = (
-  s.0 ++ left,
-  s.1,
-  record {
-    first = s.2.first;
-    parts = e ∙ ap (λ z. z ++ left) s.2.parts ∙ append_assoc s.2.first s.0 left;
-    refused = s.2.refused;
-    made = s.2.made;
-  },
-  s.3,
-  s.4,
-  s.5,
-)
+-- ---- A block
 
--- the first refused pod of a block
-pub found_at : (block left before kind : List ℕ) (found : Found) → IsUnreadAt Exact block left kind → found.at ≡ length block - length left →
-    before ≡ take found.at block → found.before ≡ length (walk before) → found.read.items ≡ left → IsFound block found
-found_at block left before kind found u at is counted bytes =
-    let b = u.0 in
-    let e = ap length b.2 in
-    let l = length-append b.1 left in
-    let same : before ≡ b.1 = is ∙ ap (take found.at) b.2 ∙ take_at b.1 left found.at (omega (arith, at, e, l)) in
+-- what is made of the pods as which a block is read is made of it
+pub read_made : (reading : Reading) (Makes : List ℕ → List ℕ → ℕ → Type 0) (block : List ℕ) (old new : Option (List ℕ)) (w : Written) →
+    WritesRead reading Makes block old new w → WritesMade (MakesAs reading Makes) block old new w.made
+read_made reading Makes block old new w h =
+    let few = h.made.few in
+    let within = h.read.within in
+    record { out = h.made.out; made = (h.pods, h.read.read, h.made.made); nothing = h.made.nothing; written = h.made.written; few = omega (arith, few, within) }
+
+pub are_read : (reading : Reading) (block pods : List ℕ) → IsBytes block → length pods ≤ length block → ReadsAs reading block pods → AreRead reading block pods
+are_read reading block pods f within r =
+    let w = pods_walked reading block pods f r in record { read = r; within = within; whole = w.0; counted = w.1 }
+
+pub read_written : (reading : Reading) (Makes : List ℕ → List ℕ → ℕ → Type 0) (block after : List ℕ) (len : ℕ) (made : Made) (old new : Option (List ℕ)) →
+    len ≤ length block → length after ≡ length block → AreRead reading block (take len after) →
+    WritesMade Makes (take len after) old new made → WritesRead reading Makes block old new (record { made = made; len = len })
+read_written reading Makes block after len made old new within long r h =
+    let t = length-take len after in record { pods = take len after; read = r; its_len = omega (arith, t, within, long); made = h }
+
+-- behind some first pods stands one that isn't read
+left_of : (reading : Reading) (input left : List ℕ) → IsLeftOf reading input left →
+    (first : List ℕ) × (input ≡ first ++ left) × IsAccepted reading first × (left ≢ [])
+left_of Exact input left h = (h.1, h.2, (h.0, h.3), h.4)
+left_of Lenient input left h = (h.1, h.2, (h.0, h.3), h.4)
+
+pub nothing_of : (reading : Reading) (left kind : List ℕ) → IsNoPod reading left kind → IsNothing reading left
+nothing_of Exact left kind h = h.0
+nothing_of Lenient left kind h = h.0
+
+pub found_at : (reading : Reading) (block left before kind : List ℕ) (found : Found) → IsUnreadAt reading block left kind →
+    found.at ≡ length block - length left → before ≡ take found.at block → found.before ≡ length (walk before) → found.read.items ≡ left →
+    IsFound reading block found
+found_at reading block left before kind found u at is counted bytes =
+    let b = left_of reading block left u.0 in
+    let e = ap length b.1 in
+    let l = length-append b.0 left in
+    let same : before ≡ b.0 = is ∙ ap (take found.at) b.1 ∙ take_at b.0 left found.at (omega (arith, at, e, l)) in
     record {
-      first = b.1;
+      first = b.0;
       left = left;
-      parts = b.2;
-      values = b.0;
-      accepted = b.3;
-      some = b.4;
-      no_pod = u.1.0;
+      parts = b.1;
+      accepted = b.2;
+      some = b.3;
+      no_pod = nothing_of reading left kind u.1;
       count = counted ∙ ap (λ z. length (walk z)) same;
       place = omega (arith, at, e, l);
       its_bytes = bytes;
     }
 
 -- and what stands before it
-before_found : (block part : List ℕ) (found : Found) (f : IsFound block found) → part ≡ take found.at block → part ≡ f.first
-before_found block part found f is = is ∙ ap (take found.at) f.parts ∙ take_at f.first f.left found.at (sym f.place)
+before_found : (reading : Reading) (block part : List ℕ) (found : Found) (f : IsFound reading block found) → part ≡ take found.at block → part ≡ f.first
+before_found reading block part found f is = is ∙ ap (take found.at) f.parts ∙ take_at f.first f.left found.at (sym f.place)
 
-pub few_before : (block : List ℕ) (found : Found) → IsFound block found → (found.before ≤ found.at) × (found.at < length block)
-few_before block found f =
+pub few_before : (reading : Reading) (block : List ℕ) (found : Found) → IsFound reading block found →
+    (found.before ≤ found.at) × (found.at < length block)
+few_before reading block found f =
     let c = f.count in
     let p = f.place in
     let w = few_whole f.first in
@@ -69,10 +87,11 @@ few_before block found f =
     let some : ¬ (length f.left ≡ 0) = λ z. f.some (nil_from_length f.left z) in
     (omega (arith, c, p, w), omega (arith, p, e, l, some))
 
-pub stops_at : (Refuses : Type 0) (Makes : List ℕ → List ℕ → ℕ → Type 0) (count place number at : ℕ) (block part read : List ℕ) (old new : Option (List ℕ))
-    (found : Found) (refused : ℕ) → Refuses → IsFound block found → part ≡ take found.at block → number ≡ count + found.before + 1 → at ≡ place + found.at →
-    read ≡ found.read.items → WritesMade Makes part old new refused → StopsAtPod Refuses Makes count place block old new number at read
-stops_at Refuses Makes count place number at block part read old new found refused refuses f is n p same w =
+pub stops_at : (reading : Reading) (Refuses : Type 0) (Makes : List ℕ → List ℕ → ℕ → Type 0) (before : Before) (number at : ℕ) (block part read : List ℕ)
+    (old new : Option (List ℕ)) (found : Found) (w : Written) → Refuses → IsFound reading block found → part ≡ take found.at block →
+    number ≡ before.count + found.before + 1 → at ≡ before.place + found.at → read ≡ found.read.items → WritesRead reading Makes part old new w →
+    StopsAtPod reading Refuses (MakesAs reading Makes) before block old new number at read
+stops_at reading Refuses Makes before number at block part read old new found w refuses f is n p same h =
     let c = f.count in
     let q = f.place in
     record {
@@ -80,21 +99,29 @@ stops_at Refuses Makes count place number at block part read old new found refus
       first = f.first;
       left = f.left;
       parts = f.parts;
-      values = f.values;
       accepted = f.accepted;
       some = f.some;
       no_pod = f.no_pod;
       its_number = omega (arith, n, c);
       its_place = omega (arith, p, q);
       its_bytes = same ∙ f.its_bytes;
-      refused = refused;
-      written = subst (λ z. WritesMade Makes z old new refused) (before_found block part found f is) w;
+      its = w.made;
+      written =
+          subst (λ z. WritesMade (MakesAs reading Makes) z old new w.made) (before_found reading block part found f is)
+          (read_made reading Makes part old new w h);
     }
 
+-- what was begun to be written of a first part of a block
 pub begins_at : (Makes : List ℕ → List ℕ → ℕ → Type 0) (block part : List ℕ) (n : ℕ) (old new : Option (List ℕ)) → part ≡ take n block →
-    BeginsBlock Makes part old new → BeginsBlock Makes block old new
-begins_at Makes block part n old new is s =
-    begins_more Makes block part (drop n block) old new (sym (take-append-drop n block) ∙ ap (λ z. z ++ drop n block) (sym is)) s
+    BeginsMade Makes part old new → BeginsBlock Makes block old new
+begins_at Makes block part n old new is s = (
+  drop n block,
+  s.0,
+  record { first = part; parts = sym (take-append-drop n block) ∙ ap (λ z. z ++ drop n block) (sym is); refused = s.1; made = s.2 },
+  s.3,
+  s.4,
+  s.5,
+)
 
 some_joined : (xs ys : List ℕ) → xs ≢ [] → xs ++ ys ≢ []
 some_joined [] ys n e = n refl
@@ -128,47 +155,82 @@ all_begun made old mid new some w k = (
   subst (Appends old new) (sym (take_all (length made) made (omega arith))) (appends_keeps old mid new made w k),
 )
 
+-- nothing is made
+abbrev pub nothing_made : Made
+nothing_made = record { refused = 0; nothing = true }
+
+first_nothing : (x y : List ℕ) → x ++ y ≡ [] → x ≡ []
+first_nothing [] y e = refl
+first_nothing (a ∷ x) y e = let l = ap length e in let no : ⊥ = omega (arith, l) in absurd no
+
+-- both are nothing exactly where all is
+pub both_nothing : (a b : Bool) (x y : List ℕ) → Decides a (x ≡ []) → Decides b (y ≡ []) → Decides (a && b) (x ++ y ≡ [])
+both_nothing true b x y f g = (λ e. ap (λ z. z ++ y) (f.0 refl) ∙ g.0 e, λ e. g.1 (sym (ap (λ z. z ++ y) (f.0 refl)) ∙ e))
+both_nothing false b x y f g = (λ e. absurd (true≢false (sym e)), λ e. f.1 (first_nothing x y e))
+
 -- what is made of pods is made of them part by part
 abbrev pub Joins : (ℕ → ℕ → List ℕ → List ℕ → ℕ → Type 0) → Type 0
 Joins Makes =
     (c p : ℕ) (a b x y : List ℕ) (i j : ℕ) → Makes c p a x i → Makes (c + length (walk a)) (p + length a) b y j → Makes c p (a ++ b) (x ++ y) (i + j)
 
-module _ (Refuses : Type 0) (Makes : ℕ → ℕ → List ℕ → List ℕ → ℕ → Type 0) where
-  -- some bytes were passed, what is made of them was written, and these are held behind them
-  pub record StreamedSoFar (remaining now : Option (List ℕ)) (held : List ℕ) (count place refused : ℕ) (old new : Option (List ℕ)) : Type 0 where
+module _ (reading : Reading) (Refuses : Type 0) (Makes : ℕ → ℕ → List ℕ → List ℕ → ℕ → Type 0) where
+  -- some bytes were passed, what is made of the pods as which they are read is written, and these are held behind them
+  pub record StreamedSoFar (remaining now : Option (List ℕ)) (held : List ℕ) (before : Before) (its : Made) (old new : Option (List ℕ)) : Type 0 where
     pub passed : List ℕ
+    pub pods : List ℕ
     pub out : List ℕ
-    pub made : Makes 0 0 passed out refused
+    pub read_as : ReadsAs reading passed pods
+    pub made : Makes 0 0 pods out its.refused
+    pub nothing : Decides its.nothing (out ≡ [])
     pub whole : AreWhole passed
-    pub its_count : count ≡ length (walk passed)
-    pub its_place : place ≡ length passed
-    pub few : refused ≤ length passed
+    pub whole_pods : AreWhole pods
+    pub its_count : before.count ≡ length (walk passed)
+    pub as_many : length (walk pods) ≡ length (walk passed)
+    pub its_place : before.place ≡ length passed
+    pub its_made : before.made ≡ length pods
+    pub within : length pods ≤ length passed
+    pub few : its.refused ≤ length passed
     pub written : Appends old new out
     pub read : Consumes remaining now (passed ++ held)
 
-  pub begins : (remaining old : Option (List ℕ)) (held : List ℕ) → Makes 0 0 [] [] 0 → held ≡ [] → StreamedSoFar remaining remaining held 0 0 0 old old
-  begins remaining old held nothing none = record {
+  pub begins : (remaining old : Option (List ℕ)) (held : List ℕ) (before : Before) → before.count ≡ 0 → before.place ≡ 0 → before.made ≡ 0 →
+      Makes 0 0 [] [] 0 → held ≡ [] → StreamedSoFar remaining remaining held before nothing_made old old
+  begins remaining old held before c p m nothing none = record {
     passed = [];
+    pods = [];
     out = [];
+    read_as = nothing_read reading;
     made = nothing;
+    nothing = (λ e. refl, λ e. refl);
     whole = no_pods;
-    its_count = sym none_counted;
-    its_place = refl;
+    whole_pods = no_pods;
+    its_count = c ∙ sym none_counted;
+    as_many = refl;
+    its_place = p;
+    its_made = m;
+    within = omega arith;
     few = omega arith;
     written = appends_nothing old;
     read = subst (Consumes remaining remaining) (sym none) (consumes_nothing remaining);
   }
 
   -- more was read
-  pub reads : (remaining now after : Option (List ℕ)) (held more : List ℕ) (count place refused : ℕ) (old new : Option (List ℕ)) → ReadsOn now after held more →
-      StreamedSoFar remaining now held count place refused old new → StreamedSoFar remaining after more count place refused old new
-  reads remaining now after held more count place refused old new r so = record {
+  pub reads : (remaining now after : Option (List ℕ)) (held more : List ℕ) (before : Before) (its : Made) (old new : Option (List ℕ)) →
+      ReadsOn now after held more → StreamedSoFar remaining now held before its old new → StreamedSoFar remaining after more before its old new
+  reads remaining now after held more before its old new r so = record {
     passed = so.passed;
+    pods = so.pods;
     out = so.out;
+    read_as = so.read_as;
     made = so.made;
     whole = so.whole;
+    whole_pods = so.whole_pods;
     its_count = so.its_count;
+    as_many = so.as_many;
     its_place = so.its_place;
+    its_made = so.its_made;
+    within = so.within;
+    nothing = so.nothing;
     few = so.few;
     written = so.written;
     read =
@@ -176,104 +238,138 @@ module _ (Refuses : Type 0) (Makes : ℕ → ℕ → List ℕ → List ℕ → �
         (consumes_more remaining now after (so.passed ++ held) r.0 so.read r.1);
   }
 
-  -- there are fewer pods than bytes, and of them fewer are refused
-  pub few_passed : (remaining now : Option (List ℕ)) (held : List ℕ) (count place refused : ℕ) (old new : Option (List ℕ)) →
-      StreamedSoFar remaining now held count place refused old new → (count * 8 ≤ place) × (refused ≤ place)
-  few_passed remaining now held count place refused old new so =
+  -- there are fewer pods than bytes, and of them fewer are refused; those as which they are read take no more
+  pub few_passed : (remaining now : Option (List ℕ)) (held : List ℕ) (before : Before) (its : Made) (old new : Option (List ℕ)) →
+      StreamedSoFar remaining now held before its old new → (before.count * 8 ≤ before.place) × (its.refused ≤ before.place) × (before.made ≤ before.place)
+  few_passed remaining now held before its old new so =
       let c = so.its_count in
       let p = so.its_place in
+      let m = so.its_made in
       let f = few_whole so.passed in
       let r = so.few in
-      (omega (arith, c, p, f), omega (arith, p, r))
+      let w = so.within in
+      (omega (arith, c, p, f), omega (arith, p, r), omega (arith, p, m, w))
 
   -- what is made of pods behind those that were passed
-  behind_passed : (remaining now : Option (List ℕ)) (held : List ℕ) (count place refused : ℕ) (old new : Option (List ℕ)) (b x : List ℕ) (j : ℕ) →
-      Joins Makes → (so : StreamedSoFar remaining now held count place refused old new) → Makes count place b x j →
-      Makes 0 0 (so.passed ++ b) (so.out ++ x) (refused + j)
-  behind_passed remaining now held count place refused old new b x j joins so m =
+  behind_passed : (remaining now : Option (List ℕ)) (held : List ℕ) (before : Before) (its : Made) (old new : Option (List ℕ)) (b x : List ℕ) (j : ℕ) →
+      Joins Makes → (so : StreamedSoFar remaining now held before its old new) → MakesAs reading (Makes before.count before.made) b x j →
+      MakesAs reading (Makes 0 0) (so.passed ++ b) (so.out ++ x) (its.refused + j)
+  behind_passed remaining now held before its old new b x j joins so m =
       let c = so.its_count in
-      let p = so.its_place in
-      let ec : count ≡ 0 + length (walk so.passed) = omega (arith, c) in
-      let ep : place ≡ 0 + length so.passed = omega (arith, p) in
-      joins 0 0 so.passed b so.out x refused j so.made
-      (subst (λ z. Makes (0 + length (walk so.passed)) z b x j) ep (subst (λ z. Makes z place b x j) ec m))
+      let n = so.as_many in
+      let p = so.its_made in
+      let ec : before.count ≡ 0 + length (walk so.pods) = omega (arith, c, n) in
+      let ep : before.made ≡ 0 + length so.pods = omega (arith, p) in (
+        so.pods ++ m.0,
+        reads_joined reading so.passed b so.pods m.0 so.read_as m.1,
+        joins 0 0 so.pods m.0 so.out x its.refused j so.made
+            (subst (λ z. Makes (0 + length (walk so.pods)) z m.0 x j) ep (subst (λ z. Makes z before.made m.0 x j) ec m.2)),
+      )
 
   -- a block was written and passed
-  pub passes : (remaining now : Option (List ℕ)) (held : List ℕ) (count place refused len pods behind after more_refused : ℕ) (old mid new : Option (List ℕ))
-      (more : List ℕ) → Joins Makes → len ≤ length held → AreWhole (take len held) → pods ≡ length (walk (take len held)) → behind ≡ place + len →
-      after ≡ count + pods → more ≡ drop len held → WritesMade (Makes count place) (take len held) mid new more_refused →
-      StreamedSoFar remaining now held count place refused old mid → StreamedSoFar remaining now more after behind (refused + more_refused) old new
-  passes remaining now held count place refused len pods behind after more_refused old mid new more joins l whole n b a m w so =
+  pub passes : (remaining now : Option (List ℕ)) (held : List ℕ) (before : Before) (its : Made) (len pods : ℕ) (behind : Before) (w : Written) (sum : Made)
+      (old mid new : Option (List ℕ)) (more : List ℕ) → Joins Makes → len ≤ length held → AreWhole (take len held) →
+      pods ≡ length (walk (take len held)) → behind.place ≡ before.place + len → behind.count ≡ before.count + pods →
+      behind.made ≡ before.made + w.len → more ≡ drop len held → WritesRead reading (Makes before.count before.made) (take len held) mid new w →
+      sum.refused ≡ its.refused + w.made.refused → sum.nothing ≡ its.nothing && w.made.nothing →
+      StreamedSoFar remaining now held before its old mid → StreamedSoFar remaining now more behind sum old new
+  unfolding behind_passed
+  passes remaining now held before its len pods behind w sum old mid new more joins l whole n b a d m h r0 n0 so =
+      let block = take len held in
       let p = so.its_place in
       let c = so.its_count in
-      let j = length-append so.passed (take len held) in
+      let e = so.its_made in
+      let j = length-append so.passed block in
+      let i = length-append so.pods h.pods in
       let t = length-take len held in
-      let k = count_joined so.passed (take len held) so.whole in
+      let k = count_joined so.passed block so.whole in
+      let q = count_joined so.pods h.pods so.whole_pods in
       let f = so.few in
-      let g = w.few in
+      let g = h.made.few in
+      let s = so.as_many in
+      let r = h.read.counted in
+      let u = so.within in
+      let v = h.read.within in
+      let z = h.its_len in
+      let all = behind_passed remaining now held before its old mid block h.made.out w.made.refused joins so (h.pods, h.read.read, h.made.made) in
       record {
-        passed = so.passed ++ take len held;
-        out = so.out ++ w.out;
-        made = behind_passed remaining now held count place refused old mid (take len held) w.out more_refused joins so w.made;
-        whole = whole_joined so.passed (take len held) so.whole whole;
+        passed = so.passed ++ block;
+        pods = so.pods ++ h.pods;
+        out = so.out ++ h.made.out;
+        read_as = all.1;
+        made = subst (Makes 0 0 (so.pods ++ h.pods) (so.out ++ h.made.out)) (sym r0) all.2;
+        nothing =
+            subst (λ z. Decides z (so.out ++ h.made.out ≡ [])) (sym n0)
+            (both_nothing its.nothing w.made.nothing so.out h.made.out so.nothing h.made.nothing);
+        whole = whole_joined so.passed block so.whole whole;
+        whole_pods = whole_joined so.pods h.pods so.whole_pods (h.read.whole whole);
         its_count = omega (arith, c, k, n, a);
+        as_many = omega (arith, q, k, s, r);
         its_place = omega (arith, p, j, t, l, b);
-        few = omega (arith, f, g, j);
-        written = known_more old mid new so.out w.out so.written w.written;
+        its_made = omega (arith, e, i, z, d);
+        within = omega (arith, i, j, u, v);
+        few = omega (arith, f, g, j, v, r0);
+        written = known_more old mid new so.out h.made.out so.written h.made.written;
         read =
             subst (Consumes remaining now)
-            (ap (λ z. so.passed ++ z) (sym (take-append-drop len held)) ∙ sym (append_assoc so.passed (take len held) (drop len held))
-            ∙ ap (λ z. (so.passed ++ take len held) ++ z) (sym m))
+            (ap (λ z. so.passed ++ z) (sym (take-append-drop len held)) ∙ sym (append_assoc so.passed block (drop len held))
+            ∙ ap (λ z. (so.passed ++ block) ++ z) (sym m))
             so.read;
       }
 
   -- the input as far as it is known
-  pub input_is : (remaining now : Option (List ℕ)) (held : List ℕ) (count place refused : ℕ) (old new : Option (List ℕ))
-      (so : StreamedSoFar remaining now held count place refused old new) → IsAllOf remaining (so.passed ++ (held ++ unread_of now))
-  input_is remaining now held count place refused old new so =
+  pub input_is : (remaining now : Option (List ℕ)) (held : List ℕ) (before : Before) (its : Made) (old new : Option (List ℕ))
+      (so : StreamedSoFar remaining now held before its old new) → IsAllOf remaining (so.passed ++ (held ++ unread_of now))
+  input_is remaining now held before its old new so =
       subst (IsAllOf remaining) (append_assoc so.passed held (unread_of now)) (all_of remaining now (so.passed ++ held) so.read)
 
-  first_made : (remaining now : Option (List ℕ)) (held : List ℕ) (count place refused : ℕ) (old new : Option (List ℕ))
-      (so : StreamedSoFar remaining now held count place refused old new) (left : List ℕ) → MakesFirst (Makes 0 0) (so.passed ++ left) so.out left
-  first_made remaining now held count place refused old new so left =
-      record { first = so.passed; parts = refl; refused = refused; made = so.made }
+  first_made : (remaining now : Option (List ℕ)) (held : List ℕ) (before : Before) (its : Made) (old new : Option (List ℕ))
+      (so : StreamedSoFar remaining now held before its old new) (left : List ℕ) →
+      MakesFirst (MakesAs reading (Makes 0 0)) (so.passed ++ left) so.out left
+  first_made remaining now held before its old new so left =
+      record { first = so.passed; parts = refl; refused = its.refused; made = (so.pods, so.read_as, so.made) }
 
   -- reading failed
-  pub fails : (remaining now : Option (List ℕ)) (held : List ℕ) (count place refused : ℕ) (old new : Option (List ℕ)) (why : Stop) → IsReadFailure why →
-      StreamedSoFar remaining now held count place refused old new → Stops Refuses (Makes 0 0) remaining old new why
-  fails remaining now held count place refused old new why cause so =
+  pub fails : (remaining now : Option (List ℕ)) (held : List ℕ) (before : Before) (its : Made) (old new : Option (List ℕ)) (why : Stop) → IsReadFailure why →
+      StreamedSoFar remaining now held before its old new → Stops reading Refuses (MakesAs reading (Makes 0 0)) remaining old new why
+  fails remaining now held before its old new why cause so =
       let left = held ++ unread_of now in
-      cases cause (so.passed ++ left) left (first_made remaining now held count place refused old new so left)
-      (input_is remaining now held count place refused old new so)
+      cases cause (so.passed ++ left) left (first_made remaining now held before its old new so left)
+      (input_is remaining now held before its old new so)
     where
-      cases : IsReadFailure why → (input left : List ℕ) → MakesFirst (Makes 0 0) input so.out left → IsAllOf remaining input →
-          Stops Refuses (Makes 0 0) remaining old new why
+      cases : IsReadFailure why → (input left : List ℕ) → MakesFirst (MakesAs reading (Makes 0 0)) input so.out left → IsAllOf remaining input →
+          Stops reading Refuses (MakesAs reading (Makes 0 0)) remaining old new why
       cases (inl e) input left first all =
-          subst (Stops Refuses (Makes 0 0) remaining old new) (sym e)
+          subst (Stops reading Refuses (MakesAs reading (Makes 0 0)) remaining old new) (sym e)
           (record { input = input; its = all; out = so.out; ends = (left, first); written = so.written })
       cases (inr e) input left first all =
-          subst (Stops Refuses (Makes 0 0) remaining old new) (sym e)
+          subst (Stops reading Refuses (MakesAs reading (Makes 0 0)) remaining old new) (sym e)
           (record { input = input; its = all; out = so.out; ends = (left, first); written = so.written })
 
   -- the input ended with a whole pod
-  pub streams : (remaining now : Option (List ℕ)) (held : List ℕ) (count place refused : ℕ) (old new : Option (List ℕ)) → held ≡ [] → IsAtEnd now →
-      StreamedSoFar remaining now held count place refused old new → Streams (Makes 0 0) remaining old new refused
-  streams remaining now held count place refused old new none end so =
+  pub streams : (remaining now : Option (List ℕ)) (held : List ℕ) (before : Before) (its : Made) (old new : Option (List ℕ)) → held ≡ [] → IsAtEnd now →
+      StreamedSoFar remaining now held before its old new → Streams (MakesAs reading (Makes 0 0)) remaining old new its
+  streams remaining now held before its old new none end so =
       let nothing : so.passed ++ (held ++ unread_of now) ≡ so.passed =
       ap (λ z. so.passed ++ (z ++ unread_of now)) none ∙ ap (λ z. so.passed ++ z) (none_unread now end) ∙ append-nil so.passed in
       record {
         input = so.passed;
-        read = subst (IsAllOf remaining) nothing (input_is remaining now held count place refused old new so);
+        read = subst (IsAllOf remaining) nothing (input_is remaining now held before its old new so);
         out = so.out;
-        made = so.made;
+        made = ((so.pods, so.read_as, so.made), so.nothing);
         written = so.written;
       }
 
+  -- where no pod is whole none is read
+  not_there : (reading : Reading) (b : List ℕ) → ¬ (HasFront b) → IsNothing reading b
+  not_there Exact b n = λ v h. n h.there
+  not_there Lenient b n = λ v h. n h.there
+
   -- it ended, and what is held is no whole pod
-  pub ended : (remaining now : Option (List ℕ)) (held bytes : List ℕ) (count place refused : ℕ) (old new : Option (List ℕ)) (why : Stop) →
-      bytes ≡ held → IsAtEnd now → ¬ (HasFront held) → IsEnded count place bytes why →
-      StreamedSoFar remaining now held count place refused old new → Stops Refuses (Makes 0 0) remaining old new why
-  ended remaining now held bytes count place refused old new (Pod number at read) b end n e so =
+  pub ended : (remaining now : Option (List ℕ)) (held bytes : List ℕ) (before : Before) (its : Made) (old new : Option (List ℕ)) (why : Stop) →
+      bytes ≡ held → IsAtEnd now → ¬ (HasFront held) → IsEnded before bytes why →
+      StreamedSoFar remaining now held before its old new → Stops reading Refuses (MakesAs reading (Makes 0 0)) remaining old new why
+  ended remaining now held bytes before its old new (Pod number at read) b end n e so =
       let none = none_unread now end in
       let unread = unread_of now in
       let left = held ++ unread in
@@ -281,23 +377,23 @@ module _ (Refuses : Type 0) (Makes : ℕ → ℕ → List ℕ → List ℕ → �
       let p = so.its_place in
       let e0 = e.0 in
       let e1 = e.1 in
-      let refused_held : IsRefused held = λ v b. n b.there in
+      let refused_held = not_there reading held n in
       let same : read.items ≡ held = e.2 ∙ b in
       let some : held ≢ [] = λ z. e.3 (b ∙ z) in
       record {
         input = so.passed ++ left;
-        its = input_is remaining now held count place refused old new so;
+        its = input_is remaining now held before its old new so;
         out = so.out;
         ends = record {
           left = left;
-          made = record { first = so.passed; parts = refl; refused = refused; made = so.made };
+          made = record { first = so.passed; parts = refl; refused = its.refused; made = (so.pods, so.read_as, so.made) };
           its_place = omega (arith, p, e1);
           its_number = omega (arith, c, e0);
           ahead =
-              subst (IsRefusedAhead Refuses left) (sym same)
+              subst (IsRefusedAhead reading Refuses left) (sym same)
               (record {
                 some = some_joined held unread some;
-                refused = subst IsRefused (sym (ap (λ z. held ++ z) none ∙ append-nil held)) refused_held;
+                refused = subst (IsNothing reading) (sym (ap (λ z. held ++ z) none ∙ append-nil held)) refused_held;
                 unread = unread;
                 parts = refl;
                 enough = inr (n, none);
@@ -306,36 +402,40 @@ module _ (Refuses : Type 0) (Makes : ℕ → ℕ → List ℕ → List ℕ → �
         };
         written = so.written;
       }
-  ended remaining now held bytes count place refused old new OutOfMemory b end n e so =
+  ended remaining now held bytes before its old new OutOfMemory b end n e so =
       let left = held ++ unread_of now in
       record {
         input = so.passed ++ left;
-        its = input_is remaining now held count place refused old new so;
+        its = input_is remaining now held before its old new so;
         out = so.out;
-        ends = (left, first_made remaining now held count place refused old new so left);
+        ends = (left, first_made remaining now held before its old new so left);
         written = so.written;
       }
-  ended remaining now held bytes count place refused old new ReadFailed b end n e so = absurd e
-  ended remaining now held bytes count place refused old new WriteFailed b end n e so = absurd e
+  ended remaining now held bytes before its old new ReadFailed b end n e so = absurd e
+  ended remaining now held bytes before its old new WriteFailed b end n e so = absurd e
 
-  pub closes : (remaining now : Option (List ℕ)) (held bytes : List ℕ) (count place refused : ℕ) (old new : Option (List ℕ)) (r : Result ℕ Stop) →
-      bytes ≡ held → IsAtEnd now → ¬ (HasFront held) → IfOk r (λ n. (n ≡ refused) × (bytes ≡ [])) → IfErr r (IsEnded count place bytes) →
-      StreamedSoFar remaining now held count place refused old new →
-      IfOk r (Streams (Makes 0 0) remaining old new) × IfErr r (Stops Refuses (Makes 0 0) remaining old new)
-  closes remaining now held bytes count place refused old new (Ok n) b end none z w so =
-      (subst (Streams (Makes 0 0) remaining old new) (sym z.0) (streams remaining now held count place refused old new (sym b ∙ z.1) end so), tt)
-  closes remaining now held bytes count place refused old new (Err why) b end none z w so =
-      (tt, ended remaining now held bytes count place refused old new why b end none w so)
+  pub closes : (remaining now : Option (List ℕ)) (held bytes : List ℕ) (before : Before) (its : Made) (old new : Option (List ℕ)) (r : Result Made Stop) →
+      bytes ≡ held → IsAtEnd now → ¬ (HasFront held) → IfOk r (λ n. (n ≡ its) × (bytes ≡ [])) → IfErr r (IsEnded before bytes) →
+      StreamedSoFar remaining now held before its old new →
+      IfOk r (Streams (MakesAs reading (Makes 0 0)) remaining old new) × IfErr r (Stops reading Refuses (MakesAs reading (Makes 0 0)) remaining old new)
+  closes remaining now held bytes before its old new (Ok n) b end none z w so = (
+    subst (Streams (MakesAs reading (Makes 0 0)) remaining old new) (sym z.0) (streams remaining now held before its old new (sym b ∙ z.1) end so),
+    tt,
+  )
+  closes remaining now held bytes before its old new (Err why) b end none z w so =
+      (tt, ended remaining now held bytes before its old new why b end none w so)
 
   -- a block isn't written whole
-  pub stops : (remaining now : Option (List ℕ)) (held : List ℕ) (count place refused len : ℕ) (old mid new : Option (List ℕ)) (why : Stop) →
-      Joins Makes → AreWhole (take len held) → StopsInBlock Refuses (Makes count place) count place (take len held) mid new why →
-      StreamedSoFar remaining now held count place refused old mid → Stops Refuses (Makes 0 0) remaining old new why
-  stops remaining now held count place refused len old mid new (Pod number at read) joins whole s so =
+  pub stops : (remaining now : Option (List ℕ)) (held : List ℕ) (before : Before) (its : Made) (len : ℕ) (old mid new : Option (List ℕ)) (why : Stop) →
+      Joins Makes → AreWhole (take len held) →
+      StopsInBlock reading Refuses (MakesAs reading (Makes before.count before.made)) before (take len held) mid new why →
+      StreamedSoFar remaining now held before its old mid → Stops reading Refuses (MakesAs reading (Makes 0 0)) remaining old new why
+  stops remaining now held before its len old mid new (Pod number at read) joins whole s so =
       let block = take len held in
       let behind = drop len held ++ unread_of now in
       let w = s.written in
-      let front = whole_front s.left (whole_behind s.values block s.first s.left whole s.parts s.accepted) s.some in
+      let conveyed = values_conveyed reading s.first s.accepted in
+      let front = whole_front s.left (whole_behind conveyed.0 block s.first s.left whole s.parts conveyed.1) s.some in
       let all : so.passed ++ (held ++ unread_of now) ≡ (so.passed ++ s.first) ++ (s.left ++ behind) =
       ap (λ z. so.passed ++ (z ++ unread_of now)) (sym (take-append-drop len held) ∙ ap (λ z. z ++ drop len held) s.parts)
       ∙ ap (λ z. so.passed ++ z)
@@ -349,23 +449,23 @@ module _ (Refuses : Type 0) (Makes : ℕ → ℕ → List ℕ → List ℕ → �
       let r = s.its_number in
       record {
         input = so.passed ++ (held ++ unread_of now);
-        its = input_is remaining now held count place refused old mid so;
+        its = input_is remaining now held before its old mid so;
         out = so.out ++ w.out;
         ends = record {
           left = s.left ++ behind;
           made = record {
             first = so.passed ++ s.first;
             parts = all;
-            refused = refused + s.refused;
-            made = behind_passed remaining now held count place refused old mid s.first w.out s.refused joins so w.made;
+            refused = its.refused + s.its.refused;
+            made = behind_passed remaining now held before its old mid s.first w.out s.its.refused joins so w.made;
           };
           its_place = omega (arith, j, p, q);
           its_number = omega (arith, n, c, r);
           ahead =
-              subst (IsRefusedAhead Refuses (s.left ++ behind)) (sym s.its_bytes)
+              subst (IsRefusedAhead reading Refuses (s.left ++ behind)) (sym s.its_bytes)
               (record {
                 some = some_joined s.left behind s.some;
-                refused = refused_longer s.left behind front s.no_pod;
+                refused = nothing_longer reading s.left behind front s.no_pod;
                 unread = behind;
                 parts = refl;
                 enough = inl (front, s.refuses);
@@ -374,23 +474,30 @@ module _ (Refuses : Type 0) (Makes : ℕ → ℕ → List ℕ → List ℕ → �
         };
         written = known_more old mid new so.out w.out so.written w.written;
       }
-  stops remaining now held count place refused len old mid new OutOfMemory joins whole s so =
-      fails remaining now held count place refused old new OutOfMemory (inl refl) (kept s so)
+  stops remaining now held before its len old mid new OutOfMemory joins whole s so =
+      fails remaining now held before its old new OutOfMemory (inl refl) (kept s so)
     where
-      kept : Keeps mid new → StreamedSoFar remaining now held count place refused old mid → StreamedSoFar remaining now held count place refused old new
+      kept : Keeps mid new → StreamedSoFar remaining now held before its old mid → StreamedSoFar remaining now held before its old new
       kept k so = record {
         passed = so.passed;
+        pods = so.pods;
         out = so.out;
+        read_as = so.read_as;
         made = so.made;
         whole = so.whole;
+        whole_pods = so.whole_pods;
         its_count = so.its_count;
+        as_many = so.as_many;
         its_place = so.its_place;
+        its_made = so.its_made;
+        within = so.within;
+        nothing = so.nothing;
         few = so.few;
         written = appends_keeps old mid new so.out so.written k;
         read = so.read;
       }
-  stops remaining now held count place refused len old mid new ReadFailed joins whole s so = absurd s
-  stops remaining now held count place refused len old mid new WriteFailed joins whole s so =
+  stops remaining now held before its len old mid new ReadFailed joins whole s so = absurd s
+  stops remaining now held before its len old mid new WriteFailed joins whole s so =
       let block = take len held in
       let first = s.2 in
       let behind = drop len held ++ unread_of now in
@@ -401,15 +508,15 @@ module _ (Refuses : Type 0) (Makes : ℕ → ℕ → List ℕ → List ℕ → �
       ∙ sym (append_assoc so.passed first.first (s.0 ++ behind)) in
       record {
         input = so.passed ++ (held ++ unread_of now);
-        its = input_is remaining now held count place refused old mid so;
+        its = input_is remaining now held before its old mid so;
         out = so.out ++ s.1;
         ends = (
           s.0 ++ behind,
           record {
             first = so.passed ++ first.first;
             parts = all;
-            refused = refused + first.refused;
-            made = behind_passed remaining now held count place refused old mid first.first s.1 first.refused joins so first.made;
+            refused = its.refused + first.refused;
+            made = behind_passed remaining now held before its old mid first.first s.1 first.refused joins so first.made;
           },
         );
         written = begun_behind old mid new so.out s.1 s.4 so.written s.3 s.5;

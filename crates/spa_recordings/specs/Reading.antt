@@ -29,6 +29,11 @@ abbrev pub IsAccepted : Reading → List ℕ → Type 0
 IsAccepted Exact input = (vs : Trees) × AreMembers vs input
 IsAccepted Lenient input = (vs : Trees) × ConveyMembers vs input
 
+-- no pod is read at the front
+abbrev pub IsNothing : Reading → List ℕ → Type 0
+IsNothing Exact left = IsRefused left
+IsNothing Lenient left = ConveysNothing left
+
 -- a fault that stands has this name
 abbrev pub IsNamed : (Fault → List ℕ → Type 0) → List ℕ → Type 0
 IsNamed stands kind =

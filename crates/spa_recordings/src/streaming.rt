@@ -1,14 +1,17 @@
 //! What is written of an input block by block, as it comes.
-ghost use Rattle.std.specs.Prelude.{◌≡◌, ◌≢◌, ◌+◌, ◌<◌, ◌^◌, ◌≤◌, ◌++◌, ⊤, [], ℕ, List, IfErr, IfOk, IfSome, OnErr, OnOk, drop, length, take};
+ghost use Rattle.std.specs.Prelude.{◌≡◌, ◌≢◌, ◌+◌, ◌<◌, ◌^◌, ◌≤◌, ◌++◌, ⊤, [], ℕ, Decides, List, IfErr, IfOk, IfSome, OnErr, OnOk, drop, length, take};
 ghost use Rattle.std.specs.Io.KnownBytes.{Appends};
+ghost use Rattle.spa_format.specs.Typed.{IsBytes};
 ghost use Rattle.spa_format.specs.Walk.{walk};
 ghost use Rattle.spa_pod_commands.specs.Answers.{Rewrites};
 ghost use Rattle.spa_recordings.specs.declared.streaming.NotMade.TheVariants.{Unwritten};
-ghost use Rattle.spa_recordings.specs.Streaming.{IsEnded, IsFound, IsNotMade, Stops, StopsInBlock, Streams, WritesMade};
+ghost use Rattle.spa_recordings.specs.Streaming.{AreRead, IsEnded, IsFound, IsNotMade, IsNotRead, MakesAs, MayStop, Stops, StopsInBlock, Streams, WritesMade, WritesRead};
 
 use crate::blocks::{Blocks, whole_of};
 use crate::reading::{Reading, first_unread};
+use spa_fixed_sized::DeserializeError;
 use spa_in_place::rewrite_in_place;
+use spa_lenient::rewrite_in_place_leniently;
 use spa_pod_commands::output::write;
 use std::alloc::Global;
 use std::io::{Read, Write};
@@ -16,7 +19,7 @@ use std::io::{Read, Write};
 /// Why the work on an input ends before that does.
 #[derive(Drop)]
 pub enum Stop {
-    /// A pod is refused.
+    /// A pod isn't read, or isn't whole.
     Pod {
         /// Which pod of the input it is, the first being 1.
         number: usize,
@@ -44,6 +47,28 @@ pub enum NotMade {
     Unwritten,
 }
 
+/// What is answered of bytes that are made of pods.
+#[derive(Clone, Copy)]
+pub struct Made {
+    /// How many of the pods are refused.
+    pub refused: usize,
+    /// Whether the bytes are none.
+    pub nothing: bool,
+}
+
+impl Made {
+    /// These bytes are made of pods of which so many are refused.
+    pub fn of(refused: usize, out: &[u8]) -> Made
+        ensures refused { result.refused ≡ refused }
+        ensures nothing { Decides result.nothing (out.now ≡ []) }
+    {
+        Made {
+            refused,
+            nothing: out.is_empty(),
+        }
+    }
+}
+
 /// What is written of pods that stand one after another.
 pub trait BlockWriter {
     /// This is made of these pods, which so many pods and bytes of the input stand before; so many of them are refused.
@@ -53,7 +78,7 @@ pub trait BlockWriter {
     ghost refuses: { Self → Type 0 };
 
     /// Makes this of the pods of a block, which so many pods and bytes of the input stand before, writes it, and answers how many of them are
-    /// refused. The block's bytes may change.
+    /// refused, and whether it is nothing. The block's bytes may change.
     fn write_block<W: Write>(
         &self,
         alloc: Global,
@@ -61,7 +86,7 @@ pub trait BlockWriter {
         place: usize,
         block: &mut [u8],
         output: &mut W,
-    ) -> Result<usize, NotMade>
+    ) -> Result<Made, NotMade>
         requires count { count + length block.old < 2 ^ 64 }
         requires place { place + length block.old < 2 ^ 64 }
         ensures written { IfOk result (WritesMade (makes self.now count place) block.old
@@ -98,12 +123,12 @@ impl BlockWriter for Rewriter {
         _place: usize,
         block: &mut [u8],
         output: &mut W,
-    ) -> Result<usize, NotMade> {
+    ) -> Result<Made, NotMade> {
         let Ok(len) = rewrite_in_place(alloc, block) else {
             return Err(NotMade::Refused);
         };
         match write_made(output, &block[..len]) {
-            Ok(()) => Ok(0),
+            Ok(()) => Ok(Made::of(0, &block[..len])),
             Err(_) => Err(NotMade::Unwritten),
         }
     }
@@ -132,28 +157,29 @@ pub fn write_made<W: Write>(output: &mut W, made: &[u8]) -> Result<(), NotMade>
     }
 }
 
-/// Writes what is made of the pods of an input, block by block as it comes, and answers how many of them are refused: blocks of whole pods, at
-/// most 64 KiB or one longer pod. Beyond the longest pod it takes as much memory as a block, and what is made of one.
+/// Writes what is made of the pods as which an input is read, block by block as it comes, and answers how many of them are refused, and whether it
+/// is nothing: blocks of whole pods, at most 64 KiB or one longer pod. Beyond the longest pod it takes as much memory as a block, and what is made of one.
 ///
-/// Where it ends before, what is made of the pods up to there is written: up to the first pod that nothing is made of, the last one that
-/// was read, or the last one that memory was there for. A write that fails leaves a beginning of that.
+/// Where it ends before, what is made of the pods up to there is written: up to the first pod that isn't read so, if nothing is made of it, the last one
+/// that came, or the last one that memory was there for. A write that fails leaves a beginning of that.
+///
+/// The numbers of pods and bytes that the writer is told are those of the pods as which the input is read; those of a `Stop` are the input's.
 pub fn stream<B: BlockWriter, R: Read, W: Write>(
     alloc: Global,
+    reading: Reading,
     writer: &B,
     input: &mut R,
     output: &mut W,
-) -> Result<usize, Stop>
-    ensures done { IfOk result (Streams (B.makes writer.now 0 0) (R.remaining input.old)
+) -> Result<Made, Stop>
+    ensures done { IfOk result (Streams (MakesAs reading (B.makes writer.now 0 0)) (R.remaining input.old)
         (W.contents output.old) (W.contents output.new)) }
-    ensures stopped { IfErr result (Stops (B.refuses writer.now) (B.makes writer.now 0 0) (R.remaining input.old)
-        (W.contents output.old) (W.contents output.new)) }
+    ensures stopped { IfErr result (Stops reading (MayStop reading (B.refuses writer.now)) (MakesAs reading (B.makes writer.now 0 0))
+        (R.remaining input.old) (W.contents output.old) (W.contents output.new)) }
 {
     let Ok(mut blocks) = Blocks::new(alloc) else {
         return Err(Stop::OutOfMemory);
     };
-    let mut count: usize = 0;
-    let mut place: usize = 0;
-    let mut refused: usize = 0;
+    let (mut before, mut made) = (NOTHING, NOTHING_MADE);
     // Far more often than blocks come.
     for _ in 0..u64::MAX {
         let found = match blocks.next(input) {
@@ -161,129 +187,174 @@ pub fn stream<B: BlockWriter, R: Read, W: Write>(
             Err(why) => return Err(why),
         };
         let Some(whole) = found else {
-            return end(alloc, count, place, refused, blocks.held_bytes());
+            return end(alloc, before, made, blocks.held_bytes());
         };
-        let Some(behind) = place.checked_add(whole.len) else {
+        let Some(behind) = before.place.checked_add(whole.len) else {
             return Err(Stop::ReadFailed);
         };
         match write_front(
             alloc,
+            reading,
             writer,
-            count,
-            place,
+            before,
             whole.len,
             blocks.buffer.as_mut_slice(),
             output,
         ) {
-            Ok(more) => refused += more,
+            Ok(written) => {
+                made.refused += written.made.refused;
+                made.nothing = made.nothing & written.made.nothing;
+                before = Before {
+                    count: before.count + whole.count,
+                    place: behind,
+                    made: before.made + written.len,
+                };
+            }
             Err(why) => return Err(why),
         }
         blocks.pass(whole.len);
-        count += whole.count;
-        place = behind;
     }
     Err(Stop::ReadFailed)
 }
 
-/// Ends behind so many pods and bytes, of which so many pods are refused, where these bytes are held that are no
-/// whole pod: with a refusal of them, unless they are none.
-fn end(
-    alloc: Global,
+/// What of an input is passed.
+#[derive(Clone, Copy)]
+struct Before {
+    /// How many pods.
     count: usize,
+    /// How many bytes.
     place: usize,
-    refused: usize,
-    held: &[u8],
-) -> Result<usize, Stop>
-    requires { count + 1 < 2 ^ 64 }
-    ensures ended { IfOk result (λ it. (it ≡ refused) × (held.now ≡ [])) }
-    ensures why { IfErr result (IsEnded count place held.now) }
+    /// How many bytes the pods take as which these are read.
+    made: usize,
+}
+
+/// Nothing is passed.
+const NOTHING: Before = Before {
+    count: 0,
+    place: 0,
+    made: 0,
+};
+
+/// Nothing is made.
+const NOTHING_MADE: Made = Made {
+    refused: 0,
+    nothing: true,
+};
+
+/// What was written of a block.
+#[derive(Clone, Copy)]
+struct Written {
+    /// What is answered of it.
+    made: Made,
+    /// How many bytes the pods take as which it is read.
+    len: usize,
+}
+
+/// Ends behind what is passed, of which this is answered, where these bytes are held that are no whole pod: with a refusal of them, unless they are
+/// none.
+fn end(alloc: Global, before: Before, made: Made, held: &[u8]) -> Result<Made, Stop>
+    requires { before.count + 1 < 2 ^ 64 }
+    ensures ended { IfOk result (λ it. (it ≡ made) × (held.now ≡ [])) }
+    ensures why { IfErr result (IsEnded before held.now) }
 {
     if held.is_empty() {
-        return Ok(refused);
+        return Ok(made);
     }
     match held.to_vec(alloc) {
         Ok(read) => Err(Stop::Pod {
-            number: count + 1,
-            place,
+            number: before.count + 1,
+            place: before.place,
             read,
         }),
         Err(_) => Err(Stop::OutOfMemory),
     }
 }
 
-/// Writes what is made of the pods of the block that takes so many bytes of the buffer, and which so many pods and bytes of the input stand
-/// before.
+/// Writes what is made of the pods of the block that takes so many bytes of the buffer.
 fn write_front<B: BlockWriter, W: Write>(
     alloc: Global,
+    reading: Reading,
     writer: &B,
-    count: usize,
-    place: usize,
+    before: Before,
     len: usize,
     buffer: &mut [u8],
     output: &mut W,
-) -> Result<usize, Stop>
+) -> Result<Written, Stop>
     requires within { len ≤ length buffer.old }
-    requires count { count + len < 2 ^ 64 }
-    requires place { place + len < 2 ^ 64 }
+    requires count { before.count + len < 2 ^ 64 }
+    requires place { before.place + len < 2 ^ 64 }
+    requires made { before.made ≤ before.place }
     ensures long { length buffer.new ≡ length buffer.old }
     ensures behind { drop len buffer.new ≡ drop len buffer.old }
-    ensures written { IfOk result (WritesMade (B.makes writer.now count place) (take len buffer.old)
+    ensures written { IfOk result (WritesRead reading (B.makes writer.now before.count before.made) (take len buffer.old)
         (W.contents output.old) (W.contents output.new)) }
-    ensures stopped { IfErr result (StopsInBlock (B.refuses writer.now) (B.makes writer.now count place) count place
-        (take len buffer.old) (W.contents output.old) (W.contents output.new)) }
+    ensures stopped { IfErr result (StopsInBlock reading (MayStop reading (B.refuses writer.now))
+        (MakesAs reading (B.makes writer.now before.count before.made)) before (take len buffer.old)
+        (W.contents output.old) (W.contents output.new)) }
 {
-    write_or_stop(alloc, writer, count, place, &mut buffer[..len], output)
+    write_or_stop(alloc, reading, writer, before, &mut buffer[..len], output)
 }
 
-/// Writes what is made of the pods of a block, or of those before the first that is refused.
+/// Writes what is made of the pods of a block, or of those before the first that isn't read.
 fn write_or_stop<B: BlockWriter, W: Write>(
     alloc: Global,
+    reading: Reading,
     writer: &B,
-    count: usize,
-    place: usize,
+    before: Before,
     block: &mut [u8],
     output: &mut W,
-) -> Result<usize, Stop>
-    requires count { count + length block.old < 2 ^ 64 }
-    requires place { place + length block.old < 2 ^ 64 }
+) -> Result<Written, Stop>
+    requires count { before.count + length block.old < 2 ^ 64 }
+    requires place { before.place + length block.old < 2 ^ 64 }
+    requires made { before.made ≤ before.place }
     ensures long { length block.new ≡ length block.old }
-    ensures written { IfOk result (WritesMade (B.makes writer.now count place) block.old
+    ensures written { IfOk result (WritesRead reading (B.makes writer.now before.count before.made) block.old
         (W.contents output.old) (W.contents output.new)) }
-    ensures stopped { IfErr result (StopsInBlock (B.refuses writer.now) (B.makes writer.now count place) count place
-        block.old (W.contents output.old) (W.contents output.new)) }
+    ensures stopped { IfErr result (StopsInBlock reading (MayStop reading (B.refuses writer.now))
+        (MakesAs reading (B.makes writer.now before.count before.made)) before block.old
+        (W.contents output.old) (W.contents output.new)) }
 {
-    match writer.write_block(alloc, count, place, block, output) {
-        Ok(refused) => Ok(refused),
+    match write_read(alloc, reading, writer, before, block, output) {
+        Ok(written) => Ok(written),
         Err(NotMade::Unwritten) => Err(Stop::WriteFailed),
         Err(NotMade::OutOfMemory) => Err(Stop::OutOfMemory),
-        Err(NotMade::Refused) => Err(write_before(alloc, writer, count, place, block, output)),
+        Err(NotMade::Refused) => Err(write_before(alloc, reading, writer, before, block, output)),
     }
 }
 
-/// Writes what is made of the pods before the first that is refused, and answers that one's refusal.
+/// Writes what is made of the pods before the first that isn't read, and answers that one's refusal.
 #[tactic(auto, using(crate::proofs::Streamed::few_before, crate::proofs::Streamed::stops_at, crate::proofs::Streamed::begins_at))]
 fn write_before<B: BlockWriter, W: Write>(
     alloc: Global,
+    reading: Reading,
     writer: &B,
-    count: usize,
-    place: usize,
+    before: Before,
     block: &mut [u8],
     output: &mut W,
 ) -> Stop
-    requires refuses { B.refuses writer.now }
-    requires count { count + length block.old < 2 ^ 64 }
-    requires place { place + length block.old < 2 ^ 64 }
+    requires refuses { MayStop reading (B.refuses writer.now) }
+    requires count { before.count + length block.old < 2 ^ 64 }
+    requires place { before.place + length block.old < 2 ^ 64 }
+    requires made { before.made ≤ before.place }
     ensures long { length block.new ≡ length block.old }
-    ensures stopped { StopsInBlock (B.refuses writer.now) (B.makes writer.now count place) count place
-        block.old (W.contents output.old) (W.contents output.new) result }
+    ensures stopped { StopsInBlock reading (MayStop reading (B.refuses writer.now))
+        (MakesAs reading (B.makes writer.now before.count before.made)) before block.old
+        (W.contents output.old) (W.contents output.new) result }
 {
-    let Some(found) = first_refused(alloc, &*block) else {
+    let Some(found) = first_refused(alloc, reading, &*block) else {
         return Stop::OutOfMemory;
     };
-    match writer.write_block(alloc, count, place, &mut block[..found.at], output) {
+    match write_read(
+        alloc,
+        reading,
+        writer,
+        before,
+        &mut block[..found.at],
+        output,
+    ) {
         Ok(_) => Stop::Pod {
-            number: count + found.before + 1,
-            place: place + found.at,
+            number: before.count + found.before + 1,
+            place: before.place + found.at,
             read: found.read,
         },
         Err(NotMade::Unwritten) => Stop::WriteFailed,
@@ -292,7 +363,64 @@ fn write_before<B: BlockWriter, W: Write>(
     }
 }
 
-/// The first refused pod of a block.
+/// Writes what is made of the pods as which a block is read. Its bytes may change, and are as they were where it is refused.
+fn write_read<B: BlockWriter, W: Write>(
+    alloc: Global,
+    reading: Reading,
+    writer: &B,
+    before: Before,
+    block: &mut [u8],
+    output: &mut W,
+) -> Result<Written, NotMade>
+    requires count { before.count + length block.old < 2 ^ 64 }
+    requires made { before.made + length block.old < 2 ^ 64 }
+    ensures long { length block.new ≡ length block.old }
+    ensures written { IfOk result (WritesRead reading (B.makes writer.now before.count before.made) block.old
+        (W.contents output.old) (W.contents output.new)) }
+    ensures refused { IfErr result (IsNotMade (MayStop reading (B.refuses writer.now))
+        (MakesAs reading (B.makes writer.now before.count before.made)) block.old block.new
+        (W.contents output.old) (W.contents output.new)) }
+{
+    let len = match read_in_place(alloc, reading, block) {
+        Ok(len) => len,
+        Err(why) => return Err(why),
+    };
+    match writer.write_block(alloc, before.count, before.made, &mut block[..len], output) {
+        Ok(made) => Ok(Written { made, len }),
+        Err(NotMade::Refused) => match reading {
+            Reading::Exact => Err(NotMade::Refused),
+            // What is read leniently is refused for lack of memory alone.
+            Reading::Lenient => Err(NotMade::OutOfMemory),
+        },
+        Err(why) => Err(why),
+    }
+}
+
+#[tactic(auto, using(crate::proofs::Streamed::are_read))]
+/// Puts the pods as which a block is read in its place, and answers how many bytes they take. Exactly it is taken as it is.
+fn read_in_place(alloc: Global, reading: Reading, block: &mut [u8]) -> Result<usize, NotMade>
+    ensures long { length block.new ≡ length block.old }
+    ensures within { IfOk result (λ len. len ≤ length block.old) }
+    ensures read { IfOk result (λ len. AreRead reading block.old (take len block.new)) }
+    ensures refused { IfErr result (IsNotRead reading block.old block.new) }
+{
+    are_bytes(&*block);
+    match reading {
+        Reading::Exact => Ok(block.len()),
+        Reading::Lenient => match rewrite_in_place_leniently(alloc, block) {
+            Ok(len) => Ok(len),
+            Err((_, DeserializeError::OutOfMemory)) => Err(NotMade::OutOfMemory),
+            Err(_) => Err(NotMade::Refused),
+        },
+    }
+}
+
+/// Does nothing: its contract is what the type says of bytes.
+fn are_bytes(_bytes: &[u8])
+    ensures { IsBytes _bytes.now }
+{}
+
+/// The first pod of a block that isn't read.
 #[derive(Drop)]
 struct Found {
     /// How many pods stand before it.
@@ -303,12 +431,12 @@ struct Found {
     read: Vec<u8>,
 }
 
-/// The first refused pod of a block, unless memory runs out or there is none.
+/// The first pod of a block that isn't read, unless memory runs out or there is none.
 #[tactic(auto, using(crate::proofs::Streamed::found_at))]
-fn first_refused(alloc: Global, block: &[u8]) -> Option<Found>
-    ensures { IfSome result (IsFound block.now) }
+fn first_refused(alloc: Global, reading: Reading, block: &[u8]) -> Option<Found>
+    ensures { IfSome result (IsFound reading block.now) }
 {
-    let Ok(Some(unread)) = first_unread(alloc, Reading::Exact, block) else {
+    let Ok(Some(unread)) = first_unread(alloc, reading, block) else {
         return None;
     };
     let at = block.len() - unread.left.len();

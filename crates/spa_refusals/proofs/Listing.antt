@@ -1,9 +1,10 @@
 -- How far the work on several refused pods is.
 use Rattle.std.proofs.Common.{◌≡◌, ◌+◌, ◌-◌, ◌<◌, ◌≤◌, ◌∙◌, ℕ, List, [], ◌∷◌, ◌++◌, add-one, append_assoc, append-nil, ap, arith, drop, drop-cons, get_or, length, length-drop, refl, subst, sym}
 use Rattle.std.proofs.lemmas.List.{nil_from_length}
+use Rattle.spa_recordings.specs.Reading.{IsNothing}
 use Rattle.spa_recordings.specs.declared.going_on.RefusedPod.{RefusedPod}
 use Rattle.spa_recordings.specs.declared.reading.Reading.{Reading}
-use Rattle.spa_refusals.specs.Refusals.{IsNothing, IsRefusalOf}
+use Rattle.spa_refusals.specs.Refusals.{IsRefusalOf}
 use Rattle.spa_refusals.specs.Several.{AreRefused, AreSaid, IsSaidOf}
 use Rattle.spa_refusals.specs.declared.several.NamedRefusal.{NamedRefusal}
 

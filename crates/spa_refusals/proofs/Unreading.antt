@@ -11,14 +11,14 @@ use Rattle.spa_fixed_sized.specs.declared.fault.DeserializeError.TheVariants as 
 use Rattle.spa_format.specs.Front.{HasFront, IsRefused}
 use Rattle.spa_bodies.specs.Reading.{IsShortAt, OnFault}
 use Rattle.spa_read.specs.Reading.{ConveysNothing}
-use Rattle.spa_recordings.specs.Reading.{IsAccepted, IsLeftOf, RefusesList}
+use Rattle.spa_recordings.specs.Reading.{IsAccepted, IsLeftOf, IsNothing, RefusesList}
 use Rattle.spa_recordings.specs.declared.reading.Reading.{Reading}
 use Rattle.spa_recordings.specs.declared.reading.Reading.TheVariants.{Exact, Lenient}
 use Rattle.spa_refusals.specs.Paths.{LeadsTo, itself, further, member, property}
 use Rattle.spa_format.specs.Walk.{walk}
 use Rattle.spa_format.specs.Words.{header_size}
 use Rattle.spa_recordings.specs.Plausible.{IsNextPlausible}
-use Rattle.spa_refusals.specs.Refusals.{IsFirstRefusal, IsNextOf, IsNothing, IsRefusalAt, IsRefusalOf, IsUnreadFor, LeadsBy}
+use Rattle.spa_refusals.specs.Refusals.{IsFirstRefusal, IsNextOf, IsRefusalAt, IsRefusalOf, IsUnreadFor, LeadsBy}
 use Rattle.spa_refusals.specs.declared.refusal.Refusal.{Refusal}
 
 fault_of : {I : Type 0} (Fact : Type 0) (e : DeserializeError I) → e ≢ error.OutOfMemory → OnFault Fact e → Fact

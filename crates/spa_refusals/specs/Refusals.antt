@@ -5,24 +5,19 @@ use Rattle.std.specs.Fmt.{decimal}
 use Rattle.spa_fixed_sized.specs.Faults.{error_text, kind_text}
 use Rattle.spa_fixed_sized.specs.declared.fault.DeserializeError.{DeserializeError}
 use Rattle.spa_format.specs.Faults.{Fault, Stands}
-use Rattle.spa_format.specs.Front.{HasFront, IsRefused}
+use Rattle.spa_format.specs.Front.{HasFront}
 use Rattle.spa_format.specs.Walk.{walk}
 use Rattle.spa_format.specs.Words.{extent, header_size, word_at}
 use Rattle.spa_bodies.specs.Reading.{IsShortAt, Names, OnMemory}
-use Rattle.spa_read.specs.Reading.{ConveysNothing, StandsLeniently}
+use Rattle.spa_read.specs.Reading.{StandsLeniently}
 use Rattle.spa_recordings.specs.Plausible.{IsNextPlausible, IsNoneBehind}
-use Rattle.spa_recordings.specs.Reading.{IsAccepted, IsLeftOf}
+use Rattle.spa_recordings.specs.Reading.{IsAccepted, IsLeftOf, IsNothing}
 use Rattle.spa_recordings.specs.declared.reading.Reading.{Reading}
 use Rattle.spa_recordings.specs.declared.reading.Reading.TheVariants.{Exact, Lenient}
 use Rattle.spa_refusals.specs.Paths.{IsPath, name_text, type_name}
 use Rattle.spa_refusals.specs.declared.names.TypeName.{TypeName}
 use Rattle.spa_refusals.specs.declared.refusal.Cut.{Cut}
 use Rattle.spa_refusals.specs.declared.refusal.Refusal.{Refusal}
-
--- no pod is read at the front
-abbrev pub IsNothing : Reading → List ℕ → Type 0
-IsNothing Exact pod = IsRefused pod
-IsNothing Lenient pod = ConveysNothing pod
 
 -- a fault is in the pod at the front, at this place
 abbrev pub StandsBy : Reading → Fault → (place pod : List ℕ) → Type 0
@@ -81,11 +76,9 @@ abbrev pub IsFirstRefusal : Reading → List ℕ → Refusal → Type 0
 IsFirstRefusal reading input refusal =
     ¬ (IsAccepted reading input) × IsLeftOf reading input (drop refusal.place input) × IsRefusalAt reading input refusal
 
--- what is said of the pod at this place of an input, where the cause isn't in its bytes: its number, its type, and the cause
-pub record IsRefusalFor (input : List ℕ) (place : ℕ) (kind words : List ℕ) (refusal : Refusal) : Type 0 where
-  pub its_place : refusal.place ≡ place
-  pub number : refusal.number ≡ length (walk (take place input)) + 1
-  pub type : option_map name_text refusal.type_ ≡ type_name (drop place input)
+-- what is said of the pod at the front of these bytes, where the cause isn't in them: its type, and the cause
+pub record IsRefusalFor (pod kind words : List ℕ) (refusal : Refusal) : Type 0 where
+  pub type : option_map name_text refusal.type_ ≡ type_name pod
   pub no_path : string_bytes refusal.path ≡ []
   pub its_kind : refusal.kind.now ≡ kind
   pub its_words : string_bytes refusal.words ≡ words

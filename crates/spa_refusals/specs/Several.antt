@@ -1,8 +1,9 @@
 -- Several refused pods of an input: docs/TEXT.md, "What is said of a refused pod".
 use Rattle.std.specs.Prelude.{⊤, ◌≡◌, ◌≤◌, ◌<◌, ◌+◌, ◌-◌, ℕ, List, [], ◌∷◌, drop, length}
+use Rattle.spa_recordings.specs.Reading.{IsNothing}
 use Rattle.spa_recordings.specs.declared.going_on.RefusedPod.{RefusedPod}
 use Rattle.spa_recordings.specs.declared.reading.Reading.{Reading}
-use Rattle.spa_refusals.specs.Refusals.{IsNothing, IsRefusalOf}
+use Rattle.spa_refusals.specs.Refusals.{IsRefusalOf}
 use Rattle.spa_refusals.specs.declared.several.NamedRefusal.{NamedRefusal}
 
 -- None of these pods of a part of an input is read, which so many bytes of the input stand before.

@@ -5,9 +5,10 @@ ghost use Rattle.spa_format.specs.Pod.{AreMembers};
 ghost use Rattle.spa_format.specs.Tree.{Trees};
 ghost use Rattle.spa_format.specs.Words.{header_size};
 ghost use Rattle.spa_read.specs.Reading.{ConveysNothing};
+ghost use Rattle.spa_recordings.specs.Reading.{IsNothing};
 ghost use Rattle.spa_recordings.specs.declared.reading.Reading.TheVariants.{Exact, Lenient};
 ghost use Rattle.spa_refusals.specs.Paths.{BeginsPod, HaveRead, HoldsMember, HoldsProperty, HoldsValue, IsInnermost, IsPath, StepsTo};
-ghost use Rattle.spa_refusals.specs.Refusals.{IsNothing, IsUnreadFor, LeadsBy};
+ghost use Rattle.spa_refusals.specs.Refusals.{IsUnreadFor, LeadsBy};
 
 use crate::counting::{behind_front, count};
 use crate::names::push_key;

@@ -1,8 +1,8 @@
 //! What is said of a refused pod.
 ghost use Rattle.std.specs.Prelude.{◌≡◌, ◌+◌, ◌≤◌, IfErr, IfNone, IfOk, IfSome, OnOk, drop, length, take};
 ghost use Rattle.spa_format.specs.Walk.{walk};
-ghost use Rattle.spa_recordings.specs.Reading.{IsAccepted, RefusesList};
-ghost use Rattle.spa_refusals.specs.Refusals.{IsCutOf, IsFirstRefusal, IsNextOf, IsNothing, IsRefusalAt, IsRefusalFor, IsRefusalOf};
+ghost use Rattle.spa_recordings.specs.Reading.{IsAccepted, IsNothing, RefusesList};
+ghost use Rattle.spa_refusals.specs.Refusals.{IsCutOf, IsFirstRefusal, IsNextOf, IsRefusalAt, IsRefusalFor, IsRefusalOf};
 
 use crate::counting::count;
 use crate::inside::malformed;
@@ -137,23 +137,25 @@ pub fn refusal_of(
     })
 }
 
-/// The refusal of the pod behind so many bytes of an input, for a cause of this name and in these words, which isn't in its bytes.
+/// The refusal of the pod of this number, which begins with these bytes at this byte of an input, for a cause of this name and in these words,
+/// which isn't in its bytes.
 pub fn refusal_for(
     alloc: Global,
-    input: &[u8],
+    pod: &[u8],
     place: usize,
+    number: usize,
     kind: &'static str,
     words: &str,
 ) -> Result<Refusal, AllocError>
-    requires { place ≤ length input.now }
-    ensures { IfOk result (IsRefusalFor input.now place kind.now words.now) }
+    ensures place { IfOk result (λ refusal. refusal.place ≡ place) }
+    ensures number { IfOk result (λ refusal. refusal.number ≡ number) }
+    ensures refusal { IfOk result (IsRefusalFor pod.now kind.now words.now) }
 {
-    let (before, pod) = input.split_at(place);
     let type_ = type_name(pod);
     let mut its_words = String::new(alloc);
     its_words.push_str(words)?;
     Ok(Refusal {
-        number: count(before) + 1,
+        number,
         place,
         type_,
         path: String::new(alloc),

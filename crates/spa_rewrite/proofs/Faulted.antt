@@ -1,14 +1,13 @@
 -- Where a look stops, and which fault stands there.
-use Rattle.std.proofs.Common.{◌≡◌, ◌≢◌, ℕ, suc, zero, ◌+◌, ◌*◌, ◌/◌, ◌-◌, ◌<◌, ◌≤◌, ◌%◌, inl, inr, List, [], ◌∷◌, length, drop, refl, sym, ap, ◌∙◌, subst, arith, length-drop}
+use Rattle.std.proofs.Common.{◌≡◌, ◌≢◌, ℕ, ◌+◌, ◌*◌, ◌/◌, ◌-◌, ◌<◌, ◌≤◌, ◌%◌, inl, inr, List, [], length, drop, refl, sym, ap, ◌∙◌, subst, arith, length-drop}
 use Rattle.std.specs.Prelude.{◌⊎◌, Bool, true, false}
 use Rattle.std.proofs.lemmas.Bool.{cases_eq, cases_lt}
-use Rattle.std.proofs.lemmas.List.{drop-drop}
 use Rattle.std.proofs.Math.Nat.{mul-mod_left}
 use Rattle.spa_format.specs.Words.{body_of, header_size, word_at, wide_at}
-use Rattle.spa_format.specs.Kind.{Fixed, IsFixedBody, Kind, body_size, content, type_number}
-use Rattle.spa_format.specs.Tree.{Shape, none_choice, range_choice, step_choice, enum_choice, flags_choice, shape_number, Tree, choice, fixed, pointer, no_properties, array_type, choice_type, object_type, pointer_type, struct_type, type_of}
+use Rattle.spa_format.specs.Kind.{IsFixedBody, Kind, body_size, content, type_number}
+use Rattle.spa_format.specs.Tree.{Tree, choice, fixed, pointer, no_properties, array_type, choice_type, object_type, pointer_type, struct_type, type_of}
 use Rattle.spa_format.specs.Normal.{kept_flags}
-use Rattle.spa_format.specs.Pod.{AreElements, IsArray, IsBody, least_count, values_taken}
+use Rattle.spa_format.specs.Pod.{IsBody, least_count}
 use Rattle.spa_format.specs.Front.{Begins, HasFront, IsRefused, rest_of}
 use Rattle.spa_format.specs.Typed.{IsBytes}
 use Rattle.spa_format.specs.Faults.{Fault, Short, Text, InvalidType, InvalidChoiceType, MissingChoiceValues, WrongSize, IsInvalidType, of_elements, IsWrongArray, IsWrongSize, of_fixed, of_choice, of_pointer, LacksValues, StandsAtFront, at_front, choice_header_size}
@@ -28,7 +27,8 @@ use Rattle.spa_format.proofs.Shapes.{object_only, struct_only}
 use Rattle.spa_rewrite.specs.Look.{AreCanonicalInside, IsNoLeaf, Stops, StopsAt}
 use Rattle.spa_events.specs.Inside.{IsBehindKey, IsContainer, key_size}
 use Rattle.spa_rewrite.specs.Offsets.{StandsAt, at_key, at_pod, from_properties, scope_of}
-use Rattle.spa_rewrite.proofs.Bodies.{fewer, listed}
+use Rattle.spa_scan.proofs.Parts.{shape_of}
+use Rattle.spa_rewrite.proofs.Bodies.{fewer, values_there}
 use Rattle.spa_rewrite.proofs.Looks.{Awaits, first_own, stands_first}
 use Rattle.spa_rewrite.proofs.Offsets.{key_long, offset_first}
 use Rattle.spa_rewrite.proofs.LeafBodies.{leaf_depth, never, some_key}
@@ -282,46 +282,6 @@ wrong_choice body k h t some w =
     no_remainder : (n many s : ℕ) → 0 < s → n ≡ many * s → n % s ≡ 0
     no_remainder n many s p e = ap (λ m. m % s) e ∙ mul-mod_left many s
 
--- a shape that there is
-pub shape_of : (n : ℕ) → n < 5 → (s : Shape) × (n ≡ shape_number s)
-shape_of zero l = (none_choice, refl)
-shape_of (suc zero) l = (range_choice, refl)
-shape_of (suc (suc zero)) l = (step_choice, refl)
-shape_of (suc (suc (suc zero))) l = (enum_choice, refl)
-shape_of (suc (suc (suc (suc zero)))) l = (flags_choice, refl)
-shape_of (suc (suc (suc (suc (suc n))))) l = absurd (omega arith)
-
-some_least : (s : Shape) → 0 < least_count s
-some_least none_choice = omega arith
-some_least range_choice = omega arith
-some_least step_choice = omega arith
-some_least enum_choice = omega arith
-some_least flags_choice = omega arith
-
--- the body of a choice with enough values
-choice_there : (body : List ℕ) (s : Shape) (k : Kind) (many : ℕ) → choice_header_size ≤ length body → word_at body 0 ≡ shape_number s →
-    word_at body 8 ≡ body_size k → word_at body 12 ≡ type_number k → 0 < body_size k → length body - 16 ≡ many * body_size k → least_count s ≤ many →
-    (v : Tree) × (type_of v ≡ choice_type) × IsBody v body
-choice_there body s k many h w c t some e enough =
-    let d = length-drop 16 body in
-    let l = listed k many (drop 16 body) some (d ∙ e) in
-    of_values l.values l.its_values l.count
-  where
-    of_values : (xs : List Fixed) → AreElements k xs (drop 16 body) → length xs ≡ many → (v : Tree) × (type_of v ≡ choice_type) × IsBody v body
-    of_values [] a n = absurd (let p = some_least s in omega arith)
-    of_values (x ∷ xs) a n =
-        let d = length-drop 8 body in
-        let array : IsArray k (x ∷ xs) (drop 8 body) = record {
-          header = omega arith;
-          child_size = word_at-drop 8 0 body ∙ c;
-          child_type = word_at-drop 8 4 body ∙ t;
-          elements = subst (AreElements k (x ∷ xs)) (sym (drop-drop 8 8 body)) a;
-        } in (
-          choice s (kept_flags s (word_at body 4)) k x (values_taken s xs),
-          refl,
-          record { header = omega arith; shape = w; flags = refl; all = xs; values = array; enough = omega arith; first = refl },
-        )
-
 -- too few of them
 pub few_values : (body : List ℕ) (k : Kind) → choice_header_size ≤ length body → word_at body 0 < 5 → word_at body 8 ≡ body_size k →
     word_at body 12 ≡ type_number k → 0 < body_size k → (length body - 16) % body_size k ≡ 0 →
@@ -341,8 +301,8 @@ few_values body k h w c t some m n =
         | inl l ↦ l
         | inr l ↦
             let room : least_count s.0 * body_size k ≤ many * body_size k = omega arith in
-            let v = choice_there body s.0 k many h s.1 c t some all (fewer (least_count s.0) many (body_size k) room some) in
-            absurd (n v.0 v.1 v.2)
+            let v = values_there s.0 k many body h s.1 c t some all (fewer (least_count s.0) many (body_size k) room some) in
+            absurd (n (choice v.shape (kept_flags v.shape (word_at body 4)) v.kind v.default v.values) refl v.its_choice)
       ];
     }
   where

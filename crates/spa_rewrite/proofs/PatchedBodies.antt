@@ -1,17 +1,16 @@
 -- Pods without members that become their rewritings where they lie.
-use Rattle.std.proofs.Common.{◌≡◌, ◌≢◌, ℕ, suc, ◌+◌, ◌-◌, ◌*◌, ◌%◌, ◌<◌, ◌≤◌, inl, inr, List, [], ◌∷◌, ◌++◌, length, drop, take, refl, sym, ap, ◌∙◌, subst, arith, append_assoc, length-append, length-drop}
+use Rattle.std.proofs.Common.{◌≡◌, ◌≢◌, ℕ, ◌+◌, ◌-◌, ◌*◌, ◌%◌, ◌<◌, ◌≤◌, inl, inr, List, [], ◌∷◌, ◌++◌, length, drop, take, refl, sym, ap, ◌∙◌, subst, arith, append_assoc, length-append, length-drop}
 use Rattle.std.specs.Prelude.{Bool, replicate}
-use Rattle.std.proofs.Math.Nat.{mul-le-mul_right}
 use Rattle.std.proofs.Math.Seq.{take-add}
 use Rattle.std.proofs.lemmas.Bool.{cases_lt}
 use Rattle.std.proofs.lemmas.List.{append-nil, drop-drop, drop-take, length-take-le, nil_from_length, take-append-drop, take-take, take_all, take_at, drop_at}
 use Rattle.std.proofs.lemmas.Slice.{take-put_mid, take-put_mid_below}
 use borrow.Rule.Slice.PartMut.{put_mid}
-use Rattle.spa_format.specs.Words.{padded_size, padding, wide_at, wide_bytes, word_at, word_bytes}
-use Rattle.spa_format.specs.Kind.{Fixed, IsFixedBody, Kind, body_size, bool, bool_kind, content, fixed_body, kind_of, type_number}
-use Rattle.spa_format.specs.Tree.{Shape, none_choice, range_choice, step_choice, enum_choice, flags_choice, Tree, array, array_type, bitmap, bytes, choice, choice_type, fixed, object, object_type, pointer, pointer_type, shape_number, string, struct, struct_type, type_of}
+use Rattle.spa_format.specs.Words.{extent, padded_size, padding, wide_at, wide_bytes, word_at, word_bytes}
+use Rattle.spa_format.specs.Kind.{IsFixedBody, body_size, bool, bool_kind, content, fixed_body, kind_of, type_number}
+use Rattle.spa_format.specs.Tree.{Shape, Tree, array, array_type, bitmap, bytes, choice, choice_type, fixed, object, object_type, pointer, pointer_type, shape_number, string, struct, struct_type, type_of}
 use Rattle.spa_format.specs.Normal.{kept_flags}
-use Rattle.spa_format.specs.Pod.{AreElements, IsArray, IsBody, IsChoice, IsPod, IsPointer, least_count, values_taken}
+use Rattle.spa_format.specs.Pod.{AreElements, IsArray, IsBody, IsChoice, IsPod, IsPointer}
 use Rattle.spa_format.specs.Encoding.{array_body, encoded_body, encoding_of, fixed_bodies, encoded_pod}
 use Rattle.spa_format.specs.Typed.{IsBytes}
 use Rattle.spa_format.proofs.Choices.{same_pointer}
@@ -19,14 +18,15 @@ use Rattle.spa_format.proofs.Elements.{array_length, length_of_elements, same_el
 use Rattle.spa_format.proofs.Encodings.{length-word_bytes, pointer_encoding}
 use Rattle.spa_format.proofs.FixedKinds.{fixed_length, same_kind}
 use Rattle.spa_format.proofs.Shapes.{array_only, choice_only, fixed_only, pointer_only}
-use Rattle.spa_format.proofs.Short.{length-encoded_pod, padded_above}
+use Rattle.spa_format.proofs.Short.{padded_above}
 use Rattle.spa_format.proofs.WordLemmas.{IsBytes-drop, IsBytes-take, wide_at-drop, word_at-drop, word_at-take}
 use Rattle.spa_scan.proofs.Words.{content_kept}
-use Rattle.spa_scan.specs.Canonical.{AreCanonicalElements}
+use Rattle.spa_scan.specs.Canonical.{AreCanonicalElements, bytes_taken}
 use Rattle.spa_scan.proofs.Parts.{no_elements, whole_elements}
 use Rattle.spa_rewrite.specs.Elements.{AreTruths}
-use Rattle.spa_rewrite.specs.Patched.{IsPatched, IsPodOf, TakesValues, TurnsWritten, bytes_taken}
-use Rattle.spa_rewrite.proofs.Bodies.{choice_parts, first_elements}
+use Rattle.spa_rewrite.specs.Patched.{IsPatched, IsPodOf, TurnsWritten}
+use Rattle.spa_rewrite.specs.Placed.{TakesValues}
+use Rattle.spa_rewrite.proofs.Bodies.{choice_parts, enough_bytes, taken_elements}
 use Rattle.spa_rewrite.proofs.Patches.{behind_bytes, pod_again, front_bytes, length_put, says_body, two_words_of}
 
 -- types whose bodies are written as they lie
@@ -214,32 +214,16 @@ array_patched pod els new number size k h p big z w t len e = λ v pd long.
     array_parts : (a b c d : List ℕ) → ((a ++ b) ++ c) ++ d ≡ a ++ ((b ++ c) ++ d)
     array_parts a b c d = simp append_assoc
 
--- the values that a choice takes are in its first bytes
-taken_first : (s : Shape) (k : Kind) (x : Fixed) (all : List Fixed) (b : List ℕ) (m n : ℕ) → AreElements k (x ∷ all) b →
-    values_taken s all ≡ take m all → n ≡ suc m * body_size k → AreElements k (x ∷ values_taken s all) (take n b)
-taken_first s k x all b m n h e c =
-    subst (λ l. AreElements k (x ∷ l) (take n b)) (sym e)
-    (subst (λ i. AreElements k (x ∷ take m all) (take i b)) (sym c) (first_elements k (suc m) (x ∷ all) b h))
-
-pub taken_elements : (s : Shape) (k : Kind) (x : Fixed) (all : List Fixed) (b : List ℕ) → AreElements k (x ∷ all) b →
-    AreElements k (x ∷ values_taken s all) (take (bytes_taken s (body_size k) (length b)) b)
-taken_elements none_choice k x all b h = taken_first none_choice k x all b 0 (body_size k) h refl (omega arith)
-taken_elements range_choice k x all b h = taken_first range_choice k x all b 2 (3 * body_size k) h refl (omega arith)
-taken_elements step_choice k x all b h = taken_first step_choice k x all b 3 (4 * body_size k) h refl (omega arith)
-taken_elements enum_choice k x all b h = subst (AreElements k (x ∷ all)) (sym (take_all (length b) b (omega arith))) h
-taken_elements flags_choice k x all b h = subst (AreElements k (x ∷ all)) (sym (take_all (length b) b (omega arith))) h
-
--- a choice
-pub choice_patched : (pod first els new : List ℕ) (number size n k shape flags child : ℕ) → IsBytes new → IsPodOf pod choice_type size →
-    16 ≤ size → shape ≡ word_at pod 8 → child ≡ word_at pod 16 →
-    ((s : Shape) → shape ≡ shape_number s → n ≡ bytes_taken s child (size - 16)) → n ≤ size - 16 → number ≡ word_at pod 20 →
-    ((s : Shape) → shape ≡ shape_number s → flags ≡ kept_flags s (word_at pod 12)) →
+-- a choice without its surplus values
+pub values_placed : (old first els new : List ℕ) (number n k shape flags : ℕ) → IsBytes new → number ≡ word_at old 20 →
+    ((s : Shape) → shape ≡ shape_number s → flags ≡ kept_flags s (word_at old 12)) →
     first ≡ (word_bytes (16 + n) ++ word_bytes choice_type) ++ (word_bytes shape ++ word_bytes flags) → k ≡ n →
-    TurnsWritten number (take k (drop 24 (first ++ drop 16 pod))) els →
-    length els ≡ length (take k (drop 24 (first ++ drop 16 pod))) →
-    new ≡ take (8 + (16 + n)) (put_mid 24 k (first ++ drop 16 pod) els)
-    ++ replicate (length (put_mid 24 k (first ++ drop 16 pod) els) - (8 + (16 + n))) 0 → IsPatched pod new
-choice_patched pod first els new number size n k shape flags child h p big w8 w16 taken room w20 kept fe kn t len e = λ v pd long.
+    TurnsWritten number (take k (drop 24 (first ++ drop 16 old))) els →
+    length els ≡ length (take k (drop 24 (first ++ drop 16 old))) →
+    new ≡ take (8 + (16 + n)) (put_mid 24 k (first ++ drop 16 old) els)
+    ++ replicate (length (put_mid 24 k (first ++ drop 16 old) els) - (8 + (16 + n))) 0 → TakesValues shape n old new
+values_placed old first els new number n k shape flags h w20 kept fe kn t len e = λ pod size p is room w8 taken v pd.
+    let end = extent (16 + n) in
     let b = says_body pod choice_type size v p pd in
     let o = choice_only v b.its_type in
     let body = take size (drop 8 pod) in
@@ -252,16 +236,19 @@ choice_patched pod first els new number size n k shape flags child h p big w8 w1
     let values : drop 8 (drop 8 body) ≡ take (size - 16) (drop 24 pod) =
     ap (drop 8) inside ∙ ap (λ m. drop 8 (take m (drop 16 pod))) (let m : size - 8 ≡ 8 + (size - 16) = omega arith in m)
     ∙ drop-take 8 (size - 16) (drop 16 pod) ∙ ap (take (size - 16)) (drop-drop 8 16 pod) in
+    let g = p.long in
+    let u = padded_above size in
+    let u' = padded_above (16 + n) in
+    let lo = ap length is ∙ length-take-le end pod (omega arith) in
+    let low = λ (i : ℕ) (r : i + 4 ≤ end). ap (λ x. word_at x i) is ∙ word_at-take end i pod r in
     let at = λ (i : ℕ) (r : i + 4 ≤ size). word_at-take size i (drop 8 pod) r ∙ word_at-drop 8 i pod in
     let inner = λ (i : ℕ) (r : i + 4 ≤ size - 8). ap (λ x. word_at x i) inside ∙ word_at-take (size - 8) i (drop 16 pod) r ∙ word_at-drop 16 i pod in
     let shape_is : shape ≡ shape_number s = w8 ∙ sym (at 0 (omega arith)) ∙ its.shape in
-    let flags_is : flags ≡ o.1 = kept s shape_is ∙ ap (kept_flags s) (sym (at 4 (omega arith))) ∙ sym its.flags in
-    let child_is : child ≡ body_size j = w16 ∙ sym (inner 0 (omega arith)) ∙ its.values.child_size in
-    let number_is : number ≡ type_number j = w20 ∙ sym (inner 4 (omega arith)) ∙ its.values.child_type in
-    let g = p.long in
-    let u = padded_above size in
+    let flags_is : flags ≡ o.1 = kept s shape_is ∙ ap (kept_flags s) (low 12 (omega arith) ∙ sym (at 4 (omega arith))) ∙ sym its.flags in
+    let child_is : word_at pod 16 ≡ body_size j = sym (inner 0 (omega arith)) ∙ its.values.child_size in
+    let number_is : number ≡ type_number j = w20 ∙ low 20 (omega arith) ∙ sym (inner 4 (omega arith)) ∙ its.values.child_type in
     let d24 = length-drop 24 pod in
-    let d16 = length-drop 16 pod in
+    let d16 = length-drop 16 old in
     let c = take (size - 16) (drop 24 pod) in
     let many : length c ≡ size - 16 = length-take-le (size - 16) (drop 24 pod) (omega arith) in
     let n_is : n ≡ bytes_taken s (body_size j) (length c) =
@@ -279,32 +266,35 @@ choice_patched pod first els new number size n k shape flags child h p big w8 w1
     let m5 = length-word_bytes shape in
     let m6 = length-word_bytes flags in
     let sixteen : length first ≡ 16 = omega arith in
-    let part = first ++ drop 16 pod in
-    let behind : drop 24 part ≡ drop 24 pod =
-    sym (drop-drop 8 16 part) ∙ ap (drop 8) (drop_at first (drop 16 pod) 16 sixteen) ∙ drop-drop 8 16 pod in
-    let old : take k (drop 24 part) ≡ take n c = ap (take k) behind ∙ ap (λ m. take m (drop 24 pod)) kn ∙ sym (take-take n (size - 16) (drop 24 pod) room) in
-    let written : els ≡ fixed_bodies xs = t j xs number_is (subst (AreElements j xs) (sym old) all) in
+    let part = first ++ drop 16 old in
+    let behind : drop 24 part ≡ take (end - 24) (drop 24 pod) =
+    sym (drop-drop 8 16 part) ∙ ap (drop 8) (drop_at first (drop 16 old) 16 sixteen) ∙ drop-drop 8 16 old
+    ∙ ap (drop 24) (is ∙ ap (λ m. take m pod) (let m : end ≡ 24 + (end - 24) = omega arith in m)) ∙ drop-take 24 (end - 24) pod in
+    let there : take k (drop 24 part) ≡ take n c =
+    ap (take k) behind ∙ take-take k (end - 24) (drop 24 pod) (omega arith) ∙ ap (λ m. take m (drop 24 pod)) kn
+    ∙ sym (take-take n (size - 16) (drop 24 pod) (omega arith)) in
+    let written : els ≡ fixed_bodies xs = t j xs number_is (subst (AreElements j xs) (sym there) all) in
     let count : length (take n c) ≡ n = length-take-le n c (omega arith) in
-    let l : length els ≡ k = len ∙ ap length old ∙ count ∙ sym kn in
-    let lp = length-append first (drop 16 pod) in
+    let l : length els ≡ k = len ∙ ap length there ∙ count ∙ sym kn in
+    let lp = length-append first (drop 16 old) in
     let whole = put_mid 24 k part els in
     let same = length_put 24 k part els (omega arith) l in
-    let front : take 24 part ≡ first ++ take 8 (drop 16 pod) =
-    take-add 16 8 part ∙ ap (λ y. y ++ take 8 (drop 16 part)) (take_at first (drop 16 pod) 16 sixteen)
-    ∙ ap (λ y. first ++ take 8 y) (drop_at first (drop 16 pod) 16 sixteen) in
+    let front : take 24 part ≡ first ++ take 8 (drop 16 old) =
+    take-add 16 8 part ∙ ap (λ y. y ++ take 8 (drop 16 part)) (take_at first (drop 16 old) 16 sixteen)
+    ∙ ap (λ y. first ++ take 8 y) (drop_at first (drop 16 old) 16 sixteen) in
     let start : take (8 + (16 + n)) whole ≡ take 24 part ++ els = take-put_mid 24 k part els (8 + (16 + n)) (omega arith) (omega arith) in
     let rest : List ℕ = replicate (length whole - (8 + (16 + n))) 0 in
-    let w = take 8 (drop 16 pod) in
-    let eight : length w ≡ 8 = length-take-le 8 (drop 16 pod) (omega arith) in
+    let w = take 8 (drop 16 old) in
+    let eight : length w ≡ 8 = length-take-le 8 (drop 16 old) (omega arith) in
     let new_is : new ≡ first ++ (w ++ (els ++ rest)) =
     e ∙ ap (λ y. y ++ rest) (start ∙ ap (λ y. y ++ els) front) ∙ four_parts first w els rest in
     let bytes : IsBytes w =
     subst IsBytes (ap (λ y. take 8 (drop 16 y)) new_is ∙ ap (take 8) (drop_at first (w ++ (els ++ rest)) 16 sixteen) ∙ take_at w (els ++ rest) 8 eight)
     (IsBytes-take 8 (drop 16 new) (IsBytes-drop 16 new h)) in
-    let words : take 8 (drop 16 pod) ≡ word_bytes (body_size j) ++ word_bytes (type_number j) =
-    two_words_of (drop 16 pod) bytes (omega arith)
-    ∙ ap (λ m. word_bytes m ++ word_bytes (word_at (drop 16 pod) 4)) (word_at-drop 16 0 pod ∙ sym w16 ∙ child_is)
-    ∙ ap (λ m. word_bytes (body_size j) ++ word_bytes m) (word_at-drop 16 4 pod ∙ sym w20 ∙ number_is) in
+    let words : take 8 (drop 16 old) ≡ word_bytes (body_size j) ++ word_bytes (type_number j) =
+    two_words_of (drop 16 old) bytes (omega arith)
+    ∙ ap (λ m. word_bytes m ++ word_bytes (word_at (drop 16 old) 4)) (word_at-drop 16 0 old ∙ low 16 (omega arith) ∙ child_is)
+    ∙ ap (λ m. word_bytes (body_size j) ++ word_bytes m) (word_at-drop 16 4 old ∙ sym w20 ∙ number_is) in
     let body_is = word_bytes (shape_number s) ++ (word_bytes o.1 ++ array_body j xs) in
     let a0 = length-append (word_bytes (shape_number s)) (word_bytes o.1 ++ array_body j xs) in
     let a1 = length-append (word_bytes o.1) (array_body j xs) in
@@ -313,19 +303,14 @@ choice_patched pod first els new number size n k shape flags child h p big w8 w1
     let a4 = array_length j xs in
     let a5 = ap length written in
     let size_is : length body_is ≡ 16 + n = omega arith in
-    let padded : padded_size (16 + n) ≡ padded_size size =
-    let f = ap (λ x. length (encoding_of x)) (sym o.5) ∙ long in
-    let q = length-encoded_pod choice_type body_is in
-    let r = ap padded_size size_is in
-    omega arith in
     let zeros : replicate (length whole - (8 + (16 + n))) 0 ≡ padding (16 + n) =
     ap (λ m. replicate m 0) (let m : length whole - (8 + (16 + n)) ≡ padded_size (16 + n) - (16 + n) = omega arith in m) in
     let first_is : first ≡ (word_bytes (16 + n) ++ word_bytes choice_type) ++ (word_bytes (shape_number s) ++ word_bytes o.1) =
     fe ∙ ap (λ y. (word_bytes (16 + n) ++ word_bytes choice_type) ++ (word_bytes y ++ word_bytes flags)) shape_is
     ∙ ap (λ y. (word_bytes (16 + n) ++ word_bytes choice_type) ++ (word_bytes (shape_number s) ++ word_bytes y)) flags_is in
     let head = (word_bytes (16 + n) ++ word_bytes choice_type) ++ (word_bytes (shape_number s) ++ word_bytes o.1) in
-    e ∙ ap (λ y. y ++ replicate (length whole - (8 + (16 + n))) 0) (start ∙ ap (λ y. y ++ els) (front ∙ ap (λ y. y ++ take 8 (drop 16 pod)) first_is))
-    ∙ ap (λ y. ((head ++ take 8 (drop 16 pod)) ++ els) ++ y) zeros
+    e ∙ ap (λ y. y ++ replicate (length whole - (8 + (16 + n))) 0) (start ∙ ap (λ y. y ++ els) (front ∙ ap (λ y. y ++ take 8 (drop 16 old)) first_is))
+    ∙ ap (λ y. ((head ++ take 8 (drop 16 old)) ++ els) ++ y) zeros
     ∙ ap (λ y. ((head ++ y) ++ els) ++ padding (16 + n)) words
     ∙ ap (λ y. ((head ++ (word_bytes (body_size j) ++ word_bytes (type_number j))) ++ y) ++ padding (16 + n)) written
     ∙ four_parts head (word_bytes (body_size j) ++ word_bytes (type_number j)) (fixed_bodies xs) (padding (16 + n))
@@ -336,23 +321,6 @@ choice_patched pod first els new number size n k shape flags child h p big w8 w1
   where
     four_parts : (a b c d : List ℕ) → ((a ++ b) ++ c) ++ d ≡ a ++ (b ++ (c ++ d))
     four_parts a b c d = simp append_assoc
-
--- a choice whose first words are written anew, whatever they were
-pub values_patched : (old first els new : List ℕ) (number n k shape flags : ℕ) → IsBytes new → number ≡ word_at old 20 →
-    ((s : Shape) → shape ≡ shape_number s → flags ≡ kept_flags s (word_at old 12)) →
-    first ≡ (word_bytes (16 + n) ++ word_bytes choice_type) ++ (word_bytes shape ++ word_bytes flags) → k ≡ n →
-    TurnsWritten number (take k (drop 24 (first ++ drop 16 old))) els →
-    length els ≡ length (take k (drop 24 (first ++ drop 16 old))) →
-    new ≡ take (8 + (16 + n)) (put_mid 24 k (first ++ drop 16 old) els)
-    ++ replicate (length (put_mid 24 k (first ++ drop 16 old) els) - (8 + (16 + n))) 0 → TakesValues shape n old new
-values_patched old first els new number n k shape flags h w20 kept fe kn t len e = λ pod size p same big room w8 taken.
-    let behind : drop 16 pod ≡ drop 16 old = sym (drop-drop 8 8 pod) ∙ ap (drop 8) same ∙ drop-drop 8 8 old in
-    let at = λ (i : ℕ). sym (word_at-drop 8 i pod) ∙ ap (λ x. word_at x i) same ∙ word_at-drop 8 i old in
-    choice_patched pod first els new number size n k shape flags (word_at pod 16) h p big w8 refl taken room (w20 ∙ sym (at 12))
-    (λ s q. kept s q ∙ ap (kept_flags s) (sym (at 4))) fe kn
-    (subst (λ z. TurnsWritten number (take k (drop 24 (first ++ z))) els) (sym behind) t)
-    (len ∙ ap (λ z. length (take k (drop 24 (first ++ z)))) (sym behind))
-    (e ∙ ap (λ z. take (8 + (16 + n)) (put_mid 24 k (first ++ z) els) ++ replicate (length (put_mid 24 k (first ++ z) els) - (8 + (16 + n))) 0) (sym behind))
 
 -- pods of a size that their type doesn't have
 pub no_bool : (pod : List ℕ) (size : ℕ) → IsPodOf pod (type_number bool_kind) size → size ≢ 4 → IsPatched pod pod
@@ -409,15 +377,9 @@ no_few_values pod size n shape child p big w8 w16 taken less v pd =
     let d2 = length-drop 8 body in
     let l = b.long in
     let room : length (o.3 ∷ its.all) * body_size o.2 ≡ size - 16 = omega arith in
-    absurd (enough_room o.0 n (size - 16) child (body_size o.2) (length (o.3 ∷ its.all)) (taken o.0 shape_is) child_is its.enough (sym room) less)
-  where
-    enough_room : (s : Shape) (n all child c many : ℕ) → n ≡ bytes_taken s child all → child ≡ c → least_count s ≤ many →
-        all ≡ many * c → ¬ (all < n)
-    enough_room none_choice n all child c many t e f r less = let m = mul-le-mul_right c f in omega arith
-    enough_room range_choice n all child c many t e f r less = let m = mul-le-mul_right c f in omega arith
-    enough_room step_choice n all child c many t e f r less = let m = mul-le-mul_right c f in omega arith
-    enough_room enum_choice n all child c many t e f r less = omega arith
-    enough_room flags_choice n all child c many t e f r less = omega arith
+    let n_is = taken o.0 shape_is ∙ ap (λ c. bytes_taken o.0 c (size - 16)) child_is in
+    let enough = (enough_bytes o.0 (body_size o.2) (length (o.3 ∷ its.all)) (size - 16) (sym room) its.values.elements.0 its.enough).1 in
+    absurd (omega arith)
 
 -- what a pod says of an address
 pub short_address : (pod : List ℕ) (a size : ℕ) → IsPodOf pod pointer_type size → size ≡ 12 → a ≡ word_at pod 16 →

@@ -1,8 +1,6 @@
 -- Pods that become their rewritings where they lie.
-use Rattle.std.proofs.Common.{◌≡◌, ℕ, ◌+◌, ◌-◌, ◌*◌, ◌≤◌, List, ◌++◌, length, drop, take, sym, ap, ◌∙◌, subst, arith, append_assoc, length-append, length-drop}
-use Rattle.std.specs.Prelude.{replicate}
-use Rattle.std.proofs.Math.Seq.{take-append-add}
-use Rattle.std.proofs.lemmas.List.{append-nil, drop-take, length-replicate, length-take-le, nil_from_length, replicate-append-replicate, take-append-le, take-replicate, take-take}
+use Rattle.std.proofs.Common.{◌≡◌, ℕ, ◌+◌, ◌≤◌, List, ◌++◌, length, drop, take, sym, ap, ◌∙◌, subst, arith, append_assoc, length-append, length-drop}
+use Rattle.std.proofs.lemmas.List.{drop-take, length-take-le, take-take}
 use borrow.Rule.Slice.PartMut.{put_mid}
 use Rattle.spa_format.specs.Words.{padding, word_at, word_bytes}
 use Rattle.spa_format.specs.Tree.{Tree, type_of}
@@ -46,31 +44,6 @@ length_put a k xs ys l e =
     let e3 = length-drop a xs in
     let e4 = length-drop k (drop a xs) in
     omega arith
-
--- what was put behind a place, to the end
-pub put_end : (at k : ℕ) (xs ys : List ℕ) → k ≡ length xs - at → put_mid at k xs ys ≡ take at xs ++ ys
-put_end at k xs ys e =
-    let d = length-drop at xs in
-    let f = length-drop k (drop at xs) in
-    ap (λ z. take at xs ++ (ys ++ z)) (nil_from_length (drop k (drop at xs)) (omega arith)) ∙ ap (λ z. take at xs ++ z) (append-nil ys)
-
--- zeros at both ends of what stands from a place on, which meet
-pub ends_cleared : (xs a b : List ℕ) (w from k at m : ℕ) → from + w ≤ length xs → length xs ≤ from + 2 * w → a ≡ replicate w 0 → b ≡ replicate w 0 →
-    k ≡ w → at ≡ length xs - w → m ≡ length (put_mid from k xs a) - at →
-    put_mid at m (put_mid from k xs a) b ≡ take from xs ++ replicate (length xs - from) 0
-ends_cleared xs a b w from k at m once twice ea eb ek eat em =
-    let rest = drop k (drop from xs) in
-    let front = length-take-le from xs (omega arith) in
-    let many : length a ≡ w = ap length ea ∙ length-replicate w 0 in
-    let more = at - from in
-    let there : at ≡ length (take from xs) + more = omega arith in
-    let zeros : take at (put_mid from k xs a) ≡ take from xs ++ replicate more 0 =
-    ap (λ i. take i (put_mid from k xs a)) there ∙ take-append-add (take from xs) (a ++ rest) more
-    ∙ ap (λ z. take from xs ++ z) (take-append-le more a rest (omega arith) ∙ ap (take more) ea ∙ take-replicate more w 0 (omega arith)) in
-    let all : more + w ≡ length xs - from = omega arith in
-    put_end at m (put_mid from k xs a) b em ∙ ap (λ z. z ++ b) zeros ∙ append_assoc (take from xs) (replicate more 0) b
-    ∙ ap (λ z. take from xs ++ (replicate more 0 ++ z)) eb
-    ∙ ap (λ z. take from xs ++ z) (replicate-append-replicate more w 0 ∙ ap (λ n. replicate n 0) all)
 
 -- what a pod says of its body
 pub record SaysBody (pod : List ℕ) (type size : ℕ) (v : Tree) : Type 0 where

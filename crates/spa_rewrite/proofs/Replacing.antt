@@ -2,7 +2,7 @@
 use Rattle.std.proofs.Common.{◌≡◌, ◌≢◌, ℕ, ◌+◌, ◌-◌, ◌^◌, ◌<◌, ◌≤◌, ◌%◌, List, [], ◌++◌, length, drop, take, refl, sym, ap, ◌∙◌, subst, arith, append_assoc, length-drop}
 use Rattle.std.specs.Prelude.{Bool, replicate, true, false}
 use Rattle.std.proofs.Math.Seq.{take-add}
-use Rattle.std.proofs.lemmas.List.{drop-drop, drop_at, length-take-le, take-append-le, take_all, take_at}
+use Rattle.std.proofs.lemmas.List.{drop-drop, drop_at, length-take-le, take-append-le, take_all, take_at, take_rest}
 use Rattle.std.proofs.lemmas.Slice.{drop-put_mid}
 use borrow.Rule.Slice.PartMut.{put_mid}
 use Rattle.spa_format.specs.Words.{body_of, extent, word_at}
@@ -56,9 +56,6 @@ opened_at b body rest type size o z =
       };
     }
 
-pub encodes_none : (keyed : Bool) (old : List ℕ) → EncodesFirst keyed old old 0 0
-encodes_none keyed old = record { ends = λ others q. q; behind = refl; long = refl; order = omega arith; within = omega arith; whole = refl }
-
 -- one pod more
 pub encodes_more : (keyed : Bool) (old now sub body rest : List ℕ) (at here next type size k len kept : ℕ) → EncodesFirst keyed old now at at → IsBytes now →
     here ≡ at + key_size keyed → here ≤ length now → Opens (drop here now) type body rest → size ≡ length body → next ≡ length now - length rest →
@@ -105,15 +102,6 @@ encodes_more keyed old now sub body rest at here next type size k len kept e y h
       whole = omega arith;
     }
 
-pub pod_is : (now body rest : List ℕ) (here next type size k : ℕ) → here ≤ length now → Opens (drop here now) type body rest →
-    size ≡ length body → next ≡ length now - length rest → k ≡ next - here → IsPodOf (take k (drop here now)) type size
-pod_is now body rest here next type size k r o z f g =
-    let is = opened_at (drop here now) body rest type size o z in
-    let w = is.whole in
-    let d = length-drop here now in
-    let n : k ≡ extent size = omega arith in
-    subst (λ m. IsPodOf (take m (drop here now)) type size) (sym n) is.its
-
 -- a word becomes its rewriting
 word_number : (n : ℕ) → n ≢ 2 → n < 8 → IsUnpatchedType n
 word_number n m l = record {
@@ -137,7 +125,7 @@ word_kind rectangle_kind s n = absurd (omega (arith, s))
 word_kind fraction_kind s n = absurd (omega (arith, s))
 word_kind fd_kind s n = absurd (omega (arith, s))
 
-pub word_opens : (input : List ℕ) → BeginsWord input → Opens input (word_at input 4) (body_of input) (drop 16 input)
+word_opens : (input : List ℕ) → BeginsWord input → Opens input (word_at input 4) (body_of input) (drop 16 input)
 word_opens input w =
     let l = w.long in
     let n = w.its_size in
@@ -161,123 +149,132 @@ word_placed c pod k w x p y = λ v q.
     let four : length (body_of c) ≡ 4 = length-body_of c o.there ∙ w.its_size in
     let l = w.long in
     let t = w.its_type in
-    let kept : IsUnpatchedType (word_at c 4) = subst IsUnpatchedType (sym t.1) (word_kind t.0 t.2 t.3) in
+    let kept : IsUnpatchedType (word_at c 4) = subst IsUnpatchedType (sym t.1) (word_kind t.0 (sym t.2) (λ e. w.other (t.1 ∙ ap type_number e))) in
     let is = opened_at c (body_of c) (drop 16 c) (word_at c 4) 4 o (sym four) in
     let its : IsPodOf (take k c) (word_at c 4) 4 = subst (λ m. IsPodOf (take m c) (word_at c 4) 4) (let e : extent 4 ≡ k = omega arith in e) is.its in
     unpatched_body (take k c) pod (word_at c 4) 4 y its kept p v q
     (leaf_long (take k c) (word_at c 4) 4 v its (record { no_choice = kept.no_choice; no_struct = kept.no_struct; no_object = kept.no_object }) q)
 
--- what runs over words keep
-pub record RunsOn (keyed : Bool) (was now : List ℕ) (from at : ℕ) : Type 0 where
-  pub within : at ≤ length now
-  pub further : from ≤ at
-  pub long : length now ≡ length was
-  pub bytes : IsBytes now
-  pub on : (old : List ℕ) → EncodesFirst keyed old was from from → EncodesFirst keyed old now at at
+pub key_small : (keyed : Bool) → key_size keyed ≤ 8
+key_small true = omega arith
+key_small false = omega arith
 
-pub runs_from : (keyed : Bool) (was : List ℕ) (from : ℕ) → from ≤ length was → IsBytes was → RunsOn keyed was was from from
-runs_from keyed was from l y = record { within = l; further = omega arith; long = refl; bytes = y; on = λ old h. h }
-
-pub runs_further : (keyed : Bool) (was now pod : List ℕ) (from at here next k : ℕ) → RunsOn keyed was now from at → here ≡ at + key_size keyed →
-    here ≤ length now → BeginsWord (drop here now) → next ≡ here + 16 → k ≡ 16 →
-    pod ≡ take (8 + 4) (take k (drop here now)) ++ replicate (length (take k (drop here now)) - (8 + 4)) 0 →
-    length pod ≡ length (take k (drop here now)) → IsBytes (put_mid here k now pod) → RunsOn keyed was (put_mid here k now pod) from next
-runs_further keyed was now pod from at here next k r e l w x z p long y =
+-- one word more
+pub word_replaced : (keyed : Bool) (old now pod : List ℕ) (at key k : ℕ) → EncodesFirst keyed old now at at → IsBytes now → key ≡ key_size keyed →
+    8 ≤ length now - at → BeginsWord (take (length now - (at + key)) (drop (at + key) now)) → k ≡ 16 →
+    pod ≡ take (8 + 4) (take k (drop (at + key) now)) ++ replicate (length (take k (drop (at + key) now)) - (8 + 4)) 0 →
+    length pod ≡ length (take k (drop (at + key) now)) → IsBytes (put_mid (at + key) k now pod) →
+    EncodesFirst keyed old (put_mid (at + key) k now pod) (at + key + 16) (at + key + 16)
+word_replaced keyed old now pod at key k e y h r begins z p long b =
+    let here = at + key in
+    let small = key_small keyed in
+    let l : here ≤ length now = omega arith in
     let c = drop here now in
+    let w : BeginsWord c = subst BeginsWord (take_rest now here) begins in
     let s = w.long in
     let d = length-drop here now in
-    let f = r.further in
     let o = word_opens c w in
     let four : length (body_of c) ≡ 4 = length-body_of c o.there ∙ w.its_size in
     let d16 = length-drop 16 c in
-    let follows : next ≡ length now - length (drop 16 c) = omega arith in
-    let g : k ≡ next - here = omega arith in
     let count : length pod ≡ k = long ∙ length-take-le k c (omega arith) in
-    let same = length_put here k now pod (omega arith) count in
     let others = drop k c in
     let back : drop here (put_mid here k now pod) ≡ pod ++ others = drop_at (take here now) (pod ++ others) here (length-take-le here now l) in
     let bytes : IsBytes pod =
     subst IsBytes (ap (take (length pod)) back ∙ take_at pod others (length pod) refl)
-    (IsBytes-take (length pod) (drop here (put_mid here k now pod)) (IsBytes-drop here (put_mid here k now pod) y)) in
+    (IsBytes-take (length pod) (drop here (put_mid here k now pod)) (IsBytes-drop here (put_mid here k now pod) b)) in
     let placed : IsPlaced (take k c) (take k pod) = subst (IsPlaced (take k c)) (sym (take_all k pod (omega arith))) (word_placed c pod k w z p bytes) in
-    record {
-      within = omega arith;
-      further = omega arith;
-      long = same ∙ r.long;
-      bytes = y;
-      on = λ old h.
-          encodes_more keyed old now pod (body_of c) (drop 16 c) at here next (word_at c 4) 4 k k next (r.on old h) r.bytes e l o (sym four) follows g
-          placed (omega arith) long (omega arith);
-    }
-
--- words are passed, where it is known whether these are properties or members
-pub runs_on : (keyed inner : Bool) (was now : List ℕ) (from at : ℕ) → keyed ≡ inner →
-    ((old : List ℕ) → EncodesFirst inner old was from from → EncodesFirst inner old now at at) →
-    (old : List ℕ) → EncodesFirst keyed old was from from → EncodesFirst keyed old now at at
-runs_on keyed inner was now from at e f = λ old h.
-    subst (λ k. EncodesFirst k old now at at) (sym e) (f old (subst (λ k. EncodesFirst k old was from from) e h))
+    encodes_more keyed old now pod (body_of c) (drop 16 c) at here (here + 16) (word_at c 4) 4 k k (here + 16) e y (omega arith) l o (sym four)
+    (omega arith) (omega arith) placed (omega arith) long (omega arith)
 
 -- What follows.
-
-pub key_small : (keyed : Bool) → key_size keyed ≤ 8
-key_small true = omega arith
-key_small false = omega arith
 
 key_there : (keyed : Bool) (left here : List ℕ) → key_size keyed ≤ length left → here ≡ drop (key_size keyed) left → IsBehindKey keyed left here
 key_there true left here l e = (l, e)
 key_there false left here l e = e
 
-here_left : (keyed : Bool) (old now : List ℕ) (start here : ℕ) → EncodesFirst keyed old now start start → here ≡ start + 0 + key_size keyed →
-    drop here now ≡ drop (key_size keyed) (drop start old)
-here_left keyed old now start here e h =
-    ap (λ i. drop i now) (let z : here ≡ start + key_size keyed = omega arith in z) ∙ behind start (key_size keyed) now ∙ ap (drop (key_size keyed)) e.behind
+here_left : (keyed : Bool) (old now : List ℕ) (at here : ℕ) → EncodesFirst keyed old now at at → here ≡ at + key_size keyed →
+    drop here now ≡ drop (key_size keyed) (drop at old)
+here_left keyed old now at here e h = ap (λ i. drop i now) h ∙ behind at (key_size keyed) now ∙ ap (drop (key_size keyed)) e.behind
 
-pub none_follows : (keyed : Bool) (old now : List ℕ) (start : ℕ) → EncodesFirst keyed old now start start → length now - start < 8 →
-    ArePlaced keyed (drop start old) []
-none_follows keyed old now start e l = let s = e.long in let d = length-drop start old in few_placed keyed (drop start old) (omega arith)
+pub none_follows : (keyed : Bool) (old now : List ℕ) (at : ℕ) → EncodesFirst keyed old now at at → length now - at < 8 → ArePlaced keyed (drop at old) []
+none_follows keyed old now at e l = let s = e.long in let d = length-drop at old in few_placed keyed (drop at old) (omega arith)
 
-pub no_front_follows : (keyed : Bool) (old now : List ℕ) (start here : ℕ) → EncodesFirst keyed old now start start → here ≡ start + 0 + key_size keyed →
-    ¬ (HasFront (drop here now)) → ArePlaced keyed (drop start old) []
-no_front_follows keyed old now start here e h n =
-    none_placed keyed (drop start old) (λ f. n (subst HasFront (sym (here_left keyed old now start here e h)) f))
+pub no_front_follows : (keyed : Bool) (old now : List ℕ) (at key : ℕ) → EncodesFirst keyed old now at at → key ≡ key_size keyed →
+    ¬ (HasFront (take (length now - (at + key)) (drop (at + key) now))) → ArePlaced keyed (drop at old) []
+no_front_follows keyed old now at key e k n =
+    none_placed keyed (drop at old)
+    (λ f. n (subst HasFront (sym (take_rest now (at + key) ∙ here_left keyed old now at (at + key) e (ap (λ i. at + i) k))) f))
 
-pub container_follows : (keyed inner : Bool) (old now body rest : List ℕ) (start here type size : ℕ) → EncodesFirst keyed old now start start →
-    here ≡ start + 0 + key_size keyed → 8 ≤ length now - start → Opens (drop here now) type body rest → size ≡ length body → HoldsWhole type size inner →
-    OpensWhole keyed (drop start old) inner size
-container_follows keyed inner old now body rest start here type size e h l o z w =
+-- the pod behind a key, opened
+pub record OpensAt (keyed : Bool) (now body rest : List ℕ) (at here type : ℕ) : Type 0 where
+  pub key : here ≡ at + key_size keyed
+  pub within : here ≤ length now
+  pub opens : Opens (drop here now) type body rest
+
+pub opens_at : (keyed : Bool) (now body rest : List ℕ) (at key type : ℕ) → 8 ≤ length now - at → key ≡ key_size keyed →
+    Opens (take (length now - (at + key)) (drop (at + key) now)) type body rest → OpensAt keyed now body rest at (at + key) type
+opens_at keyed now body rest at key type l k o =
+    let s = key_small keyed in
+    record { key = omega arith; within = omega arith; opens = subst (λ x. Opens x type body rest) (take_rest now (at + key)) o }
+
+pub long_at : (keyed : Bool) (now body rest : List ℕ) (at here type : ℕ) → OpensAt keyed now body rest at here type → here + 8 ≤ length now - length rest
+long_at keyed now body rest at here type o =
+    let whole = (opened_at (drop here now) body rest type (length body) o.opens refl).whole in
+    let d = length-drop here now in
+    let w = o.within in
+    omega arith
+
+pub pod_at : (keyed : Bool) (now body rest : List ℕ) (at here type : ℕ) → OpensAt keyed now body rest at here type →
+    IsPodOf (take (length now - length rest - here) (drop here now)) type (length body)
+pod_at keyed now body rest at here type o =
+    let is = opened_at (drop here now) body rest type (length body) o.opens refl in
+    let whole = is.whole in
+    let d = length-drop here now in
+    let w = o.within in
+    let n : extent (length body) ≡ length now - length rest - here = omega arith in
+    subst (λ m. IsPodOf (take m (drop here now)) type (length body)) n is.its
+
+pub container_follows : (keyed inner : Bool) (old now body rest : List ℕ) (at here type : ℕ) → EncodesFirst keyed old now at at →
+    OpensAt keyed now body rest at here type → HoldsWhole type (length body) inner → OpensWhole keyed (drop at old) inner (length body)
+container_follows keyed inner old now body rest at here type e o w =
     let s = e.long in
-    let d = length-drop start old in
-    let k = key_small keyed in
+    let d = length-drop at old in
+    let k = o.key in
+    let l = o.within in
     record {
       here = drop here now;
       type = type;
       body = body;
       rest = rest;
-      its_key = key_there keyed (drop start old) (drop here now) (omega arith) (here_left keyed old now start here e h);
-      opens = o;
-      its_size = z;
+      its_key = key_there keyed (drop at old) (drop here now) (omega arith) (here_left keyed old now at here e k);
+      opens = o.opens;
+      its_size = refl;
       holds = w;
     }
 
 -- A pod that holds no others is replaced.
-pub leaf_replaced : (keyed : Bool) (old now sub body rest : List ℕ) (start here next type size k len kept : ℕ) → EncodesFirst keyed old now start start →
-    IsBytes now → 8 ≤ length now - start → here ≡ start + 0 + key_size keyed → Opens (drop here now) type body rest → size ≡ length body →
-    next ≡ length now - length rest → k ≡ next - here → EncodesPod (take k (drop here now)) sub len → length sub ≡ length (take k (drop here now)) →
-    kept ≡ here + len → EncodesFirst keyed old (put_mid here k now sub) kept next
-leaf_replaced keyed old now sub body rest start here next type size k len kept e y l h o z f g p long t =
-    let key = key_small keyed in
-    let is = opened_at (drop here now) body rest type size o z in
-    let whole = is.whole in
+pub leaf_replaced : (keyed : Bool) (old now sub body rest : List ℕ) (at here type len kept : ℕ) → EncodesFirst keyed old now at at → IsBytes now →
+    OpensAt keyed now body rest at here type → EncodesPod (take (length now - length rest - here) (drop here now)) sub len →
+    length sub ≡ length (take (length now - length rest - here) (drop here now)) → kept ≡ here + len →
+    EncodesFirst keyed old (put_mid here (length now - length rest - here) now sub) kept (length now - length rest)
+leaf_replaced keyed old now sub body rest at here type len kept e y o p long t =
+    let k = length now - length rest - here in
+    let n = long_at keyed now body rest at here type o in
     let d = length-drop here now in
     let c = length-take-le k (drop here now) (omega arith) in
     let w = p.within in
-    encodes_more keyed old now sub body rest start here next type size k len kept e y (omega arith) (omega arith) o z f g p.placed (omega arith) long t
+    encodes_more keyed old now sub body rest at here (length now - length rest) type (length body) k len kept e y o.key o.within o.opens refl refl refl
+    p.placed (omega arith) long t
 
-pub leaf_long_there : (keyed : Bool) (now body rest : List ℕ) (start here next type size : ℕ) → 8 ≤ length now - start → here ≡ start + 0 + key_size keyed →
-    Opens (drop here now) type body rest → size ≡ length body → next ≡ length now - length rest → (here ≤ length now) × (here + 8 ≤ next) × (next ≤ length now)
-leaf_long_there keyed now body rest start here next type size l h o z f =
-    let key = key_small keyed in
-    let is = opened_at (drop here now) body rest type size o z in
-    let whole = is.whole in
+-- by one as long
+pub leaf_kept : (keyed : Bool) (old now sub body rest : List ℕ) (at here type len : ℕ) → EncodesFirst keyed old now at at → IsBytes now →
+    OpensAt keyed now body rest at here type → EncodesPod (take (length now - length rest - here) (drop here now)) sub len →
+    length sub ≡ length (take (length now - length rest - here) (drop here now)) → length now - length rest ≤ here + len →
+    EncodesFirst keyed old (put_mid here (length now - length rest - here) now sub) (length now - length rest) (length now - length rest)
+leaf_kept keyed old now sub body rest at here type len e y o p long t =
+    let k = length now - length rest - here in
+    let n = long_at keyed now body rest at here type o in
     let d = length-drop here now in
-    (omega arith, omega arith, omega arith)
+    let c = length-take-le k (drop here now) (omega arith) in
+    let w = p.within in
+    leaf_replaced keyed old now sub body rest at here type len (length now - length rest) e y o p long (omega arith)

@@ -1,5 +1,5 @@
 -- Pods whose rewritings may be shorter than they are.
-use Rattle.std.proofs.Common.{◌≡◌, ◌≢◌, ℕ, ◌+◌, ◌*◌, ◌/◌, ◌-◌, ◌<◌, ◌≤◌, inl, inr, List, ◌++◌, length, drop, take, refl, sym, ap, ◌∙◌, subst, arith, append_assoc, length-append, length-drop, ◌%◌}
+use Rattle.std.proofs.Common.{◌≡◌, ◌≢◌, ℕ, ◌+◌, ◌*◌, ◌/◌, ◌-◌, ◌<◌, ◌≤◌, inl, inr, List, ◌++◌, length, drop, refl, sym, ap, ◌∙◌, subst, arith, append_assoc, length-append, length-drop, ◌%◌}
 use Rattle.std.specs.Prelude.{Bool, true, false, max}
 use Rattle.std.proofs.lemmas.List.{length-take-le, nil_from_length}
 use Rattle.spa_format.specs.Words.{body_of, extent, header_size, padded_size, word_at, word_bytes}

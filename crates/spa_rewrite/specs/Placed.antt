@@ -1,9 +1,11 @@
 -- Rewritings that are put where the caller says: docs/FORMAT.md, "The encoding of a value".
-use Rattle.std.specs.Prelude.{◌≡◌, ◌%◌, ℕ, List, Bool, true, false}
-use Rattle.spa_format.specs.Tree.{Tree, Trees, Properties, object_type, struct_type}
+use Rattle.std.specs.Prelude.{◌≡◌, ◌%◌, ◌+◌, ◌-◌, ◌≤◌, ℕ, List, Bool, take, true, false}
+use Rattle.spa_format.specs.Words.{extent, word_at}
+use Rattle.spa_format.specs.Tree.{Shape, Tree, Trees, Properties, choice_type, object_type, shape_number, struct_type}
 use Rattle.spa_format.specs.Pod.{AreMembers, AreProperties, IsPod}
 use Rattle.spa_format.specs.Encoding.{encoding_of, member_encodings, property_encodings}
 use Rattle.spa_events.specs.Inside.{HoldsPods}
+use Rattle.spa_scan.specs.Canonical.{bytes_taken}
 use Rattle.spa_rewrite.specs.Patched.{IsPodOf}
 
 -- this is the rewriting of a pod
@@ -31,3 +33,9 @@ pub record IsInner (pod : List ℕ) (keyed : Bool) : Type 0 where
 abbrev pub type_inside : Bool → ℕ
 type_inside true = object_type
 type_inside false = struct_type
+
+-- The first bytes of a choice that takes so many bytes of values became its rewriting.
+abbrev pub TakesValues : ℕ → ℕ → List ℕ → List ℕ → Type 0
+TakesValues shape n old new =
+    (pod : List ℕ) (size : ℕ) → IsPodOf pod choice_type size → old ≡ take (extent (16 + n)) pod → 16 + n ≤ size → shape ≡ word_at pod 8 →
+    ((s : Shape) → shape ≡ shape_number s → n ≡ bytes_taken s (word_at pod 16) (size - 16)) → IsPlaced pod new

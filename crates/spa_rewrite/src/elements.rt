@@ -1,18 +1,16 @@
 //! The values in the bodies of arrays and choices.
 ghost use Rattle.std.specs.Prelude.{◌≡◌, ◌%◌, ◌*◌, ◌<◌, IfNone, IfSome, List, length, true, ℕ};
 ghost use Rattle.spa_format.specs.Kind.{Fixed, Kind};
-ghost use Rattle.spa_format.specs.Normal.{kept_flags};
 ghost use Rattle.spa_format.specs.Pod.{IsArray, IsChoice};
-ghost use Rattle.spa_format.specs.Tree.{Shape, shape_number};
+ghost use Rattle.spa_format.specs.Tree.{Shape};
 ghost use Rattle.spa_rewrite.specs.Elements.{HasElements, HasValues, IsBeginning};
 ghost use Rattle.spa_scan.specs.Canonical.{IsFixedLen};
 
+use crate::leaf::TWO_WORDS;
+use crate::patch::WORD_LEN;
 use spa_bytes::{HEADER_LEN, SECOND_WORD, u32_at};
-use spa_fixed_sized::{ENUM_SHAPE, FLAGS_SHAPE, NONE_SHAPE, RANGE_SHAPE, STEP_SHAPE};
-use spa_scan::fixed_len;
-
-/// The length in bytes of the longest body of fixed size.
-const WIDE_LEN: u32 = 8;
+use spa_fixed_sized::FLAGS_SHAPE;
+use spa_scan::{fixed_len, taken_len};
 
 /// The bodies of the elements in the body of an array, where the sizes in it are right.
 #[inline(always)]
@@ -29,7 +27,7 @@ pub(crate) fn elements_of(body: &[u8]) -> Option<&[u8]>
     if are_words(size, type_, elements.len()) {
         return Some(elements);
     }
-    if size > WIDE_LEN {
+    if size > TWO_WORDS {
         return None;
     }
     if size != fixed_len(type_) {
@@ -68,16 +66,15 @@ pub(crate) fn values_of(body: &[u8]) -> Option<&[u8]>
         return None;
     }
     let (_, array) = body.split_at(HEADER_LEN);
-    let elements = elements_of(array)?;
-    let size = u32_at(array, 0) as usize;
-    match u32_at(body, 0) {
-        NONE_SHAPE => first_values(elements, size),
-        RANGE_SHAPE => first_values(elements, 3 * size),
-        STEP_SHAPE => first_values(elements, 4 * size),
-        ENUM_SHAPE => all_values(elements),
-        FLAGS_SHAPE => all_values(elements),
-        _ => None,
+    let Some(elements) = elements_of(array) else {
+        return None;
+    };
+    let shape = u32_at(body, 0);
+    if shape > FLAGS_SHAPE {
+        return None;
     }
+    let size = u32_at(array, 0) as usize;
+    first_values(elements, taken_len(shape, size, elements.len()))
 }
 
 /// The first bytes, where there are so many and more than none.
@@ -93,27 +90,3 @@ fn first_values(elements: &[u8], size: usize) -> Option<&[u8]>
     }
     Some(elements.split_at(size).0)
 }
-
-/// All of them, where there are some.
-fn all_values(elements: &[u8]) -> Option<&[u8]>
-    ensures there { IfSome result (λ kept. IsBeginning kept.now elements.now (length elements.now)) }
-    ensures missed { IfNone result (length elements.now ≡ 0) }
-{
-    if elements.is_empty() {
-        return None;
-    }
-    Some(elements)
-}
-
-/// The flags that are written of a choice of this shape.
-pub(crate) fn written_flags(shape: u32, flags: u32) -> u32
-    ensures { (s : Shape) → shape ≡ shape_number s → result ≡ kept_flags s flags }
-{
-    if shape == NONE_SHAPE {
-        return 0;
-    }
-    flags
-}
-
-/// The length in bytes of a truth value's body.
-const WORD_LEN: usize = 4;

@@ -8,7 +8,7 @@ ghost use Rattle.spa_rewrite.specs.Placed.{HoldsWhole, type_inside};
 ghost use Rattle.spa_rewrite.specs.Look.{AreChanged};
 ghost use Rattle.spa_rewrite.specs.Rewriting.{AreRewritten};
 
-use crate::patch::{behind_words, encode_leaf, place_behind};
+use crate::patch::{SECOND_HEADER, WORD_LEN, begins_word, clear_padding, encode_leaf};
 use spa_bytes::{HEADER_LEN, open, two_words, u32_at};
 use spa_events::{key_len, keyed_inside};
 use spa_utils::SpaTypes;
@@ -111,27 +111,31 @@ fn encode_leaves(keyed: bool, pods: &mut [u8]) -> Run
 {
     let mut at = 0;
     loop {
-        let start = behind_words(keyed, pods, at);
-        if pods.len() - start < HEADER_LEN {
+        if pods.len() - at < HEADER_LEN {
             return Run {
-                kept: start,
-                ended: start,
+                kept: at,
+                ended: at,
                 after: After::End,
             };
         }
-        let here = place_behind(pods, start, 0, keyed);
+        let here = at + key_len(keyed);
+        if begins_word(&pods[here..]) {
+            at = here + SECOND_HEADER;
+            clear_padding(WORD_LEN, &mut pods[here..at]);
+            continue;
+        }
         let Some(front) = open(&pods[here..]) else {
             return Run {
-                kept: start,
-                ended: start,
+                kept: at,
+                ended: at,
                 after: After::End,
             };
         };
         let (type_, size, left) = (front.type_, front.body.len(), front.rest.len());
         if let Some(inner) = holds_whole(type_, size) {
             return Run {
-                kept: start,
-                ended: start,
+                kept: at,
+                ended: at,
                 after: After::Inner(inner, size),
             };
         }
@@ -148,14 +152,14 @@ fn encode_leaves(keyed: bool, pods: &mut [u8]) -> Run
     }
 }
 
-/// Copies so many bytes down to a place before them, where they aren't there already.
+/// Copies so many bytes down to a place before them, where there are some and they aren't there already.
 #[inline(always)]
 fn move_down(from: usize, len: usize, to: usize, bytes: &mut [u8])
     requires down { to ≤ from }
     requires within { from + len ≤ length bytes.old }
     ensures { bytes.new ≡ take to bytes.old ++ (take len (drop from bytes.old) ++ drop (to + len) bytes.old) }
 {
-    if from > to {
+    if from > to && len > 0 {
         bytes.copy_within(from..from + len, to);
     }
 }

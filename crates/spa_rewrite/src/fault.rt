@@ -8,7 +8,7 @@ ghost use Rattle.spa_format.specs.Tree.{Tree, array_type, choice_type, object_ty
 ghost use Rattle.spa_format.specs.Words.{header_size};
 ghost use Rattle.spa_bodies.specs.Refusing.{Says, StandsInBody};
 
-use crate::leaf::CHOICE_HEADER;
+use crate::leaf::{CHOICE_HEADER, TWO_WORDS};
 use spa_bodies::VALUE_TYPE_AT;
 use spa_bytes::{HEADER_LEN, SECOND_WORD, open, u32_at};
 use spa_fixed_sized::{FLAGS_SHAPE, Refusal};
@@ -36,6 +36,9 @@ fn body_fault(type_: u32, body: &[u8]) -> Refusal
     requires short_object { type_ ≡ object_type → length body.now < header_size }
     ensures { Says (StandsInBody type_ body.now) ⊥ result }
 {
+    if fixed_len(type_) <= TWO_WORDS {
+        return Refusal::WrongSize;
+    }
     match SpaTypes(type_) {
         SpaTypes::String => Refusal::Text,
         SpaTypes::Bytes => unreachable!(),
@@ -43,24 +46,11 @@ fn body_fault(type_: u32, body: &[u8]) -> Refusal
         SpaTypes::Array => array_fault(body),
         SpaTypes::Struct => unreachable!(),
         SpaTypes::Choice => choice_fault(body),
-        SpaTypes::None => Refusal::WrongSize,
-        SpaTypes::Bool => Refusal::WrongSize,
-        SpaTypes::Id => Refusal::WrongSize,
-        SpaTypes::Int => Refusal::WrongSize,
-        SpaTypes::Long => Refusal::WrongSize,
-        SpaTypes::Float => Refusal::WrongSize,
-        SpaTypes::Double => Refusal::WrongSize,
-        SpaTypes::Rectangle => Refusal::WrongSize,
-        SpaTypes::Fraction => Refusal::WrongSize,
-        SpaTypes::Fd => Refusal::WrongSize,
         SpaTypes::Object => Refusal::WrongSize,
         SpaTypes::Pointer => Refusal::WrongSize,
         _ => Refusal::InvalidType,
     }
 }
-
-/// The longest body of fixed size, in bytes.
-const WIDE_LEN: u32 = 8;
 
 /// The fault of an array's body.
 fn array_fault(body: &[u8]) -> Refusal
@@ -70,7 +60,7 @@ fn array_fault(body: &[u8]) -> Refusal
     if body.len() < HEADER_LEN {
         return Refusal::WrongSize;
     }
-    if fixed_len(u32_at(body, SECOND_WORD)) > WIDE_LEN {
+    if fixed_len(u32_at(body, SECOND_WORD)) > TWO_WORDS {
         return Refusal::InvalidType;
     }
     Refusal::WrongSize
@@ -85,7 +75,7 @@ fn choice_fault(body: &[u8]) -> Refusal
         return Refusal::WrongSize;
     }
     let len = fixed_len(u32_at(body, VALUE_TYPE_AT));
-    if len == 0 || len > WIDE_LEN {
+    if len == 0 || len > TWO_WORDS {
         return Refusal::InvalidType;
     }
     if u32_at(body, HEADER_LEN) != len {

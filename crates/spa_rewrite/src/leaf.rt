@@ -9,6 +9,7 @@ ghost use Rattle.spa_scan.specs.Canonical.{IsFixedLen, IsSized, MissesOnly};
 ghost use Rattle.spa_scan.specs.Depth.{depth_of};
 
 use crate::elements::{elements_of, values_of};
+use crate::patch::SECOND_HEADER;
 use spa_bytes::{HEADER_LEN, POINTER_LEN, SECOND_WORD, SHORT_POINTER_LEN, open, u32_at};
 use spa_scan::{fixed_front, fixed_len, is_text, leaf_body_front};
 use spa_utils::SpaTypes;
@@ -17,10 +18,7 @@ use spa_utils::SpaTypes;
 const ONE_WORD: u32 = 4;
 
 /// The length in bytes of a body of two words, the longest of fixed size.
-const TWO_WORDS: u32 = 8;
-
-/// The length in bytes of a whole pod whose body is one or two words.
-const SHORT_POD: usize = 16;
+pub(crate) const TWO_WORDS: u32 = 8;
 
 /// The length in bytes of the four words before the values of a choice.
 pub(crate) const CHOICE_HEADER: usize = 16;
@@ -80,13 +78,13 @@ fn short_front(input: &[u8]) -> Option<&[u8]>
     ensures taken { IfSome result (λ rest. BeginsShorter input.now rest.now 0) }
     ensures shorter { IfSome result (λ rest. length rest.now + 16 ≤ length input.now) }
 {
-    if input.len() < SHORT_POD {
+    if input.len() < SECOND_HEADER {
         return None;
     }
     if !is_short(u32_at(input, 0), u32_at(input, SECOND_WORD)) {
         return None;
     }
-    let (_, rest) = input.split_at(SHORT_POD);
+    let (_, rest) = input.split_at(SECOND_HEADER);
     Some(rest)
 }
 

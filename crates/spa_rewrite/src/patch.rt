@@ -2,30 +2,29 @@
 ghost use Rattle.std.specs.Prelude.{Bool, List, false, true, ℕ, ◌≡◌, ◌≢◌, ◌+◌, ◌-◌, ◌<◌, ◌≤◌, ◌++◌, ◌*◌, IfNone, IfSome, drop, length, replicate, take};
 ghost use Rattle.spa_fixed_sized.specs.Reading.{AreWhole};
 ghost use Rattle.spa_format.specs.Pod.{IsPointer};
-ghost use Rattle.spa_format.specs.Tree.{Shape, array_type, choice_type, object_type, pointer_type, shape_number, struct_type};
+ghost use Rattle.spa_format.specs.Tree.{array_type, choice_type, object_type, pointer_type, struct_type};
 ghost use Rattle.spa_format.specs.Kind.{bool_kind, type_number};
 ghost use Rattle.spa_rewrite.specs.Elements.{AreTruths};
 ghost use Rattle.spa_format.specs.Typed.{IsBytes};
 ghost use Rattle.spa_format.specs.Words.{header_size, size_limit, word_at};
-ghost use Rattle.spa_events.specs.Inside.{key_size};
-ghost use Rattle.spa_rewrite.specs.Emit.{EncodesFirst, EncodesPod};
-ghost use Rattle.spa_rewrite.specs.Patched.{BeginsWord, IsPatched, IsPodOf, IsWordType, TakesValues, TurnsWritten, bytes_taken};
-ghost use Rattle.spa_rewrite.specs.Placed.{HoldsWhole};
+ghost use Rattle.spa_rewrite.specs.Emit.{EncodesPod};
+ghost use Rattle.spa_rewrite.specs.Patched.{BeginsWord, IsPatched, IsPodOf, TurnsWritten};
+ghost use Rattle.spa_rewrite.specs.Placed.{HoldsWhole, TakesValues};
 
-use crate::elements::written_flags;
 use spa_bytes::{
     HEADER_LEN, POINTER_LEN, SECOND_WORD, SHORT_POINTER_LEN, extent_of, joined, two_words, u32_at,
     u64_at, wide_body,
 };
-use spa_fixed_sized::{CanonicalFixedSizedPod, NONE_SHAPE, RANGE_SHAPE, STEP_SHAPE};
+use spa_fixed_sized::CanonicalFixedSizedPod;
+use spa_scan::{is_word_type, taken_len, written_flags};
 use spa_utils::SpaTypes;
 
 /// The length in bytes of a word.
-const WORD_LEN: usize = 4;
+pub(crate) const WORD_LEN: usize = 4;
 
 /// The length in bytes of a whole pod whose body is one or two words; also where the second header in a pod ends: an object's
 /// type and id, an array's child header, or a choice's shape and flags.
-const SECOND_HEADER: usize = 16;
+pub(crate) const SECOND_HEADER: usize = 16;
 
 /// Where the child header of a choice ends, and its values begin.
 const VALUES_AT: usize = 24;
@@ -33,61 +32,9 @@ const VALUES_AT: usize = 24;
 /// The length in bytes of a whole pointer.
 const POINTER_POD: usize = 24;
 
-/// The place behind the first pods from there on that are a word, truth values aside, with key and flags before each where `keyed` is
-/// set: these are replaced by their encodings.
-#[inline(always)]
-pub(crate) fn behind_words(keyed: bool, bytes: &mut [u8], from: usize) -> usize
-    requires { from ≤ length bytes.old }
-    ensures encoded { (old : List ℕ) → EncodesFirst keyed old bytes.old from from → EncodesFirst keyed old bytes.new result result }
-    ensures bytes { IsBytes bytes.new }
-    ensures within { result ≤ length bytes.old }
-    ensures further { from ≤ result }
-{
-    if keyed {
-        return behind_word_properties(bytes, from);
-    }
-    let mut at = from;
-    while begins_word(&bytes[at..]) {
-        let next = at + SECOND_HEADER;
-        clear_padding(WORD_LEN, &mut bytes[at..next]);
-        at = next;
-    }
-    at
-}
-
-/// The place behind the first properties from there on whose pods are a word, truth values aside: these are replaced by their encodings.
-#[inline(always)]
-fn behind_word_properties(bytes: &mut [u8], from: usize) -> usize
-    requires { from ≤ length bytes.old }
-    ensures encoded { (old : List ℕ) → EncodesFirst true old bytes.old from from → EncodesFirst true old bytes.new result result }
-    ensures within { result ≤ length bytes.old }
-    ensures further { from ≤ result }
-{
-    let mut at = from;
-    while begins_word_property(&bytes[at..]) {
-        let here = at + HEADER_LEN;
-        let next = here + SECOND_HEADER;
-        clear_padding(WORD_LEN, &mut bytes[here..next]);
-        at = next;
-    }
-    at
-}
-
-/// Whether a key and flags are there, and such a pod behind them.
-#[inline(always)]
-fn begins_word_property(input: &[u8]) -> bool
-    ensures { result ≡ true → BeginsWord (drop header_size input.now) }
-{
-    if input.len() < HEADER_LEN {
-        return false;
-    }
-    let (_, pod) = input.split_at(HEADER_LEN);
-    begins_word(pod)
-}
-
 /// Whether the pod at the front is there, and a word that is no truth value.
 #[inline(always)]
-fn begins_word(input: &[u8]) -> bool
+pub(crate) fn begins_word(input: &[u8]) -> bool
     ensures { result ≡ true → BeginsWord input.now }
 {
     if input.len() < SECOND_HEADER {
@@ -97,32 +44,6 @@ fn begins_word(input: &[u8]) -> bool
         return false;
     }
     is_word_type(u32_at(input, SECOND_WORD))
-}
-
-/// Whether this is the type of a kind whose bodies are any word.
-#[inline(always)]
-fn is_word_type(type_: u32) -> bool
-    ensures { result ≡ true → IsWordType type_ }
-{
-    match SpaTypes(type_) {
-        SpaTypes::Id => true,
-        SpaTypes::Int => true,
-        SpaTypes::Float => true,
-        _ => false,
-    }
-}
-
-/// The place behind so many bytes of a header from a place on, and behind a key and flags where `keyed` is set.
-#[inline(always)]
-pub(crate) fn place_behind(bytes: &[u8], at: usize, header: usize, keyed: bool) -> usize
-    requires { at + header + key_size keyed ≤ length bytes.now }
-    ensures { result ≡ at + header + key_size keyed }
-{
-    if keyed {
-        at + header + HEADER_LEN
-    } else {
-        at + header
-    }
 }
 
 /// Replaces a pod that holds no others by its encoding, which is put at its front, and returns how many bytes that takes. Of a pod that no value says it
@@ -235,7 +156,7 @@ fn patch_array(size: usize, pod: &mut [u8])
     }
 }
 
-/// Replaces a choice of this shape, which takes so many bytes of values, by its encoding, if that is as long. Its size word isn't read.
+/// Makes the first bytes of a choice of this shape, which takes so many bytes of values, its encoding. Its size word isn't read.
 #[inline(always)]
 fn patch_values(shape: u32, len: usize, pod: &mut [u8])
     requires room { 24 + len ≤ length pod.old }
@@ -248,19 +169,6 @@ fn patch_values(shape: u32, len: usize, pod: &mut [u8])
     pod[..SECOND_HEADER].copy_from_slice(&joined(header, two_words(shape, flags)));
     patch_elements(type_, &mut pod[VALUES_AT..VALUES_AT + len]);
     clear_padding(SECOND_HEADER + len, pod);
-}
-
-/// How many bytes of values a choice of this shape takes, where one has this size, of all that it holds.
-fn taken_len(shape: u32, size: usize, all: usize) -> usize
-    requires { size < size_limit }
-    ensures { (s : Shape) → shape ≡ shape_number s → result ≡ bytes_taken s size all }
-{
-    match shape {
-        NONE_SHAPE => size,
-        RANGE_SHAPE => 3 * size,
-        STEP_SHAPE => 4 * size,
-        _ => all,
-    }
 }
 
 /// Makes the bodies of elements of this type those that are written.
@@ -287,29 +195,9 @@ fn patch_truths(words: &mut [u8])
 
 /// Makes what follows a body of this size zeros.
 #[inline(always)]
-fn clear_padding(size: usize, pod: &mut [u8])
+pub(crate) fn clear_padding(size: usize, pod: &mut [u8])
     requires { header_size + size ≤ length pod.old }
     ensures { pod.new ≡ take (header_size + size) pod.old ++ replicate (length pod.old - (header_size + size)) 0 }
 {
-    let from = HEADER_LEN + size;
-    match pod.len() - from {
-        0 => (),
-        WORD_LEN => pod[from..].fill(0),
-        1 | 2 => clear_ends(1, from, pod),
-        3 => clear_ends(2, from, pod),
-        5 | 6 | 7 => clear_ends(WORD_LEN, from, pod),
-        _ => pod[from..].fill(0),
-    }
-}
-
-/// Makes all bytes from a place on zeros, which are as many as this width or more, and at most twice as many: the first of them and the last.
-#[inline(always)]
-fn clear_ends(width: usize, from: usize, pod: &mut [u8])
-    requires once { from + width ≤ length pod.old }
-    requires twice { length pod.old ≤ from + 2 * width }
-    ensures { pod.new ≡ take from pod.old ++ replicate (length pod.old - from) 0 }
-{
-    let last = pod.len() - width;
-    pod[from..from + width].fill(0);
-    pod[last..].fill(0);
+    pod[HEADER_LEN + size..].fill(0);
 }

@@ -4,7 +4,7 @@ use Rattle.std.specs.Prelude.{Bool, true, false, if◌then◌else◌, replicate}
 use Rattle.std.proofs.lemmas.List.{drop-drop, drop_at, length-take-le}
 use Rattle.spa_format.specs.Words.{word_at, word_bytes, wide_at, wide_bytes, body_of}
 use Rattle.spa_format.specs.Kind.{Kind, none_kind, bool_kind, id_kind, int_kind, long_kind, float_kind, double_kind, rectangle_kind, fraction_kind, fd_kind, body_size, type_number, Fixed, none, bool, id, int, long, float, double, rectangle, fraction, fd, kind_of, IsFixedBody, fixed_body}
-use Rattle.spa_format.specs.Tree.{choice, choice_type, Shape, none_choice, range_choice, step_choice, shape_number, type_of}
+use Rattle.spa_format.specs.Tree.{choice, choice_type, Shape, shape_number, type_of}
 use Rattle.spa_format.specs.Pod.{AreElements, IsArray, IsBody, IsChoice}
 use Rattle.spa_format.specs.Normal.{kept_flags}
 use Rattle.spa_format.specs.Encoding.{array_body, encoded_body, fixed_bodies}
@@ -254,23 +254,6 @@ pub made_choice : (b : List ℕ) → IsBytes b → IsCanonicalBody choice_type b
 made_choice b h c =
     let i = choice_only c.value c.its_type in
     choice_made b h i.0 i.1 i.2 i.3 i.4 (subst (λ v. IsBody v b) i.5 c.its_body) (c.same ∙ ap encoded_body i.5)
-
--- the shapes by their numbers
-pub none_flags : (s : Shape) (f : ℕ) → shape_number s ≡ 0 → kept_flags s f ≡ f → f ≡ 0
-none_flags none_choice f e k = sym k
-none_flags _ f e k = absurd (omega arith)
-
-pub none_further : (s : Shape) (n : ℕ) → shape_number s ≡ 0 → IsCount s n → n ≡ 0
-none_further none_choice n e c = c
-none_further _ n e c = absurd (omega arith)
-
-pub range_further : (s : Shape) (n : ℕ) → shape_number s ≡ 1 → IsCount s n → n ≡ 2
-range_further range_choice n e c = c
-range_further _ n e c = absurd (omega arith)
-
-pub step_further : (s : Shape) (n : ℕ) → shape_number s ≡ 2 → IsCount s n → n ≡ 3
-step_further step_choice n e c = c
-step_further _ n e c = absurd (omega arith)
 
 pub some_values : (n w l : ℕ) → 0 < w → l ≡ suc n * w → 0 < l
 some_values n w l p e = let m : suc n * w ≡ w + n * w = omega arith in omega arith

@@ -10,11 +10,11 @@ use Rattle.spa_format.specs.Tree.{string, string_type, array, choice, choice_typ
 use Rattle.spa_format.specs.Pod.{IsArray, least_count, values_taken}
 use Rattle.spa_format.specs.Normal.{kept_flags}
 use Rattle.spa_format.specs.Encoding.{array_body}
-use Rattle.spa_format.specs.Typed.{IsBytes}
+use Rattle.spa_format.specs.Typed.{IsBytes, IsCount}
 use Rattle.spa_format.proofs.WordLemmas.{IsBytes-drop, IsBytes-take, word_at-take}
 use Rattle.spa_format.proofs.FixedKinds.{same_kind}
 use Rattle.spa_format.proofs.Elements.{length_of_elements}
-use Rattle.spa_scan.specs.Canonical.{AreCanonicalElements, IsCanonicalArray, IsCanonicalBody, IsCanonicalText, IsFixedLen, IsAsciiByte, IsAsciiFor}
+use Rattle.spa_scan.specs.Canonical.{AreCanonicalElements, IsCanonicalArray, IsCanonicalBody, IsCanonicalText, IsFixedLen, IsAsciiByte, IsAsciiFor, bytes_taken}
 use Rattle.spa_scan.proofs.Words.{content_kept, two_words_back}
 
 -- ASCII bytes, and more of them
@@ -134,26 +134,34 @@ choice_found s b arr h l d a w f c =
     choice_values s b h l a.kind a.values (subst (IsArray a.kind a.values) d a.its_array) (sym d ∙ a.same) w f
     (λ n e p. c n (body_size a.kind) size p e)
 
-pub none_count : (n k L : ℕ) → 0 < k → L ≡ suc n * k → L ≡ k → IsRightCount none_choice n
-none_count n k m p e i =
-    let one : suc n ≡ 1 = same_count (suc n) 1 k p (sym e ∙ i ∙ (let y : k ≡ 1 * k = omega arith in y)) in
+pub right_count : (s : Shape) (n k all : ℕ) → 0 < k → all ≡ suc n * k → bytes_taken s k all ≡ all → IsRightCount s n
+right_count none_choice n k all p e i =
+    let one : suc n ≡ 1 = same_count (suc n) 1 k p (sym e ∙ sym i ∙ (let y : k ≡ 1 * k = omega arith in y)) in
     (omega arith, λ xs h. sym (nil_from_length xs (omega arith)))
-
-pub range_count : (n k L : ℕ) → 0 < k → L ≡ suc n * k → L ≡ 3 * k → IsRightCount range_choice n
-range_count n k m p e i =
-    let three : suc n ≡ 3 = same_count (suc n) 3 k p (sym e ∙ i) in
+right_count range_choice n k all p e i =
+    let three : suc n ≡ 3 = same_count (suc n) 3 k p (sym e ∙ sym i) in
     (omega arith, λ xs h. take_all 2 xs (omega arith))
-
-pub step_count : (n k L : ℕ) → 0 < k → L ≡ suc n * k → L ≡ 4 * k → IsRightCount step_choice n
-step_count n k m p e i =
-    let four : suc n ≡ 4 = same_count (suc n) 4 k p (sym e ∙ i) in
+right_count step_choice n k all p e i =
+    let four : suc n ≡ 4 = same_count (suc n) 4 k p (sym e ∙ sym i) in
     (omega arith, λ xs h. take_all 3 xs (omega arith))
+right_count enum_choice n k all p e i = (omega arith, λ xs h. refl)
+right_count flags_choice n k all p e i = (omega arith, λ xs h. refl)
 
-pub enum_count : (n : ℕ) → IsRightCount enum_choice n
-enum_count n = (omega arith, λ xs h. refl)
+pub count_taken : (s : Shape) (n k all : ℕ) → IsCount s n → all ≡ suc n * k → bytes_taken s k all ≡ all
+count_taken none_choice n k all c e = let m : all ≡ 1 * k = e ∙ ap (λ i. suc i * k) c in omega arith
+count_taken range_choice n k all c e = sym (e ∙ ap (λ i. suc i * k) c)
+count_taken step_choice n k all c e = sym (e ∙ ap (λ i. suc i * k) c)
+count_taken enum_choice n k all c e = refl
+count_taken flags_choice n k all c e = refl
 
-pub flags_count : (n : ℕ) → IsRightCount flags_choice n
-flags_count n = (omega arith, λ xs h. refl)
+-- a shape that there is
+pub shape_of : (n : ℕ) → n < 5 → (s : Shape) × (n ≡ shape_number s)
+shape_of zero l = (none_choice, refl)
+shape_of (suc zero) l = (range_choice, refl)
+shape_of (suc (suc zero)) l = (step_choice, refl)
+shape_of (suc (suc (suc zero))) l = (enum_choice, refl)
+shape_of (suc (suc (suc (suc zero)))) l = (flags_choice, refl)
+shape_of (suc (suc (suc (suc (suc n))))) l = absurd (omega arith)
 
 -- these are the last bytes of those
 pub record IsEnd (left text : List ℕ) : Type 0 where

@@ -1,12 +1,14 @@
 //! Arrays and choices.
-ghost use Rattle.std.specs.Prelude.{◌≡◌, ◌*◌, length, true, ℕ};
+ghost use Rattle.std.specs.Prelude.{◌≡◌, ◌*◌, ◌<◌, length, true, ℕ};
 ghost use Rattle.spa_format.specs.Kind.{bool_kind};
-ghost use Rattle.spa_format.specs.Tree.{choice_type};
-ghost use Rattle.spa_scan.specs.Canonical.{AreCanonicalElements, IsCanonicalArray, IsCanonicalBody};
+ghost use Rattle.spa_format.specs.Normal.{kept_flags};
+ghost use Rattle.spa_format.specs.Tree.{Shape, choice_type, shape_number};
+ghost use Rattle.spa_format.specs.Words.{size_limit};
+ghost use Rattle.spa_scan.specs.Canonical.{AreCanonicalElements, IsCanonicalArray, IsCanonicalBody, bytes_taken};
 
 use crate::front::{ONE_WORD, TWO_WORDS, fixed_len, is_word_type};
 use spa_bytes::{HEADER_LEN, SECOND_WORD, u32_at};
-use spa_fixed_sized::{FLAGS_SHAPE, RANGE_SHAPE, STEP_SHAPE};
+use spa_fixed_sized::{FLAGS_SHAPE, NONE_SHAPE, RANGE_SHAPE, STEP_SHAPE};
 use spa_utils::SpaTypes;
 
 /// The length in bytes of the four words before the values of a choice.
@@ -56,19 +58,39 @@ pub(crate) fn is_choice(body: &[u8]) -> bool
     if !is_array(array) {
         return false;
     }
-    let size = u32_at(array, 0) as usize;
-    let values = body.len() - CHOICE_HEADER;
     let shape = u32_at(body, 0);
-    if shape == RANGE_SHAPE {
-        return values == 3 * size;
+    if shape > FLAGS_SHAPE {
+        return false;
     }
-    if shape > STEP_SHAPE {
-        return shape <= FLAGS_SHAPE;
+    let size = u32_at(array, 0) as usize;
+    let flags = u32_at(body, SECOND_WORD);
+    let values = body.len() - CHOICE_HEADER;
+    taken_len(shape, size, values) == values && written_flags(shape, flags) == flags
+}
+
+/// How many bytes of values a choice of this shape takes, where one has this size, of all that it holds.
+#[inline(always)]
+pub fn taken_len(shape: u32, size: usize, all: usize) -> usize
+    requires { size < size_limit }
+    ensures { (s : Shape) → shape ≡ shape_number s → result ≡ bytes_taken s size all }
+{
+    match shape {
+        NONE_SHAPE => size,
+        RANGE_SHAPE => 3 * size,
+        STEP_SHAPE => 4 * size,
+        _ => all,
     }
-    if shape == STEP_SHAPE {
-        return values == 4 * size;
+}
+
+/// The flags that are written of a choice of this shape.
+#[inline(always)]
+pub fn written_flags(shape: u32, flags: u32) -> u32
+    ensures { (s : Shape) → shape ≡ shape_number s → result ≡ kept_flags s flags }
+{
+    if shape == NONE_SHAPE {
+        return 0;
     }
-    values == size && u32_at(body, SECOND_WORD) == 0
+    flags
 }
 
 /// Whether the bodies of truth values are each 0 or 1.

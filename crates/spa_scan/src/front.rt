@@ -90,7 +90,7 @@ fn is_short_pod(input: &[u8]) -> bool
 
 /// Whether this is the type of a kind whose bodies are any word.
 #[inline(always)]
-pub(crate) fn is_word_type(type_: u32) -> bool
+pub fn is_word_type(type_: u32) -> bool
     ensures word { result ≡ true → IsFixedLen type_ 4 }
     ensures other { result ≡ true → type_ ≢ type_number bool_kind }
     ensures found { (k : Kind) → type_ ≡ type_number k → body_size k ≡ 4 → (k ≡ bool_kind) ⊎ (result ≡ true) }

@@ -2,7 +2,7 @@
 ghost use Rattle.std.specs.Prelude.{◌≡◌, ◌≢◌, ◌+◌, ◌<◌, ◌≤◌, ◌++◌, IfNone, IfSome, length, take, true};
 ghost use Rattle.spa_format.specs.Tree.{array_type, choice_type, object_type, string_type, struct_type};
 ghost use Rattle.spa_format.specs.Words.{padded_size};
-ghost use Rattle.spa_scan.specs.Canonical.{AreCanonical, AreCanonicalProperties, BeginsCanonical, BeginsCanonicalProperty, HasZeros, IsCanonicalBody, IsSized, MissesOnly};
+ghost use Rattle.spa_scan.specs.Canonical.{AreCanonicalProperties, BeginsCanonical, BeginsCanonicalProperty, HasZeros, IsCanonicalBody, IsSized, MissesOnly};
 ghost use Rattle.spa_scan.specs.Depth.{FindsOther, depth_of};
 
 use crate::array::{is_array, is_choice};
@@ -74,19 +74,6 @@ fn leaf_property(input: &[u8]) -> Option<&[u8]>
     let (_, behind) = input.split_at(HEADER_LEN);
     let rest = leaf_front(behind)?;
     Some(rest)
-}
-
-/// The first members of a struct, as many as `leaf_front` passes, and what follows them.
-#[inline(always)]
-pub fn leaf_members(input: &[u8]) -> (&[u8], &[u8])
-    ensures parts { input.now ≡ result.0.now ++ result.1.now }
-    ensures canonical { AreCanonical result.0.now }
-{
-    let mut left = input;
-    while let Some(rest) = leaf_front(left) {
-        left = rest;
-    }
-    input.split_at(input.len() - left.len())
 }
 
 /// The first properties of an object, as many as `leaf_front` passes the pods of, and what follows them.

@@ -16,4 +16,5 @@ pub mod Differing
 pub mod Compared
 mod Named
 mod Items
+mod Heads
 mod Names

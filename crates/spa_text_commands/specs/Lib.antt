@@ -5,6 +5,7 @@ pub mod Extent
 pub mod Hexadecimal
 pub mod Naming
 pub mod Lines
+pub mod Messages
 pub mod Params
 pub mod Parts
 pub mod Numbers

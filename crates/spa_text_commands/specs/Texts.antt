@@ -16,6 +16,7 @@ use Rattle.spa_text_forms.specs.Forms.{IsTextAs}
 use Rattle.spa_text_forms.specs.declared.form.Form.{Form}
 use Rattle.spa_text_forms.specs.declared.form.Form.TheVariants.{Named, Dump}
 use Rattle.spa_text_commands.specs.Extent.{BeginsText, column_behind, line_behind}
+use Rattle.spa_text_commands.specs.Messages.{head_in}
 use Rattle.spa_text_commands.specs.declared.answer.Failure.{Failure}
 use Rattle.spa_text_commands.specs.declared.answer.Failure.TheVariants.{NoPods, Line, OutOfMemory}
 use Rattle.spa_text_commands.specs.declared.printing.Layout.{Layout}
@@ -45,15 +46,22 @@ wrapped [] None text = text
 wrapped [] (Some head) text = in_fields (head_field (Some head)) text
 wrapped (x ∷ xs) head text = in_fields (path_field (x ∷ xs) ++ head_field head) text
 
--- a head is written as a string of JSON
-abbrev pub IsHead : Option (List ℕ) → Type 0
-IsHead None = ⊤
-IsHead (Some head) = (words : List ℕ) × IsTextIn OneLine (string words) head
+-- the words of the head of a value at this path: of a top-level pod those of the recorded message that it is, if it is one; of one inside some or none
+abbrev pub AreHeadWords : (path : List ℕ) → Tree → Option (List ℕ) → Type 0
+AreHeadWords [] v words = words ≡ head_in v
+AreHeadWords (x ∷ xs) v words = ⊤
+
+-- a head is written as a string of JSON of its words
+abbrev pub IsHead : (words head : Option (List ℕ)) → Type 0
+IsHead None None = ⊤
+IsHead (Some words) (Some head) = IsTextIn OneLine (string words) head
+IsHead words head = ⊥
 
 -- the text of a value at this path
 abbrev pub IsTextAt : Layout → (path : List ℕ) → Tree → List ℕ → Type 0
 IsTextAt layout path v out =
-    (text : List ℕ) × (head : Option (List ℕ)) × (out ≡ wrapped path head text) × IsHead head × IsTextIn layout v text
+    (text : List ℕ) × (words : Option (List ℕ)) × (head : Option (List ℕ)) × (out ≡ wrapped path head text) × AreHeadWords path v words
+    × IsHead words head × IsTextIn layout v text
 
 -- such a text for each of these values, in order, and the end of its last line
 abbrev pub AreTexts : (IsText : Tree → List ℕ → Type 0) → Trees → List ℕ → Type 0

@@ -18,8 +18,13 @@ use std::alloc::{AllocError, Global};
 pub enum Form {
     /// The grammar of named values, read so.
     Named(Strictness),
-    /// What `pw-dump` prints of params, which are objects of this type and this id. It is read strictly.
-    Dump { type_: u32, id: u32 },
+    /// What `pw-dump` prints of params, which are objects. It is read strictly.
+    Dump {
+        /// The type of the objects, which it doesn't say.
+        type_: u32,
+        /// Their id.
+        id: u32,
+    },
 }
 
 impl Form {

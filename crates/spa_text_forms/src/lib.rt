@@ -10,4 +10,4 @@ mod reading;
 
 pub use form::Form;
 pub use order::key_number;
-pub use reading::FreeReader;
+pub use reading::{FreeReader, read};

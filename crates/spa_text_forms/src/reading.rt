@@ -4,6 +4,7 @@ ghost use Rattle.json.specs.Lex.{tokens};
 ghost use Rattle.spa_format.specs.Tree.{Tree};
 ghost use Rattle.spa_text_read.specs.Places.{IsPlace};
 ghost use Rattle.spa_text_read.specs.declared.cause.Cause as Cause;
+ghost use Rattle.spa_text_read.specs.declared.fitting.Strictness.TheVariants.{Plain};
 ghost use Rattle.spa_text_forms.specs.Forms.{IsPlaceFor, IsTextFor, IsTextAs, IsTextInOrder};
 ghost use Rattle.spa_text_forms.specs.declared.form.Form.TheVariants.{Named};
 ghost use Rattle.spa_value.specs.View.{view};
@@ -32,6 +33,18 @@ impl FreeReader {
         }
     }
 
+    /// Reads the value that a text is, with any value under a key, as `read` does.
+    pub fn read(&mut self, text: &str) -> Result<Value, TextError>
+        ensures value { IfOk result (λ v. IsTextFor Plain (view v) text.now) }
+        ensures refused { IfErr result
+            (λ e. e.cause ≢ Cause.OutOfMemory → (v : Tree) → ¬ (IsTextFor Plain v text.now)) }
+        ensures no_path { IfErr result (λ e. e.cause ≡ Cause.OutOfMemory → string_bytes e.path ≡ []) }
+        ensures path { IfErr result
+            (λ e. e.cause ≢ Cause.OutOfMemory → IsPlaceFor (Named Plain) text.now (string_bytes e.path)) }
+    {
+        self.read_with(text, Strictness::Plain)
+    }
+
     /// Reads the value that a text is, as it stands. One that is of no value so, but is JSON, is read with its fixed keys in the grammar's order;
     /// strictly also with each list under a key of arrays as that array. An object with nothing but a value and its place, which are a path and the head of
     /// a message, is read as that value.
@@ -39,7 +52,7 @@ impl FreeReader {
     /// Where it is of no value in order, either, the refusal is that of the text in order: it has the place of the first byte, unless the text as it
     /// stands is refused for the same cause at the same path.
     #[tactic(auto, using(crate::proofs::Forms::taken, crate::proofs::Forms::taken_in_order, crate::proofs::Forms::place))]
-    pub fn read(&mut self, text: &str, strictness: Strictness) -> Result<Value, TextError>
+    pub fn read_with(&mut self, text: &str, strictness: Strictness) -> Result<Value, TextError>
         ensures value { IfOk result (λ v. IsTextFor strictness (view v) text.now) }
         ensures refused { IfErr result
             (λ e. e.cause ≢ Cause.OutOfMemory → (v : Tree) → ¬ (IsTextFor strictness v text.now)) }
@@ -73,7 +86,7 @@ impl FreeReader {
             (λ e. e.cause ≢ Cause.OutOfMemory → IsPlaceFor form text.now (string_bytes e.path)) }
     {
         match form {
-            Form::Named(strictness) => self.read(text, strictness),
+            Form::Named(strictness) => self.read_with(text, strictness),
             Form::Dump { .. } => {
                 let no_json = refusal(self.alloc, Cause::Token);
                 self.read_in_order(text, form, no_json)
@@ -113,6 +126,23 @@ impl FreeReader {
             }
         }
     }
+}
+
+/// Reads the value that a text is, also one whose fixed keys are in another order than the grammar's, as `FreeReader::read` does: for many texts that
+/// is faster.
+///
+/// A value that is nested deep is read too, by a loop; its drop calls itself for each level, unless it is handed to `Held` or to
+/// `discard`. What has to be put in order nests at most 128 levels deep.
+pub fn read(alloc: Global, text: &str) -> Result<Value, TextError>
+    ensures value { IfOk result (λ v. IsTextFor Plain (view v) text.now) }
+    ensures refused { IfErr result
+        (λ e. e.cause ≢ Cause.OutOfMemory → (v : Tree) → ¬ (IsTextFor Plain v text.now)) }
+    ensures no_path { IfErr result (λ e. e.cause ≡ Cause.OutOfMemory → string_bytes e.path ≡ []) }
+    ensures path { IfErr result
+        (λ e. e.cause ≢ Cause.OutOfMemory → IsPlaceFor (Named Plain) text.now (string_bytes e.path)) }
+{
+    let mut reader = FreeReader::new(alloc);
+    reader.read(text)
 }
 
 /// The refusal at the first byte.

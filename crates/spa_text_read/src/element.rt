@@ -96,16 +96,19 @@ pub(crate) fn put_element(values: &mut ValueArray, element: Element) -> Result<(
 }
 
 /// For how many values there is room at first: as many as most choices have.
-const FIRST_ROOM: usize = 4;
+const FIRST_ROOM: usize = 8;
 
 fn push<T: Copy>(values: &mut Vec<T>, value: T) -> Result<(), Cause>
     ensures ok { OnOk result (values.new.items ≡ values.old.items ++ value ∷ []) }
     ensures memory { IfErr result (λ e. e ≡ Cause.OutOfMemory) }
 {
-    let room = if values.is_empty() { FIRST_ROOM } else { 1 };
-    let Ok(()) = values.reserve(room) else {
-        return Err(Cause::OutOfMemory);
-    };
-    values.push_reserved(value);
-    Ok(())
+    if values.is_empty() {
+        let Ok(()) = values.reserve(FIRST_ROOM) else {
+            return Err(Cause::OutOfMemory);
+        };
+    }
+    match values.push(value) {
+        Ok(()) => Ok(()),
+        Err(_) => Err(Cause::OutOfMemory),
+    }
 }

@@ -2,16 +2,16 @@
 ghost use Rattle.std.specs.Prelude.{◌≡◌, MatchOption, false, true};
 ghost use Rattle.spa_format.specs.Kind.{type_number};
 ghost use Rattle.spa_text_read.specs.Fitting as spec;
-ghost use Rattle.spa_text_read.specs.Fitting.{fits_under};
+ghost use Rattle.spa_text_read.specs.Names as names;
 ghost use Rattle.spa_text_read.specs.Seen.{kind_in};
 ghost use Rattle.spa_value.specs.View.{choice_view, view};
 
 use crate::names::{expected_under, keys_of, name_of};
-use spa_names::Table;
 use spa_names::keys::{PARAM_ROUTE_DEVICES, PARAM_ROUTE_PROFILES};
 use spa_names::types::OBJECT_PARAM_ROUTE;
+use spa_names::{Expected, Table};
 use spa_utils::SpaTypes;
-use spa_value::{ChoiceValue, Property, Value, ValueArray};
+use spa_value::{ChoiceValue, Value, ValueArray};
 use std::fmt;
 
 /// Which values are read under a key of an object.
@@ -94,7 +94,15 @@ impl fmt::Display for InPlace {
 }
 
 /// The type that belongs under a key of an object of this type.
-fn type_under(type_: u32, key: u32) -> FullType
+pub(crate) fn type_under(type_: u32, key: u32) -> FullType
+    ensures { result ≡ spec.type_under type_ key }
+{
+    wanted_under(type_, key, expected_under(keys_of(type_), key))
+}
+
+/// The same, where the table of the object's keys expects this under the key.
+pub(crate) fn wanted_under(type_: u32, key: u32, expected: Expected) -> FullType
+    requires { expected ≡ names.expected_under (names.keys_of type_) key }
     ensures { result ≡ spec.type_under type_ key }
 {
     if type_ == OBJECT_PARAM_ROUTE && (key == PARAM_ROUTE_PROFILES || key == PARAM_ROUTE_DEVICES) {
@@ -103,7 +111,6 @@ fn type_under(type_: u32, key: u32) -> FullType
             element: SpaTypes::Int,
         };
     }
-    let expected = expected_under(keys_of(type_), key);
     FullType {
         type_: expected.type_,
         element: expected.element,
@@ -204,14 +211,12 @@ fn takes(wanted: FullType, found: FullType) -> bool
     found.type_.0 == SpaTypes::None.0 && may_miss(wanted.type_.0)
 }
 
-/// What a property of an object of this type has in place of the type that belongs under its key.
-pub(crate) fn misfit_of(type_: u32, property: &Property) -> Option<Misfit>
-    ensures { MatchOption result
-        (fits_under type_ property.now.key (view property.now.value) ≡ true)
-        (λ _. fits_under type_ property.now.key (view property.now.value) ≡ false) }
+/// What a value has in place of the type that belongs there.
+pub(crate) fn misfit_of(wanted: FullType, value: &Value) -> Option<Misfit>
+    ensures { MatchOption result (spec.takes wanted (spec.full_type (view value.now)) ≡ true)
+        (λ _. spec.takes wanted (spec.full_type (view value.now)) ≡ false) }
 {
-    let wanted = type_under(type_, property.key);
-    let found = full_type(&property.value);
+    let found = full_type(value);
     if takes(wanted, found) {
         return None;
     }

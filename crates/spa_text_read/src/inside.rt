@@ -5,6 +5,7 @@ ghost use Rattle.json.specs.Reads.{token_of};
 ghost use Rattle.spa_format.specs.Tree.{fixed, join_members, join_properties, member, no_properties, no_trees, property};
 ghost use Rattle.spa_text_read.specs.Grammar as grammar;
 ghost use Rattle.spa_text_read.specs.Names as spec;
+ghost use Rattle.spa_text_read.specs.Fitting as fitting;
 ghost use Rattle.spa_text_read.specs.FramesFit.{AdmitsLast, last_fits};
 ghost use Rattle.spa_text_read.specs.Seen.{IsListed, KeepsAtEnd, frame_of, items_in, kind_in, next_of, said_by};
 ghost use Rattle.spa_text_read.specs.Steps as steps;
@@ -16,9 +17,12 @@ ghost use Rattle.spa_value.specs.Views.{property_views, views};
 use crate::cause::Cause;
 use crate::chosen::choice_value;
 use crate::element::{Element, element_of, put_element, value_of};
-use crate::fitting::{Misfit, Strictness, element_type, misfit_of};
-use crate::names::{expected_under, key_named, keys_of};
+use crate::fitting::{
+    FullType, Misfit, Strictness, element_type, misfit_of, type_under, wanted_under,
+};
+use crate::names::{expected_under, key_named};
 use crate::numerals::number_of_digits;
+use crate::open_object::OpenObject;
 use crate::shape::Shape;
 use crate::tokens::{end_object, head, item, key, next_key, word};
 use bitflags::Flags;
@@ -29,19 +33,6 @@ use spa_value::{Object, Property, PropertyFlags, Value, ValueArray, discard};
 
 /// For how many properties room is made at first: most objects have as many at most.
 const FIRST_ROOM: usize = 8;
-
-/// An object that is begun.
-#[derive(Drop)]
-pub(crate) struct OpenObject {
-    pub(crate) type_: u32,
-    pub(crate) id: u32,
-    pub(crate) properties: Vec<Property>,
-    /// The key and flags of the property whose value is read.
-    pub(crate) key: u32,
-    pub(crate) flags: PropertyFlags,
-    /// Whether a brace follows that value.
-    pub(crate) braced: bool,
-}
 
 /// A value with others in it that is begun, and what is read of it.
 #[derive(Drop)]
@@ -264,14 +255,25 @@ impl OpenObject {
                 None => Err(Cause::Token),
             };
         };
-        let Some((key, expected)) = key_at(keys_of(self.type_), name) else {
+        let Some((key, expected)) = key_at(self.keys, name) else {
             return Err(Cause::Name);
         };
         self.key = key;
+        self.wanted = Some(wanted_under(self.type_, key, expected));
         let (flags, braced, head) = property_at(reader)?;
         self.flags = PropertyFlags::from_bits_retain(flags);
         self.braced = braced;
         Ok(Next::Wants(head, expected))
+    }
+
+    /// The type that belongs under a key.
+    fn type_under(&self, key: u32) -> FullType
+        ensures { result ≡ fitting.type_under self.now.type_ key }
+    {
+        match self.wanted {
+            Some(wanted) if key == self.key => wanted,
+            _ => type_under(self.type_, key),
+        }
     }
 
     /// What the last property has in place of the type that belongs under its key.
@@ -281,7 +283,7 @@ impl OpenObject {
             (λ _. last_fits self.now.type_ (property_views self.now.properties.items) ≡ false) }
     {
         match self.properties.last() {
-            Some(property) => misfit_of(self.type_, property),
+            Some(property) => misfit_of(self.type_under(property.key), &property.value),
             None => None,
         }
     }

@@ -11,9 +11,10 @@ ghost use Rattle.spa_text_read.specs.Shapes.{shape_of};
 ghost use Rattle.spa_value.specs.View.{view};
 
 use crate::cause::Cause;
-use crate::inside::{Inside, OpenObject, Opened};
-use crate::names::ids_of;
+use crate::inside::{Inside, Opened};
+use crate::names::{ids_of, keys_of};
 use crate::numerals::wide_bits;
+use crate::open_object::OpenObject;
 use crate::scalars::scalar_of;
 use crate::shape::Shape;
 use crate::tag::{Scalar, Tag, bare, tag_of, takes_text};
@@ -336,10 +337,12 @@ fn object_at(alloc: Global, reader: &mut Reader<'_>) -> Result<Inside, Cause>
     Ok(Inside::Object(OpenObject {
         type_,
         id,
+        keys: keys_of(type_),
         properties: Vec::new(alloc),
         key: 0,
         flags: PropertyFlags::from_bits_retain(0),
         braced: false,
+        wanted: None,
     }))
 }
 

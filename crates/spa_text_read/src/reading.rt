@@ -13,7 +13,7 @@ ghost use Rattle.spa_value.specs.View.{view};
 use crate::cause::Cause;
 use crate::error::TextError;
 use crate::fitting::{Misfit, Strictness};
-use crate::inside::Opened;
+use crate::inside::{Inside, Opened};
 use crate::nest::Nest;
 use crate::opening::open;
 use crate::place::path_to;
@@ -22,12 +22,15 @@ use json::{Reader, Scratch};
 use spa_names::Expected;
 use spa_value::{Value, discard};
 use std::alloc::Global;
+use std::mem;
 
 /// Reads texts one after another, in memory that it keeps.
 #[derive(Drop)]
 pub struct TextReader {
     alloc: Global,
     scratch: Scratch,
+    /// Room for the values around the innermost that is begun.
+    outer: Vec<Inside>,
 }
 
 impl TextReader {
@@ -36,6 +39,7 @@ impl TextReader {
         TextReader {
             alloc,
             scratch: Scratch::new(alloc),
+            outer: Vec::new(alloc),
         }
     }
 
@@ -67,7 +71,7 @@ impl TextReader {
         let Ok(mut reader) = Reader::new(text, &mut self.scratch) else {
             return Err(error_at(NO_MEMORY, text, 0, String::new(self.alloc)));
         };
-        match read_whole(self.alloc, &mut reader, strictness) {
+        match read_whole(self.alloc, &mut reader, &mut self.outer, strictness) {
             Ok(value) => Ok(value),
             Err(why) => {
                 let offset = reader.offset();
@@ -168,14 +172,19 @@ fn error_at(why: Why, text: &str, offset: usize, path: String) -> TextError
 
 /// Reads a value and the end of the text.
 #[tactic(auto, using(crate::proofs::Soundness::reads_as))]
-fn read_whole(alloc: Global, reader: &mut Reader<'_>, strictness: Strictness) -> Result<Value, Why>
+fn read_whole(
+    alloc: Global,
+    reader: &mut Reader<'_>,
+    outer: &mut Vec<Inside>,
+    strictness: Strictness,
+) -> Result<Value, Why>
     ensures value { IfOk result (λ v. ReadsAs nothing (view v) reader.old []) }
     ensures admitted { IfOk result (λ v. Admits strictness (view v)) }
     ensures refused { IfErr result
         (λ e. e.cause ≢ Cause.OutOfMemory → (v : Tree) → ReadsAs nothing v reader.old [] →
         ¬ (Admits strictness v)) }
 {
-    match read_value(alloc, reader, strictness) {
+    match read_value(alloc, reader, outer, strictness) {
         Ok(value) => match reader.next() {
             Some(_) => {
                 discard(value);
@@ -201,14 +210,23 @@ pub fn read_front(
         (λ e. e ≢ Cause.OutOfMemory → (v : Tree) (rest : List Token) →
         ReadsAs nothing v reader.old rest → ¬ (Admits strictness v)) }
 {
-    match read_value(alloc, reader, strictness) {
+    let mut outer = Vec::new(alloc);
+    match read_value(alloc, reader, &mut outer, strictness) {
         Ok(value) => Ok(value),
         Err(why) => Err(why.cause),
     }
 }
 
-/// Reads a value: also one that is nested deep, since what is begun is kept in a list.
-fn read_value(alloc: Global, reader: &mut Reader<'_>, strictness: Strictness) -> Result<Value, Why>
+/// For how many values around others memory is kept from one text to the next: few nest deeper.
+const MOST_KEPT: usize = 64;
+
+/// Reads a value: also one that is nested deep, since what is begun is kept in a list, in this vector's memory.
+fn read_value(
+    alloc: Global,
+    reader: &mut Reader<'_>,
+    room: &mut Vec<Inside>,
+    strictness: Strictness,
+) -> Result<Value, Why>
     ensures value { IfOk result (λ v. ComesTo nothing reader.old (Some (view v, reader.new))) }
     ensures admitted { IfOk result (λ v. Admits strictness (view v)) }
     ensures refused { IfErr result (λ e. e.cause ≢ Cause.OutOfMemory → AdmitsNone strictness reader.old) }
@@ -221,7 +239,8 @@ fn read_value(alloc: Global, reader: &mut Reader<'_>, strictness: Strictness) ->
         Ok(Opened::Begun(inside)) => inside,
         Err(cause) => return Err(Why::from(cause)),
     };
-    let outer = Vec::new(alloc);
+    room.clear();
+    let outer = mem::replace(room, Vec::new(alloc));
     let mut nest = Nest { inner, outer };
     loop {
         match nest.step(alloc, reader) {
@@ -236,7 +255,10 @@ fn read_value(alloc: Global, reader: &mut Reader<'_>, strictness: Strictness) ->
                 }
             },
             Ok(false) => {
-                let Nest { inner, outer: _ } = nest;
+                let Nest { inner, outer } = nest;
+                if outer.capacity() <= MOST_KEPT {
+                    *room = outer;
+                }
                 match inner.into_value() {
                     Ok(value) => return Ok(value),
                     Err(cause) => return Err(Why::from(cause)),

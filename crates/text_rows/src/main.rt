@@ -73,7 +73,7 @@ fn answer_text(alloc: Global, word: &str, text: &str, answers: &mut Vec<u8>) -> 
 /// Reads the text of a row with this word: as it stands, or in any order.
 fn read(alloc: Global, word: &str, text: &str) -> Result<Value, TextError> {
     match word {
-        "any" | "any.loose" => FreeReader::new(alloc).read(text, strictness_of(word)),
+        "any" | "any.loose" => FreeReader::new(alloc).read_with(text, strictness_of(word)),
         _ => TextReader::new(alloc).read_with(text, strictness_of(word)),
     }
 }

@@ -113,7 +113,7 @@ pub mod names {
     pub use crate::parts::spa_names::{Expected, Table, expected_under, ids_of, keys_of, name_of, number_of, path_of};
 }
 
-/// Values as text with names: strict JSON, which loses nothing.
+/// Values as text with names: strict JSON, which loses nothing. `TextReader::read_in` also reads what `pw-dump` prints of params.
 ///
 /// ```
 /// use spa_pod::pod::Value;
@@ -131,6 +131,9 @@ pub mod names {
 /// print_pretty(&read("[1]")?, &mut text)?;
 /// assert_eq!(text, b"[\n  1\n]");
 ///
+/// // The keys `type`, `id`, `props` and their like come in any order, as `jq -S` leaves them.
+/// assert_eq!(read(r#"{"id":"Props","props":{"volume":0.5,"mute":true},"type":"Props"}"#)?, value);
+///
 /// // Strictly, a value has the type that belongs under its key.
 /// let wrong = line.replace("true", "1");
 /// assert!(read(&wrong).is_ok());
@@ -142,9 +145,8 @@ pub mod names {
 #[cfg(feature = "text")]
 #[cfg_attr(docsrs, doc(cfg(feature = "text")))]
 pub mod text {
-    pub use crate::parts::spa_text::{
-        AtPath, Cause, FullType, InPlace, Misfit, Strictness, TextError, TextPrinter, TextReader, print, print_pretty, read,
-    };
+    pub use crate::parts::spa_text::{AtPath, Cause, FullType, InPlace, Misfit, Strictness, TextError, TextPrinter, print, print_pretty};
+    pub use crate::parts::spa_text_forms::{Form, FreeReader as TextReader, read};
 }
 
 /// What the exported macros name. It is no part of the interface.

@@ -1,5 +1,8 @@
 //! `measure WORK ROUNDS < PODS`: the work of bench/library.rs with this crate, a line for each round, with its nanoseconds and a number
-//! that the work came to. WORK is `none`, `read`, `write`, `rewrite`, `clone`, `equal` or `walk`, or, with a call for each pod, `appended` or `in-place`.
+//! that the work came to. WORK is `none`, `read`, `write`, `rewrite`, `clone`, `equal` or `walk`; with a call for each pod, `appended` or `in-place`; or
+//! with a call for each two pods, `filtered` or `negotiated`.
+use spa_pod::filtering::filter_pods;
+use spa_pod::negotiation::negotiate_pods;
 use spa_pod::pod::{Pod, Value, deserialize::PodDeserializer, rewrite_all, rewrite_in_place, serialize::PodSerializer};
 use std::io::Read;
 use std::time::Instant;
@@ -25,6 +28,19 @@ fn each_alone(mut bytes: &mut [u8], mut take: impl FnMut(&mut [u8]) -> usize) ->
     while let Some(extent) = Pod::from_bytes(bytes).map(|pod| pod.extent()) {
         let (pod, rest) = bytes.split_at_mut(extent);
         count += take(pod);
+        bytes = rest;
+    }
+    count
+}
+
+/// Makes this of each two pods, and counts the bytes: of two that are refused there are none.
+fn each_pair<E>(mut bytes: &[u8], mut make: impl FnMut(&[u8], &[u8]) -> Result<Vec<u8>, E>) -> usize {
+    let extent_of = |bytes| Pod::from_bytes(bytes).expect("two pods for each call").extent();
+    let mut count = 0;
+    while !bytes.is_empty() {
+        let (one, rest) = bytes.split_at(extent_of(bytes));
+        let (other, rest) = rest.split_at(extent_of(rest));
+        count += make(one, other).map_or(0, |made| made.len());
         bytes = rest;
     }
     count
@@ -79,6 +95,8 @@ fn main() {
                 out.extend_from_slice(&bytes);
                 each_alone(&mut out, |pod| rewrite_in_place(pod).expect("pods that are read"))
             }
+            "filtered" => each_pair(&bytes, filter_pods),
+            "negotiated" => each_pair(&bytes, negotiate_pods),
             "clone" => values.iter().map(|value| drop(value.clone())).count(),
             "equal" => values.iter().zip(&copies).filter(|(one, other)| one == other).count(),
             "walk" => walk(&bytes) as usize,

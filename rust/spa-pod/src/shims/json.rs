@@ -202,37 +202,54 @@ impl<'a> Reader<'a> {
     #[allow(clippy::should_implement_trait)]
     #[inline(never)]
     pub fn next(&mut self) -> Option<Token<'a>> {
-        let Some(first) = self.text.as_bytes().get(self.at) else { return self.last() };
-        let (begins, closes) = (self.state & BEGINS != 0, self.state & CLOSES != 0);
-        match *first {
-            b',' if self.state == CLOSES => self.next_behind_comma(),
-            b'"' if begins => self.string(),
-            b'{' if begins => self.go_behind(self.at + 1, BEGINS | CLOSES, Token::BeginObject),
-            b'}' if closes => self.go_behind(self.at + 1, CLOSES, Token::EndObject),
-            b'[' if begins => self.go_behind(self.at + 1, BEGINS | CLOSES, Token::BeginArray),
-            b']' if closes => self.go_behind(self.at + 1, CLOSES, Token::EndArray),
-            byte if is_blank(byte) => self.next_behind_blanks(),
-            _ if begins => self.word(),
-            _ => self.bad(),
+        let (text, mut at, mut state) = (self.text.as_bytes(), self.at, self.state);
+        let Some(mut first) = text.get(at).copied() else { return self.last() };
+        if first == b',' {
+            if state != CLOSES {
+                return self.bad_at(at);
+            }
+            // What follows may not close anything.
+            (at, state) = (at + 1, BEGINS);
+            match text.get(at) {
+                Some(b'"') => return self.string(at + 1),
+                Some(behind) => first = *behind,
+                None => return self.bad_at(at),
+            }
+        }
+        if state & BEGINS == 0 {
+            return self.next_end(at, first);
+        }
+        if first == b'"' {
+            return self.string(at + 1);
+        }
+        if first.is_ascii_digit() {
+            return self.word(at);
+        }
+        match first {
+            b'{' => self.go_behind(at + 1, BEGINS | CLOSES, Token::BeginObject),
+            b'[' => self.go_behind(at + 1, BEGINS | CLOSES, Token::BeginArray),
+            b'-' => self.word(at),
+            byte if is_blank(byte) => self.next_behind_blanks(at, state),
+            b'}' | b']' if state != BEGINS => self.next_end(at, first),
+            _ => self.other_word(at),
         }
     }
 
-    /// The next token, which may not close anything.
-    #[inline(never)]
-    fn next_behind_comma(&mut self) -> Option<Token<'a>> {
-        (self.at, self.state) = (self.at + 1, BEGINS);
-        match self.text.as_bytes().get(self.at) {
-            Some(b'"') => self.string(),
-            Some(b'{') => self.go_behind(self.at + 1, BEGINS | CLOSES, Token::BeginObject),
-            Some(b'0'..=b'9') => self.word(),
-            _ => self.next(),
+    /// The token at this byte, where no value may begin.
+    #[inline(always)]
+    fn next_end(&mut self, at: usize, first: u8) -> Option<Token<'a>> {
+        match first {
+            b'}' if self.state != 0 => self.go_behind(at + 1, CLOSES, Token::EndObject),
+            b']' if self.state != 0 => self.go_behind(at + 1, CLOSES, Token::EndArray),
+            byte if is_blank(byte) => self.next_behind_blanks(at, self.state),
+            _ => self.bad_at(at),
         }
     }
 
     #[cold]
     #[inline(never)]
-    fn next_behind_blanks(&mut self) -> Option<Token<'a>> {
-        self.at = self.behind_blanks(self.at);
+    fn next_behind_blanks(&mut self, at: usize, state: u8) -> Option<Token<'a>> {
+        (self.at, self.state) = (self.behind_blanks(at), state);
         self.next()
     }
 
@@ -246,42 +263,55 @@ impl<'a> Reader<'a> {
     /// What the end of the text is.
     #[cold]
     fn last(&mut self) -> Option<Token<'a>> {
-        if self.state & CLOSES == 0 { self.bad() } else { None }
+        if self.state & CLOSES == 0 { self.bad_at(self.at) } else { None }
     }
 
-    /// What is no token. Behind it there is none.
+    /// What is no token, at this byte. Behind it there is none.
     #[cold]
-    fn bad(&mut self) -> Option<Token<'a>> {
-        if self.state == 0 { None } else { self.go_behind(self.at, 0, Token::Bad) }
+    fn bad_at(&mut self, at: usize) -> Option<Token<'a>> {
+        if self.state == 0 { None } else { self.go_behind(at, 0, Token::Bad) }
     }
 
     /// The string in front. Most are of fifteen bytes at most, in texts without a backslash.
     #[inline(never)]
-    fn string(&mut self) -> Option<Token<'a>> {
-        let from = self.at + 1;
+    fn string(&mut self, from: usize) -> Option<Token<'a>> {
         if self.has_escapes {
             return self.long_string(from);
         }
-        let Some((_, left)) = self.text.split_at_checked(from) else { return self.bad() };
-        let Some((first, behind)) = left.as_bytes().split_first_chunk() else { return self.long_string(from) };
+        let Some(left) = self.text.get(from..) else { return self.bad_at(from - 1) };
+        let Some(first) = left.as_bytes().first_chunk() else { return self.long_string(from) };
         let found = ends(u64::from_le_bytes(*first));
         if found != 0 {
-            return self.string_in(left, found.trailing_zeros() as usize / 8);
+            return self.string_in(from, left, found.trailing_zeros() as usize / 8);
         }
-        let Some(second) = behind.first_chunk() else { return self.long_string(from) };
+        self.middle_string(from, left)
+    }
+
+    /// The string at the front of what is left, which doesn't end in its first eight bytes.
+    #[inline(never)]
+    fn middle_string(&mut self, from: usize, left: &'a str) -> Option<Token<'a>> {
+        let Some(second) = left.as_bytes().get(8..).and_then(|left| left.first_chunk()) else { return self.long_string(from) };
         let found = ends(u64::from_le_bytes(*second));
         if found != 0 {
-            return self.string_in(left, 8 + found.trailing_zeros() as usize / 8);
+            return self.string_in(from, left, 8 + found.trailing_zeros() as usize / 8);
         }
         self.long_string(from)
     }
 
     /// The string of so many bytes in front of what stands behind its first quote.
     #[inline(always)]
-    fn string_in(&mut self, left: &'a str, len: usize) -> Option<Token<'a>> {
-        match left.split_at_checked(len) {
-            Some((string, behind)) if behind.as_bytes().first() == Some(&b'"') => self.go_behind_string(self.at + len + 2, string),
-            _ => self.bad(),
+    fn string_in(&mut self, from: usize, left: &'a str, len: usize) -> Option<Token<'a>> {
+        // A quote begins a letter.
+        match (left.as_bytes().get(len), left.get(..len)) {
+            (Some(b'"'), Some(string)) => {
+                let end = from + len + 1;
+                match left.as_bytes().get(len + 1) {
+                    Some(b':') => self.go_behind(end + 1, BEGINS | CLOSES, Token::Key(string)),
+                    Some(byte) if *byte <= b' ' => self.string_before_blanks(end, string),
+                    _ => self.go_behind(end, CLOSES, Token::String(string)),
+                }
+            }
+            _ => self.bad_at(from - 1),
         }
     }
 
@@ -292,7 +322,7 @@ impl<'a> Reader<'a> {
         match stop_from(self.text.as_bytes(), from) {
             Some(end) if self.text.as_bytes()[end] == b'"' => self.string_to(from, end),
             Some(end) => self.escaped(from, end),
-            None => self.bad(),
+            None => self.bad_at(from - 1),
         }
     }
 
@@ -301,7 +331,7 @@ impl<'a> Reader<'a> {
     fn string_to(&mut self, from: usize, end: usize) -> Option<Token<'a>> {
         match part(self.text, from, end) {
             Some(string) => self.go_behind_string(end + 1, string),
-            None => self.bad(),
+            None => self.bad_at(from - 1),
         }
     }
 
@@ -328,7 +358,7 @@ impl<'a> Reader<'a> {
     fn escaped(&mut self, from: usize, first: usize) -> Option<Token<'a>> {
         match self.escaped_end(from, first) {
             Some((end, string)) => self.go_behind_string(end, string),
-            None => self.bad(),
+            None => self.bad_at(from - 1),
         }
     }
 
@@ -354,50 +384,56 @@ impl<'a> Reader<'a> {
 
     /// The word in front, up to a blank or a mark: what runs into another token is none. Most are whole numbers of up to seven digits.
     #[inline(never)]
-    fn word(&mut self) -> Option<Token<'a>> {
-        let Some((_, left)) = self.text.split_at_checked(self.at) else { return self.bad() };
-        let Some(eight) = left.as_bytes().first_chunk() else { return self.long_word(left) };
+    fn word(&mut self, at: usize) -> Option<Token<'a>> {
+        let Some(left) = self.text.get(at..) else { return self.bad_at(at) };
+        let Some(eight) = left.as_bytes().first_chunk() else { return self.long_word(at, left) };
         let found = no_digits(u64::from_le_bytes(*eight));
         let count = found.trailing_zeros() as usize / 8;
         if found == 0 || (count != 1 && eight[0] == b'0') || !matches!(eight[count], b',' | b']' | b'}') {
-            return self.long_word(left);
+            return if eight.get(count) == Some(&b'.') { self.other_word(at) } else { self.long_word(at, left) };
         }
-        match left.split_at_checked(count) {
-            Some((number, _)) if count != 0 => self.go_behind(self.at + count, CLOSES, Token::Number(number)),
-            _ => self.bad(),
+        match left.get(..count) {
+            Some(number) if count != 0 => self.go_behind(at + count, CLOSES, Token::Number(number)),
+            _ => self.bad_at(at),
         }
     }
 
     /// The word at the front of what is left.
     #[inline(never)]
-    fn long_word(&mut self, left: &'a str) -> Option<Token<'a>> {
+    fn long_word(&mut self, at: usize, left: &'a str) -> Option<Token<'a>> {
         let sign = usize::from(left.as_bytes().first() == Some(&b'-'));
         let digits = left.as_bytes().get(sign..).unwrap_or_default();
         let count = digit_count(digits);
         let is_whole = matches!((count, digits.first()), (1, _) | (2.., Some(b'1'..=b'9'))) && matches!(digits.get(count), None | Some(b',' | b']' | b'}'));
         match left.split_at_checked(sign + count) {
             // Whole numbers need no closer look.
-            Some((number, _)) if is_whole => self.go_behind(self.at + number.len(), CLOSES, Token::Number(number)),
-            _ => self.other_word(),
+            Some((number, _)) if is_whole => self.go_behind(at + number.len(), CLOSES, Token::Number(number)),
+            _ => self.other_word(at),
         }
     }
 
     #[inline(never)]
-    fn other_word(&mut self) -> Option<Token<'a>> {
-        match self.word_in_front() {
+    fn other_word(&mut self, at: usize) -> Option<Token<'a>> {
+        match self.word_in_front(at) {
             Some((end, token)) => self.go_behind(end, CLOSES, token),
-            None => self.bad(),
+            None => self.bad_at(at),
         }
     }
 
-    fn word_in_front(&self) -> Option<(usize, Token<'a>)> {
-        let end = self.at + self.text.bytes().skip(self.at).take_while(|byte| is_inner(*byte)).count();
-        let token = match self.text.get(self.at..end)? {
-            word if is_number(word) => Token::Number(word),
-            "null" => Token::Null,
-            word => Token::Bool(word.parse().ok()?),
+    fn word_in_front(&self, at: usize) -> Option<(usize, Token<'a>)> {
+        let left = self.text.get(at..)?;
+        let word = match left.bytes().position(|byte| !is_inner(byte)) {
+            Some(len) => left.get(..len)?,
+            None => left,
         };
-        Some((end, token))
+        let token = match word {
+            "true" => Token::Bool(true),
+            "false" => Token::Bool(false),
+            "null" => Token::Null,
+            word if is_number(word) => Token::Number(word),
+            _ => return None,
+        };
+        Some((at + word.len(), token))
     }
 }
 
@@ -428,44 +464,57 @@ pub enum Value<'a> {
     Object(Vec<(&'a str, Value<'a>)>),
 }
 
+/// A container of which not all was read: its values so far, and in an object the key that stands before the next.
+enum Begun<'a> {
+    Array(Vec<Value<'a>>),
+    Object(Vec<(&'a str, Value<'a>)>, Option<&'a str>),
+}
+
 impl<'a> Value<'a> {
     pub fn parse(text: &'a str, room: &'a mut Scratch) -> Result<Value<'a>, Error> {
         let mut reader = Reader::new(text, room)?;
-        let first = reader.next();
-        let value = Value::beginning(first, &mut reader, MAX_DEPTH)?;
-        if reader.next().is_some() { Err(Error::Invalid) } else { Ok(value) }
-    }
-
-    /// The value that begins with this token.
-    fn beginning(first: Option<Token<'a>>, reader: &mut Reader<'a>, depth: usize) -> Result<Value<'a>, Error> {
-        match (first, depth.checked_sub(1)) {
-            (Some(Token::Null), _) => Ok(Value::Null),
-            (Some(Token::Bool(flag)), _) => Ok(Value::Bool(flag)),
-            (Some(Token::Number(text)), _) => Ok(Value::Number(text)),
-            (Some(Token::String(text)), _) => Ok(Value::String(text)),
-            (Some(Token::BeginArray), Some(depth)) => {
-                let mut items = Vec::new();
-                loop {
-                    match reader.next() {
-                        Some(Token::EndArray) => return Ok(Value::Array(items)),
-                        first => items.try_push(Value::beginning(first, reader, depth)?).map_err(AllocError::from)?,
-                    }
+        let mut around = Vec::new();
+        loop {
+            let value = match reader.next() {
+                Some(Token::Null) => Value::Null,
+                Some(Token::Bool(flag)) => Value::Bool(flag),
+                Some(Token::Number(text)) => Value::Number(text),
+                Some(Token::String(text)) => Value::String(text),
+                Some(Token::BeginArray | Token::BeginObject) if around.len() == MAX_DEPTH => return Err(Error::Invalid),
+                Some(Token::BeginArray) => {
+                    around.try_push(Begun::Array(Vec::new())).map_err(AllocError::from)?;
+                    continue;
                 }
-            }
-            (Some(Token::BeginObject), Some(depth)) => {
-                let mut members = Vec::new();
-                loop {
-                    match reader.next() {
-                        Some(Token::EndObject) => return Ok(Value::Object(members)),
-                        Some(Token::Key(key)) => {
-                            let first = reader.next();
-                            members.try_push((key, Value::beginning(first, reader, depth)?)).map_err(AllocError::from)?;
-                        }
-                        _ => return Err(Error::Invalid),
-                    }
+                Some(Token::BeginObject) => {
+                    around.try_push(Begun::Object(Vec::new(), None)).map_err(AllocError::from)?;
+                    continue;
                 }
+                Some(Token::Key(key)) => match around.last_mut() {
+                    Some(Begun::Object(_, before @ None)) => {
+                        *before = Some(key);
+                        continue;
+                    }
+                    _ => return Err(Error::Invalid),
+                },
+                Some(Token::EndArray) => match around.pop() {
+                    Some(Begun::Array(items)) => Value::Array(items),
+                    _ => return Err(Error::Invalid),
+                },
+                Some(Token::EndObject) => match around.pop() {
+                    Some(Begun::Object(members, None)) => Value::Object(members),
+                    _ => return Err(Error::Invalid),
+                },
+                Some(Token::Bad) | None => return Err(Error::Invalid),
+            };
+            match around.last_mut() {
+                Some(Begun::Array(items)) => items.try_push(value).map_err(AllocError::from)?,
+                Some(Begun::Object(members, before)) => {
+                    let key = before.take().ok_or(Error::Invalid)?;
+                    members.try_push((key, value)).map_err(AllocError::from)?;
+                }
+                None if reader.next().is_some() => return Err(Error::Invalid),
+                None => return Ok(value),
             }
-            _ => Err(Error::Invalid),
         }
     }
 }

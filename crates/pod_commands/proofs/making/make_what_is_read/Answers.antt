@@ -1,7 +1,7 @@
 use Rattle.std.proofs.Common.{ℕ, List, [], get_or, inl, subst}
 use Rattle.std.specs.Borrow.{Bor}
 use Rattle.pod_commands.specs.Answers.{IsUnworked}
-use Rattle.pod_commands.specs.Working.{WorksOn}
+use Rattle.pod_commands.specs.Working.{WorksThrough}
 use Rattle.pod_commands.proofs.Made.{next_left, none_left}
 use Rattle.pod_commands.proofs.Requested.{cause_is}
 use Rattle.pod_commands.proofs.Worked.{begins, finished, goes_on}
@@ -15,10 +15,10 @@ loop-name-preserved g c =
     let d : Bor (List ℕ) = record { ref_ptr = (0, 0); now = [] } in
     let name = (get_or c.args.names.now c.loop-name.name-index d).now in
     let olds = c.loop-name.refused.items in
-    let news = c.work_on.new.said.items in
+    let news = c.work_through.new.said.items in
     goes_on _ _ _ _ _ _ _ _ _ _ _ c.in_ok-bytes.bytes.items c.in-Ok.made.items _ _ olds news
     (next_left c.args.names.now c.loop-name.name-index d c.loop-name-test.true) c.in_ok-bytes.ensures.all c.read_named.ensures.left
-    (subst (λ bytes. WorksOn c.args.manner.reading c.args.manner.refused c.args.making name 0 0 bytes c.in-Ok.made.items olds news)
+    (subst (λ bytes. WorksThrough c.args.manner.reading c.args.manner.refused c.args.making name bytes c.in-Ok.made.items olds news)
     c.as_slice-bytes.ensures.value c.in-Ok.ensures)
     c.in_ok-add.ensures c.loop-name.invariant
 
@@ -27,4 +27,4 @@ returns-clause-made g c =
     finished _ _ _ _ _ _ _ _ _ _ (none_left c.args.names.now c.loop-name.name-index c.loop-name-test.false) c.loop-name.invariant
 
 pub returns-in_err-bytes-clause-refused : goal.returns-in_err-bytes-clause-refused
-returns-in_err-bytes-clause-refused g c = cause_is (IsUnworked c.args.making) c.from_residual.result _ c.from_residual.ensures.1 (inl c.in_err-bytes.ensures.cause)
+returns-in_err-bytes-clause-refused g c = cause_is (IsUnworked c.args.manner.refused c.args.making) c.from_residual.result _ c.from_residual.ensures.1 (inl c.in_err-bytes.ensures.cause)

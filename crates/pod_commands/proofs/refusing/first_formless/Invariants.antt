@@ -1,8 +1,9 @@
-use Rattle.std.proofs.Common.{◌≤◌, length}
+use Rattle.std.proofs.Common.{length}
+use Rattle.spa_recordings.proofs.Holding.{WholeSoFar}
 use Rattle.pod_commands.proofs.refusing.first_formless.Given as goal
 
-abbrev pub invariant-loop-left : goal.invariant-loop-left
-invariant-loop-left l = length l.left ≤ length l.input
+abbrev pub invariant-loop-front : goal.invariant-loop-front
+invariant-loop-front l = WholeSoFar l.input l.left l.before
 
-abbrev pub decreases-loop-left : goal.decreases-loop-left
-decreases-loop-left l = length l.left
+abbrev pub decreases-loop-front : goal.decreases-loop-front
+decreases-loop-front l = length l.left

@@ -5,7 +5,7 @@ use Rattle.clap.specs.Walk.{rows_of, texts}
 use Rattle.clap.specs.Words.{app_of, found_of, subcommand_of}
 use Rattle.clap.proofs.WalkLemmas.{first_value-rows}
 use Rattle.pod_commands.specs.Program.{program}
-use Rattle.pod_commands.specs.Requests.{HasManner, HasSettle, HasStream}
+use Rattle.pod_commands.specs.Requests.{HasFlags, HasManner, HasStream}
 use Rattle.pod_commands.proofs.Requested.{fault_is, found_is, has_dump, has_texts, no_fault, one_name, cause_is}
 use Rattle.pod_commands.proofs.request.request_of.Goals as goal
 
@@ -95,7 +95,7 @@ returns-clause-asked c =
           subst (λ reading. HasManner reading c.in-Ok-manner_of.manner.fate c.in-Some-word_of.word) c.in-Ok-manner_of.ensures.reading
           c.in-Some-word_of.ensures.manner;
       stream = subst (λ streams. HasStream streams c.in-Some-word_of.word) c.is_set.ensures c.in-Some-word_of.ensures.stream;
-      settle = subst (λ settles. HasSettle settles c.in-Some-word_of.word) c.is_set-2.ensures c.in-Some-word_of.ensures.settle;
+      flags = subst (λ flags. HasFlags flags c.in-Some-word_of.word) c.flags_in.ensures c.in-Some-word_of.ensures.flags;
       read_as = has_texts rows c.in-Some.name.now c.in-Some-word_of.word c.in-Ok-texts_for.read_as c.in-Some-word_of.ensures.word
           c.in-Some-word_of.ensures.texts c.in-Ok-texts_for.ensures.texts;
       dump = has_dump rows c.in-Some.name.now c.in-Some-word_of.word c.in-Ok-dump_for.dumps c.in-Some-word_of.ensures.word c.in-Some-word_of.ensures.dump

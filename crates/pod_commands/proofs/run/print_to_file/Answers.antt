@@ -10,9 +10,9 @@ returns-in-Ok g c =
     (g.S.Files.holds c.answered.new.files) in
     let made = c.in-Ok.ensures.streamed in
     let lines = c.stream_all.new.output.items in
-    shown_in c.args.printing (g.R.Read.remaining c.args.input.now) c.args.names.now o lines made.0 c.in-Ok.refused c.shown-done.result c.answered.result.0
-    c.looked_for.result c.looked_for.ensures c.shown-done.ensures made.1
-    (subst (λ z. Appends (Some z) (Some lines) made.0) c.new-printed.ensures.items made.2) c.answered.ensures.made
+    shown_in c.args.printing (g.R.Read.remaining c.args.input.now) c.args.names.now o lines made.0 c.in-Ok.made c.shown-done.result c.answered.result.0
+    c.looked_for.result c.looked_for.ensures c.shown-done.ensures made.1 made.2
+    (subst (λ z. Appends (Some z) (Some lines) made.0) c.new-printed.ensures.items made.3) c.answered.ensures.made
 
 pub returns-in-Err-Unwritten : goal.returns-in-Err-Unwritten
 returns-in-Err-Unwritten g c =

@@ -1,37 +1,8 @@
-use Rattle.std.proofs.Common.{◌≡◌, ◌∙◌, ℕ, List, Bor, None, refl, sym, subst, take, arith}
-use Rattle.std.proofs.lemmas.Grind.{common_steps}
-use Rattle.std.specs.List.{find}
-use Rattle.std.specs.Str.{bytes_eq}
-use Rattle.spa_names.specs.Rows.{name_in, row_of}
-use Rattle.spa_names.proofs.Found.{named_there, number_by}
-use Rattle.spa_names.proofs.Searching.{none-more, first-found}
+use Rattle.std.proofs.Common.{refl, sym}
+use Rattle.spa_names.proofs.Found.{named_there}
 use Rattle.spa_names.proofs.lookup.number_of.Goals as goal
 
 pub returns-then-has_name : goal.returns-then-has_name
 returns-then-has_name c =
     let at = c.in-Some.ensures.lookup.3 in
     named_there c.args.table c.args.name.now _ c.entries_of-entries.ensures _ c.in-Some.entry.now at.0 at.1 (sym c.if-has_name.ensures)
-
-pub loop-entry-init : goal.loop-entry-init
-loop-entry-init c = refl
-
-pub returns-then-has_name-2 : goal.returns-then-has_name-2
-returns-then-has_name-2 c =
-    let l = c.loop-entry in
-    let has = λ (entry : ℕ × Bor (List ℕ) × ℕ × ℕ). bytes_eq (name_in (row_of entry)) c.args.name.now in
-    let found = first-found has c.entries_of-entries.result.now l.entry-index _ c.loop-entry-test.true l.invariant (sym c.if-has_name-2.ensures) in
-    sym (number_by c.args.table c.args.name.now _ c.entries_of-entries.ensures _ found)
-
-pub loop-entry-preserved : goal.loop-entry-preserved
-loop-entry-preserved c =
-    let l = c.loop-entry in
-    let has = λ (entry : ℕ × Bor (List ℕ) × ℕ × ℕ). bytes_eq (name_in (row_of entry)) c.args.name.now in
-    none-more has c.entries_of-entries.result.now l.entry-index _ c.loop-entry-test.true l.invariant (sym c.if-has_name-2.ensures)
-
-pub returns : goal.returns
-returns c =
-    let l = c.loop-entry in
-    let entries = c.entries_of-entries.result.now in
-    let whole : take l.entry-index entries ≡ entries = grind (arith, common_steps) in
-    let none = subst (λ xs. find (λ entry. bytes_eq (name_in (row_of entry)) c.args.name.now) xs ≡ None) whole l.invariant in
-    c.alias_of.ensures ∙ sym (number_by c.args.table c.args.name.now _ c.entries_of-entries.ensures None none)

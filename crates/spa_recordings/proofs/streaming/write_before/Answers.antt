@@ -4,8 +4,8 @@ use Rattle.spa_recordings.proofs.streaming.write_before.Goals as goal
 
 pub returns-in-Ok-clause-stopped : goal.returns-in-Ok-clause-stopped
 returns-in-Ok-clause-stopped g c =
-    stops_at _ _ c.args.count c.args.place _ _ c.args.block.now _ _ _ _ c.in-Some.found c.in-Ok.field-0 c.requires.refuses c.in-Some.ensures refl refl refl
-    refl c.in-Ok.ensures.written
+    stops_at c.args.reading _ _ c.args.before _ _ c.args.block.now _ _ _ _ c.in-Some.found c.in-Ok.field-0 c.requires.refuses c.in-Some.ensures refl refl
+    refl refl c.in-Ok.ensures.written
 
 pub returns-in-Err-Unwritten-clause-stopped : goal.returns-in-Err-Unwritten-clause-stopped
 returns-in-Err-Unwritten-clause-stopped g c =

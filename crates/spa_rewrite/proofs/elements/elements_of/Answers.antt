@@ -12,7 +12,7 @@ returns-then-are_words-clause-there c =
 pub returns-then-is_empty-clause-there : goal.returns-then-is_empty-clause-there
 returns-then-is_empty-clause-there c =
     let same = c.if-size-fixed_len.false in
-    let short = c.if-size-gt-WIDE_LEN.false in
+    let short = c.if-size-gt-TWO_WORDS.false in
     let none = eqb-true _ _ (sym c.if-is_empty.ensures) in
     elements_are _ _ _ _ _ c.if-body-lt-HEADER_LEN.false c.split_at.ensures.back c.u32_at-size.ensures c.u32_at-type_.ensures same
     (c.fixed_len.ensures.is_len (omega arith)) (none_of _ _ none)
@@ -20,7 +20,7 @@ returns-then-is_empty-clause-there c =
 pub returns-clause-there : goal.returns-clause-there
 returns-clause-there c =
     let same = c.if-size-fixed_len.false in
-    let short = c.if-size-gt-WIDE_LEN.false in
+    let short = c.if-size-gt-TWO_WORDS.false in
     let even : length c.split_at.result.1.now % c.u32_at-size.result ≡ 0 = omega arith in
     elements_are _ _ _ _ _ c.if-body-lt-HEADER_LEN.false c.split_at.ensures.back c.u32_at-size.ensures c.u32_at-type_.ensures same
     (c.fixed_len.ensures.is_len (omega arith)) (whole_of _ _ even)

@@ -4,7 +4,7 @@ use Rattle.spa_rewrite.proofs.fault.choice_fault.Goals as goal
 
 pub returns-then-u32_at-len : goal.returns-then-u32_at-len
 returns-then-u32_at-len c =
-    let small = c.if-len-gt-WIDE_LEN.false in
+    let small = c.if-len-gt-TWO_WORDS.false in
     let nonzero = c.if-len-eq0.false in
     let is = c.fixed_len-len.ensures.is_len (omega arith) in
     let size = is.2 in
@@ -13,7 +13,7 @@ returns-then-u32_at-len c =
 
 pub returns-then-body-len-ne0 : goal.returns-then-body-len-ne0
 returns-then-body-len-ne0 c =
-    let small = c.if-len-gt-WIDE_LEN.false in
+    let small = c.if-len-gt-TWO_WORDS.false in
     let nonzero = c.if-len-eq0.false in
     let is = c.fixed_len-len.ensures.is_len (omega arith) in
     let size = is.2 in
@@ -22,7 +22,7 @@ returns-then-body-len-ne0 c =
 
 pub returns : goal.returns
 returns c =
-    let small = c.if-len-gt-WIDE_LEN.false in
+    let small = c.if-len-gt-TWO_WORDS.false in
     let nonzero = c.if-len-eq0.false in
     let is = c.fixed_len-len.ensures.is_len (omega arith) in
     let size = is.2 in

@@ -11,3 +11,8 @@ returns-in-Fits c = c.behind_leaves-surplus.ensures.passed.fits _ c.in-Fits.ensu
 
 pub returns-in-Stops : goal.returns-in-Stops
 returns-in-Stops c = stops_behind _ _ _ _ _ _ _ c.behind_leaves-surplus.ensures.passed c.in-Stops.ensures
+
+pub returns-in-None : goal.returns-in-None
+returns-in-None c =
+    let passed = c.behind_leaves-surplus.ensures in
+    stops_behind _ _ _ _ _ _ _ passed.passed (c.in-None.ensures c.args.canonical passed.last)

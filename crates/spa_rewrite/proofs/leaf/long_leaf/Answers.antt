@@ -1,4 +1,3 @@
-use Rattle.std.specs.Prelude.{false, true}
 use Rattle.spa_rewrite.proofs.Faulted.{other_stops}
 use Rattle.spa_rewrite.proofs.LeafBodies.{never}
 use Rattle.spa_rewrite.proofs.Looks.{asked_own}

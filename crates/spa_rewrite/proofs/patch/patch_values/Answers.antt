@@ -3,7 +3,7 @@ use Rattle.spa_format.specs.Normal.{kept_flags}
 use Rattle.spa_format.specs.Tree.{choice_type}
 use Rattle.spa_format.specs.Typed.{IsBytes}
 use Rattle.spa_format.specs.Words.{word_bytes}
-use Rattle.spa_rewrite.proofs.PatchedBodies.{values_patched}
+use Rattle.spa_rewrite.proofs.PatchedBodies.{values_placed}
 use Rattle.spa_rewrite.proofs.patch.patch_values.Goals as goal
 
 pub returns : goal.returns
@@ -16,5 +16,5 @@ returns c =
     c.copy_from_slice.ensures.after ∙ c.joined.ensures ∙ ap (λ x. x ++ c.two_words.result) c.two_words-header.ensures
     ∙ ap (λ x. (word_bytes (16 + len) ++ word_bytes choice_type) ++ x) c.two_words.ensures in
     let same : 24 + len - 24 ≡ len = omega arith in
-    values_patched _ _ _ _ _ _ _ _ _ bytes c.u32_at-type_.ensures (λ s e. c.written_flags-flags.ensures s e ∙ ap (kept_flags s) c.u32_at.ensures)
+    values_placed _ _ _ _ _ _ _ _ _ bytes c.u32_at-type_.ensures (λ s e. c.written_flags-flags.ensures s e ∙ ap (kept_flags s) c.u32_at.ensures)
     first same c.patch_elements.ensures c.patch_elements.auto.elements c.clear_padding.ensures

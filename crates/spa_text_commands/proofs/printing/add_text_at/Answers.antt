@@ -1,5 +1,6 @@
 use Rattle.std.proofs.Common.{ap, refl, ◌++◌, ◌∙◌}
 use Rattle.spa_text_commands.specs.Texts.{wrapped}
+use Rattle.spa_text_commands.specs.Unread.{words_of}
 use Rattle.spa_text_commands.proofs.PrintedPods.{text_added}
 use Rattle.spa_text_commands.proofs.printing.add_text_at.Goals as goal
 
@@ -12,5 +13,5 @@ returns-clause-added c =
       text_added _ path added.0 _ _ _ _ _ _ begun.0 begun.2 added.1
           (c.in_ok-extend_from_slice.ensures.items ∙ ap (λ m. c.print_in.new.lines.items ++ m) c.as_bytes.ensures.value)
           refl c.in_ok-extend_from_slice-2.ensures.items,
-      (added.0, begun.0, refl, begun.1, added.2),
+      (added.0, words_of c.head_at-head.result, begun.0, refl, c.head_at-head.ensures, begun.1, added.2),
     )

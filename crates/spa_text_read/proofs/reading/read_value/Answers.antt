@@ -1,4 +1,4 @@
-use Rattle.std.proofs.Common.{rules, ◌∙◌, refl, subst}
+use Rattle.std.proofs.Common.{rules, ◌∙◌, ap, refl, subst}
 use Rattle.std.specs.Prelude.{None}
 use Rattle.spa_text_read.specs.Begun.{Steps}
 use Rattle.spa_text_read.proofs.Nesting.{leads_nowhere, leads_refused, leads_to, started_at}
@@ -7,8 +7,8 @@ use Rattle.spa_text_read.proofs.reading.read_value.Goals as goal
 
 pub loop-nest-init : goal.loop-nest-init
 loop-nest-init c =
-    begun_reading c.args.strictness c.args.reader.now _ c.open.new.reader _ c.in-Ok-Begun.inside c.new-outer.result.items c.in-Some.ensures.taken
-    (search rules) (search rules) c.new-outer.ensures.items
+    begun_reading c.args.strictness c.args.reader.now _ c.open.new.reader _ c.in-Ok-Begun.inside c.replace-outer.result.items c.in-Some.ensures.taken
+    (search rules) (search rules) (ap (λ (v : _). v.items) c.replace-outer.ensures.value ∙ c.clear.ensures.items)
 
 pub loop-nest-preserved : goal.loop-nest-preserved
 loop-nest-preserved c =

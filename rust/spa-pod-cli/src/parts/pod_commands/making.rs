@@ -6,13 +6,15 @@ use crate::parts::pod_commands::answer::Failure;
 use crate::parts::pod_commands::colours::{Colours, colours_of, in_colours};
 use crate::parts::pod_commands::files::{Files, read_named};
 use crate::parts::pod_commands::reading::read_leniently;
-use crate::parts::pod_commands::refusing::{formless, refused, unmade};
+use crate::parts::pod_commands::refusing::{
+    FormlessPod, first_formless, formless, refusal_of_formless, refused, unmade,
+};
 use crate::parts::pod_commands::request::{Making, Printing, Style, Texts};
 use crate::parts::pod_commands::streaming::check_all;
 use spa_pod::parts::spa_in_place::rewrite_in_place;
 use crate::parts::spa_meet_commands::settling::settle_all;
 use crate::parts::spa_pod_commands::making::{check, fixated};
-use crate::parts::spa_recordings::going_on::{Made, Maker, Manner, make_each};
+use crate::parts::spa_recordings::going_on::{Made, Maker, Manner, Overlap, Progress, Refused, make_each};
 use crate::parts::spa_recordings::reading::Reading;
 use crate::parts::spa_refusals::{NamedRefusal, add_refusals};
 use crate::parts::spa_text_commands::answer::Failure as TextFailure;
@@ -255,12 +257,83 @@ pub(crate) fn make_what_is_read<'a, R: Read, S: Files>(
     for name in names {
         let bytes = read_named(*name, input, files)?;
         let bytes = bytes.as_slice();
-        let Ok(made) = work_on(making, manner, *name, 0, 0, bytes, &mut refused) else {
-            return Err(unmade(making, manner.reading, *name, bytes));
+        let Ok(made) = work_through(making, manner, *name, bytes, &mut refused) else {
+            return Err(unworked(making, manner, *name, bytes));
         };
         add(&mut out, made)?;
     }
     Ok(Worked { out, refused })
+}
+
+/// Why nothing is made of the input of this name, whose refused pods are left out or kept: `pw-dump` has no form for a pod that isn't left out for that, or
+/// memory ran out.
+fn unworked<'a>(
+    making: Making<'_>,
+    manner: Manner,
+    name: &'a str,
+    input: &[u8],
+) -> Failure<'a> {
+    if leaves_formless_out(manner.refused, making) {
+        return Failure::OutOfMemory;
+    }
+    unmade(making, manner.reading, name, input)
+}
+
+/// Whether pods for which `pw-dump` has no form are left out.
+fn leaves_formless_out(refused: Refused, making: Making<'_>) -> bool {
+    match (refused, making) {
+        (Refused::LeftOut, Making::Dump(_)) => true,
+        _ => false,
+    }
+}
+
+/// The first pod for which `pw-dump` has no form, where such pods are left out.
+fn formless_ahead(
+    making: Making<'_>,
+    manner: Manner,
+    left: &[u8],
+) -> Result<Option<FormlessPod>, AllocError> {
+    if leaves_formless_out(manner.refused, making) {
+        return first_formless(manner.reading, left);
+    }
+    Ok(None)
+}
+
+/// What is made of the input of this name, whose refused pods are left out or kept. What is said of these is added.
+fn work_through<'a>(
+    making: Making<'_>,
+    manner: Manner,
+    name: &'a str,
+    input: &[u8],
+    said: &mut Vec<NamedRefusal<'a>>,
+) -> Result<Vec<u8>, AllocError> {
+    let mut out = Vec::new();
+    let mut before: usize = 0;
+    let mut left = input;
+    loop {
+        let place = input.len() - left.len();
+        match formless_ahead(making, manner, left)? {
+            Some(found) => {
+                let (first, pod) = left.split_at(found.at);
+                let made = work_on(making, manner, name, before, place, first, said)?;
+                add(&mut out, made)?;
+                before += found.before + 1;
+                let refusal = refusal_of_formless(pod, place + found.at, before)?;
+                said.try_push(NamedRefusal {
+                    name,
+                    refusal,
+                    left_out: None,
+                })?;
+                let (_, rest) = pod.split_at(found.len);
+                left = rest;
+            }
+            None => {
+                let made = work_on(making, manner, name, before, place, left, said)?;
+                add(&mut out, made)?;
+                return Ok(out);
+            }
+        }
+    }
 }
 
 /// What is made of a part of the input of this name, which so many pods and bytes of it stand before. What is said of its refused pods is added.
@@ -277,7 +350,13 @@ pub(crate) fn work_on<'a>(
         out: Vec::new(),
         refused: Vec::new(),
     };
-    make_each(&making, manner, name, count, place, part, &mut made)?;
+    let start = Progress {
+        name,
+        count,
+        place,
+        overlap: Overlap { more: 0, end: 0 },
+    };
+    make_each(&making, manner, start, part, &mut made)?;
     add_refusals(
         manner.reading,
         place,

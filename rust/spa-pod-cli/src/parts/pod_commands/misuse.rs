@@ -10,8 +10,6 @@ use core::fmt;
 /// An option that `--stream` excludes.
 #[derive(Clone, Copy, Debug)]
 pub enum Excluded {
-    /// `--lenient`, unless refused pods are left out or kept.
-    Lenient,
     /// `-o`
     Output,
     /// `--resync`
@@ -69,7 +67,6 @@ pub enum Misuse<'a> {
 impl fmt::Display for Excluded {
     fn fmt(&self, f: &mut fmt::Formatter<'_>) -> fmt::Result {
         match self {
-            Excluded::Lenient => f.write_str("--lenient"),
             Excluded::Output => f.write_str("--output"),
             Excluded::Resync => f.write_str("--resync"),
         }
@@ -79,8 +76,6 @@ impl fmt::Display for Excluded {
 /// Why `--stream` excludes this option.
 fn stream_reason(excluded: Excluded) -> &'static str {
     match excluded {
-        Excluded::Lenient =>
-            "an input is held whole for that, but by rewrite and json with --keep-going",
         Excluded::Output => "it writes as input comes, and a file is written at the end",
         Excluded::Resync => "an input is held whole to find where the next pod begins",
     }

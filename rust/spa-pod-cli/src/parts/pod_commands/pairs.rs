@@ -10,11 +10,12 @@ use crate::parts::spa_meet_commands::lists::of_lists;
 use crate::parts::spa_meet_commands::pair::{Work, of_pair};
 use crate::parts::spa_meet_commands::progress::Progress;
 use crate::parts::spa_recordings::reading::Reading;
-use crate::parts::spa_text_commands::comparing::differences;
+use crate::parts::spa_text_commands::comparing::{Comparison, differences};
 use std::io::Read;
 
 /// The lines of text that differ of the pods as which two inputs are read: none where these say the same values.
 pub(crate) fn compare<'a, R: Read, S: Files>(
+    comparison: Comparison,
     reading: Reading,
     ours: &'a str,
     theirs: &'a str,
@@ -25,7 +26,7 @@ pub(crate) fn compare<'a, R: Read, S: Files>(
         Ok(both) => both,
         Err(why) => return Err(why),
     };
-    match differences(first.as_slice(), second.as_slice()) {
+    match differences(comparison, first.as_slice(), second.as_slice()) {
         Ok(lines) => Ok(lines),
         // What is read leniently is refused for lack of memory alone.
         Err(_) => Err(either_refused(ours, theirs, first.as_slice(), second.as_slice())),

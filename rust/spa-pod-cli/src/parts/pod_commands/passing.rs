@@ -84,7 +84,7 @@ fn pass_reader<'a, R: Read, W: Write>(
             let Worker { said, .. } = worker;
             Ok(said)
         }
-        Err(why) => Err(failure_of(name, why)),
+        Err(why) => Err(failure_of(manner.reading, name, why)),
     }
 }
 

@@ -7,7 +7,7 @@ use crate::parts::pod_commands::request::Making;
 use spa_pod::parts::spa_bytes::open;
 use crate::parts::spa_pod_commands::answer::Failure as Unread;
 use crate::parts::spa_recordings::reading::{Reading, read_as};
-use crate::parts::spa_refusals::{first_refusal, refusal_for};
+use crate::parts::spa_refusals::{Refusal, first_refusal, refusal_for};
 use crate::parts::spa_text_commands::params::{Unprinted, print_params};
 use spa_pod::shims::memory::AllocError;
 
@@ -63,38 +63,60 @@ pub(crate) fn formless<'a>(
     name: &'a str,
     input: &[u8],
 ) -> Failure<'a> {
-    let Ok(Some(place)) = first_formless(reading, input) else {
+    let Ok(Some(found)) = first_formless(reading, input) else {
         return Failure::OutOfMemory;
     };
-    match refusal_for(input, place, "NoForm", "pw-dump has no form for it") {
+    let (_, pod) = input.split_at(found.at);
+    match refusal_of_formless(pod, found.at, found.before + 1) {
         Ok(why) => Failure::Pods(name, why),
         Err(_) => Failure::OutOfMemory,
     }
 }
 
-/// The place of the first pod that is read so and for which `pw-dump` has no form.
-fn first_formless(
-    reading: Reading,
-    input: &[u8],
-) -> Result<Option<usize>, AllocError> {
-    let mut left = input;
-    while !left.is_empty() {
-        let rest = behind_front(left);
-        let (pod, _) = left.split_at(left.len() - rest.len());
-        if is_formless(reading, pod)? {
-            return Ok(Some(input.len() - left.len()));
-        }
-        left = rest;
-    }
-    Ok(None)
+/// The refusal of the pod of this number, which begins with these bytes at this byte, and for which `pw-dump` has no form.
+pub(crate) fn refusal_of_formless(
+    pod: &[u8],
+    place: usize,
+    number: usize,
+) -> Result<Refusal, AllocError> {
+    refusal_for(
+        pod,
+        place,
+        number,
+        "NoForm",
+        "pw-dump has no form for it",
+    )
 }
 
-/// What follows the pod at the front; nothing where none is whole.
-fn behind_front(left: &[u8]) -> &[u8] {
-    match open(left) {
-        Some(front) => front.rest,
-        None => &[],
+/// A pod for which `pw-dump` has no form.
+#[derive(Clone, Copy)]
+pub(crate) struct FormlessPod {
+    /// How many pods stand before it.
+    pub(crate) before: usize,
+    /// The byte where it begins.
+    pub(crate) at: usize,
+    /// How many bytes it takes.
+    pub(crate) len: usize,
+}
+
+/// The first pod that is read so and for which `pw-dump` has no form.
+pub(crate) fn first_formless(
+    reading: Reading,
+    input: &[u8],
+) -> Result<Option<FormlessPod>, AllocError> {
+    let mut left = input;
+    let mut before: usize = 0;
+    while let Some(front) = open(left) {
+        let len = left.len() - front.rest.len();
+        let (pod, _) = left.split_at(len);
+        if is_formless(reading, pod)? {
+            let at = input.len() - left.len();
+            return Ok(Some(FormlessPod { before, at, len }));
+        }
+        before += 1;
+        left = front.rest;
     }
+    Ok(None)
 }
 
 /// Whether this pod is read so, and `pw-dump` has no form for it.

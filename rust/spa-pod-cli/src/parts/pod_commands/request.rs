@@ -12,6 +12,7 @@ use crate::shims::clap::{ArgMatches, Error};
 use crate::parts::spa_meet_commands::pair::Work;
 use crate::parts::spa_recordings::going_on::Refused;
 use crate::parts::spa_recordings::reading::Reading;
+use crate::parts::spa_text_commands::comparing::Comparison;
 use crate::parts::spa_text_commands::naming::{Named, are_names};
 use crate::parts::spa_text_commands::printing::Layout;
 use crate::parts::spa_text_commands::selection::{Form, Printout, Selection};
@@ -101,13 +102,21 @@ pub enum Word<'a> {
     Print(Printing<'a>, Manner),
     /// This is made of each input, which is read so.
     Make(Making<'a>, Manner),
-    /// This is written of each input as it comes, which is read so. `--lenient`, `--keep-going`, `--keep-refused` and
-    /// `-o` don't go with it.
+    /// This is written of each input as it comes, which is read so. `-o` and `--resync` don't go with it.
     Stream(Streaming<'a>, Manner),
-    /// Two inputs, which are read so, are compared.
-    Diff(Reading),
+    /// Two inputs, which are read so, are compared so.
+    Diff(Comparison, Reading),
     /// The object is sought on which two of one input agree, or the first pair of two lists, of inputs that are read so.
     Agree(Work, Reading),
+}
+
+/// The flags that one word alone takes.
+#[derive(Clone, Copy)]
+pub struct Flags {
+    /// `fixate` puts plain values in place of choices.
+    pub settles: bool,
+    /// `diff` compares recorded messages without what each run sets anew.
+    pub across_runs: bool,
 }
 
 /// What the words ask for.
@@ -152,7 +161,7 @@ pub(crate) fn request_of<'a>(
         manner,
         is_set(given, "stream"),
         read_as,
-        is_set(given, "settle"),
+        flags_in(given),
         dumps,
     ) else {
         return Ok(Err(Misuse::NoWord));
@@ -172,7 +181,7 @@ fn word_of<'a>(
     manner: Manner,
     streams: bool,
     read_as: Texts,
-    settles: bool,
+    flags: Flags,
     dumps: bool,
 ) -> Option<Word<'a>> {
     match name {
@@ -181,9 +190,9 @@ fn word_of<'a>(
         "json" => Some(json_or_dump(options, manner, streams, dumps)),
         "read" => Some(Word::Make(Making::Read(read_as), PLAIN)),
         "rewrite" => Some(rewriting(manner, streams)),
-        "fixate" => Some(Word::Make(fixating(settles), manner)),
+        "fixate" => Some(Word::Make(fixating(flags.settles), manner)),
         "check" => Some(Word::Make(Making::Check, manner)),
-        "diff" => Some(Word::Diff(manner.reading)),
+        "diff" => Some(Word::Diff(comparison_by(flags.across_runs), manner.reading)),
         "meet" => Some(Word::Agree(Work::Negotiate, manner.reading)),
         "filter" => Some(Word::Agree(Work::Filter, manner.reading)),
         _ => None,
@@ -314,7 +323,7 @@ fn writes_pods(word: Word<'_>) -> bool {
         Word::Print(printing, _) => printing.printout.form.is_pods(),
         Word::Make(making, _) => makes_pods(making),
         Word::Stream(streaming, _) => streams_pods(streaming),
-        Word::Diff(_) => false,
+        Word::Diff(_, _) => false,
         Word::Agree(_, _) => true,
     }
 }
@@ -488,6 +497,23 @@ fn rewriting<'a>(manner: Manner, streams: bool) -> Word<'a> {
         Word::Stream(Streaming::Rewrite, manner)
     } else {
         Word::Make(Making::Rewrite, manner)
+    }
+}
+
+/// The flags that one word alone takes, as they are given.
+fn flags_in(given: &ArgMatches<'_>) -> Flags {
+    Flags {
+        settles: is_set(given, "settle"),
+        across_runs: is_set(given, "across-runs"),
+    }
+}
+
+/// As what pods are compared where `--across-runs` is given, or isn't.
+fn comparison_by(across_runs: bool) -> Comparison {
+    if across_runs {
+        Comparison::AcrossRuns
+    } else {
+        Comparison::Whole
     }
 }
 

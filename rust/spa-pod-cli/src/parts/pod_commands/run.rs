@@ -20,8 +20,10 @@ use crate::parts::spa_meet_commands::progress::Progress;
 use crate::parts::spa_recordings::going_on as recordings;
 use crate::parts::spa_recordings::going_on::Refused;
 use crate::parts::spa_recordings::reading::Reading;
+use crate::parts::spa_recordings::streaming::Made;
+use crate::parts::spa_text_commands::comparing::Comparison;
 use crate::parts::spa_text_commands::selection::Selection;
-use std::io::{self, Read, Write};
+use std::io::{Read, Write};
 
 /// Does what the words ask for, the program's own name not among them.
 ///
@@ -76,7 +78,9 @@ fn do_work<'a, R: Read, S: Files, P: Progress, W: Write>(
                 streaming, manner, names, target, input, files, device,
             )
         }
-        Word::Diff(reading) => diff(reading, names, target, input, files, device),
+        Word::Diff(comparison, reading) => diff(
+            comparison, reading, names, target, input, files, device,
+        ),
         Word::Agree(work, reading) => {
             seek(
                 work, reading, names, target, input, files, progress, device,
@@ -153,6 +157,7 @@ fn rewrite_twice<'a, R: Read, S: Files, W: Write>(
                 (Answer::Refused(why), device)
             }
             None => write_as(
+                Reading::Exact,
                 Streaming::Rewrite,
                 names,
                 target,
@@ -197,14 +202,13 @@ fn go_on<'a, R: Read, S: Files, W: Write>(
 }
 
 /// An option that `--stream` excludes, if one is given.
-fn excluded_in(manner: Manner, target: Option<&str>) -> Option<Excluded> {
-    match (manner.reading, manner.fate, target) {
-        (_, _, Some(_)) => Some(Excluded::Output),
-        (Reading::Lenient, Fate::Stops, None) => Some(Excluded::Lenient),
-        (Reading::Exact, Fate::Stops, None) => None,
-        (_, Fate::GoesOn(Refused::Resynced), None) => Some(Excluded::Resync),
-        (_, Fate::GoesOn(Refused::LeftOut), None) => None,
-        (_, Fate::GoesOn(Refused::Kept), None) => None,
+fn excluded_in(fate: Fate, target: Option<&str>) -> Option<Excluded> {
+    match (fate, target) {
+        (_, Some(_)) => Some(Excluded::Output),
+        (Fate::Stops, None) => None,
+        (Fate::GoesOn(Refused::LeftOut), None) => None,
+        (Fate::GoesOn(Refused::Kept), None) => None,
+        (Fate::GoesOn(Refused::Resynced), None) => Some(Excluded::Resync),
     }
 }
 
@@ -228,7 +232,7 @@ fn stream<'a, R: Read, S: Files, W: Write>(
     files: &mut S,
     device: W,
 ) -> (Answer<'a>, W) {
-    if let Some(other) = excluded_in(manner, target) {
+    if let Some(other) = excluded_in(manner.fate, target) {
         return (Answer::Misused(Misuse::WithStream(other)), device);
     }
     stream_by(
@@ -247,7 +251,17 @@ fn stream_by<'a, R: Read, S: Files, W: Write>(
     device: W,
 ) -> (Answer<'a>, W) {
     match manner.fate {
-        Fate::Stops => write_as(streaming, names, target, input, files, device),
+        Fate::Stops => {
+            write_as(
+                manner.reading,
+                streaming,
+                names,
+                target,
+                input,
+                files,
+                device,
+            )
+        }
         Fate::GoesOn(refused) => match made_as(streaming) {
             Some(making) => {
                 let manner = recordings::Manner {
@@ -282,42 +296,19 @@ fn pass<'a, R: Read, S: Files, W: Write>(
     }
 }
 
-/// Writes this of the inputs of these names as they come; no file is written.
+/// Writes this of the inputs of these names, which are read so, as they come; no file is written.
 fn write_as<'a, R: Read, S: Files, W: Write>(
+    reading: Reading,
     streaming: Streaming<'a>,
     names: &[&'a str],
     target: Option<&'a str>,
     input: &mut R,
     files: &mut S,
-    device: W,
+    mut device: W,
 ) -> (Answer<'a>, W) {
-    let mut output = Noted {
-        device,
-        is_written: false,
-    };
-    match stream_all(streaming, names, input, files, &mut output) {
-        Ok(refused) => {
-            let Noted { device, is_written } = output;
-            (shown(refused, looked_for(streaming), is_written), device)
-        }
-        Err(why) => (Answer::Refused(why), output.device),
-    }
-}
-
-/// A device, and whether anything was written to it.
-struct Noted<W> {
-    device: W,
-    is_written: bool,
-}
-
-impl<W: Write> Write for Noted<W> {
-    fn write(&mut self, bytes: &[u8]) -> io::Result<usize> {
-        self.is_written = self.is_written || !bytes.is_empty();
-        self.device.write(bytes)
-    }
-
-    fn flush(&mut self) -> io::Result<()> {
-        self.device.flush()
+    match stream_all(reading, streaming, names, input, files, &mut device) {
+        Ok(made) => (shown(made, looked_for(streaming)), device),
+        Err(why) => (Answer::Refused(why), device),
     }
 }
 
@@ -340,18 +331,18 @@ fn sought_in<'a>(selection: Selection<'a>) -> Option<Selection<'a>> {
     }
 }
 
-/// The answer where all is written, which may be nothing, so many pods are refused, and this was looked for.
-fn shown<'a>(refused: usize, sought: Option<Selection<'a>>, is_written: bool) -> Answer<'a> {
-    if refused != 0 {
-        return Answer::Shown(refused);
+/// The answer where all is printed, of which this is answered, and this was looked for.
+fn shown<'a>(made: Made, sought: Option<Selection<'a>>) -> Answer<'a> {
+    if made.refused != 0 {
+        return Answer::Shown(made.refused);
     }
     let Some(selection) = sought else {
         return Answer::Done;
     };
-    if is_written {
-        return Answer::Done;
+    if made.nothing {
+        return Answer::Missing(selection);
     }
-    Answer::Missing(selection)
+    Answer::Done
 }
 
 /// Prints this of the inputs of these names, where no refused pod is to be left out.
@@ -414,7 +405,7 @@ fn print_leniently<'a, R: Read, S: Files, W: Write>(
     ) {
         Ok(made) => {
             let sought = sought_in(printing.printout.selection);
-            let done = shown(0, sought, !made.is_empty());
+            let done = shown(Made::of(0, made.as_slice()), sought);
             answered(files, target, device, Ok(made), done)
         }
         Err(why) => (Answer::Refused(why), device),
@@ -432,6 +423,7 @@ fn print_inputs<'a, R: Read, S: Files, W: Write>(
 ) -> (Answer<'a>, W) {
     match target {
         None => write_as(
+            Reading::Exact,
             Streaming::Print(printing),
             names,
             None,
@@ -454,18 +446,15 @@ fn print_to_file<'a, R: Read, S: Files, W: Write>(
 ) -> (Answer<'a>, W) {
     let mut printed = Vec::new();
     match stream_all(
+        Reading::Exact,
         Streaming::Print(printing),
         names,
         input,
         files,
         &mut printed,
     ) {
-        Ok(refused) => {
-            let done = shown(
-                refused,
-                looked_for(Streaming::Print(printing)),
-                !printed.is_empty(),
-            );
+        Ok(made) => {
+            let done = shown(made, looked_for(Streaming::Print(printing)));
             answered(files, target, device, Ok(printed), done)
         }
         Err(Failure::Unwritten(_)) => (Answer::Refused(Failure::OutOfMemory), device),
@@ -473,8 +462,9 @@ fn print_to_file<'a, R: Read, S: Files, W: Write>(
     }
 }
 
-/// Compares the two inputs of these names, which are read so.
+/// Compares the two inputs of these names, which are read so, as this.
 fn diff<'a, R: Read, S: Files, W: Write>(
+    comparison: Comparison,
     reading: Reading,
     names: &[&'a str],
     target: Option<&'a str>,
@@ -485,7 +475,7 @@ fn diff<'a, R: Read, S: Files, W: Write>(
     let [ours, theirs] = names else {
         return (Answer::Misused(misuse_of(names)), device);
     };
-    let lines = match compare(reading, *ours, *theirs, input, files) {
+    let lines = match compare(comparison, reading, *ours, *theirs, input, files) {
         Ok(lines) => lines,
         Err(why) => return (Answer::Refused(why), device),
     };

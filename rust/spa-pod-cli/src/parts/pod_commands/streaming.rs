@@ -7,33 +7,42 @@ use crate::parts::pod_commands::files::{Files, open_named};
 use crate::parts::pod_commands::request::{Printing, Streaming, Style};
 use crate::parts::spa_pod_commands::making::check;
 use crate::parts::spa_recordings::reading::Reading;
-use crate::parts::spa_recordings::streaming::{BlockWriter, NotMade, Rewriter, Stop, stream, write_made};
+use crate::parts::spa_recordings::streaming::{BlockWriter, Made, NotMade, Rewriter, Stop, stream, write_made};
 use crate::parts::spa_refusals::refusal_of;
 use crate::parts::spa_text_commands::answer;
 use crate::parts::spa_text_commands::printing::print_all;
 use crate::parts::spa_text_commands::showing::{Printed, show_pods};
 use std::io::{self, Read, Write};
 
-/// Writes this of the inputs of these names, and answers how many of their pods are refused.
+/// Writes this of the inputs of these names, which are read so, and answers how many of their pods are refused, and whether it is nothing.
 pub(crate) fn stream_all<'a, R: Read, S: Files, W: Write>(
+    reading: Reading,
     streaming: Streaming<'_>,
     names: &[&'a str],
     input: &mut R,
     files: &S,
     output: &mut W,
-) -> Result<usize, Failure<'a>> {
-    let mut refused: usize = 0;
+) -> Result<Made, Failure<'a>> {
+    let mut made = Made {
+        refused: 0,
+        nothing: true,
+    };
     for name in names {
-        match stream_named(streaming, *name, input, files, output) {
-            Ok(more) => match refused.checked_add(more) {
-                Some(sum) => refused = sum,
+        match stream_named(reading, streaming, *name, input, files, output) {
+            Ok(more) => match made.refused.checked_add(more.refused) {
+                Some(refused) => {
+                    made = Made {
+                        refused,
+                        nothing: made.nothing & more.nothing,
+                    };
+                }
                 // So many can't be counted.
                 None => return Err(Failure::OutOfMemory),
             },
             Err(why) => return Err(why),
         }
     }
-    Ok(refused)
+    Ok(made)
 }
 
 /// Passes where the inputs of these names consist of pods, which it looks at block by block; nothing is written.
@@ -43,61 +52,75 @@ pub(crate) fn check_all<'a, R: Read, S: Files>(
     files: &S,
 ) -> Result<(), Failure<'a>> {
     let mut nowhere = io::sink();
-    match stream_all(Streaming::Check, names, input, files, &mut nowhere) {
+    match stream_all(
+        Reading::Exact,
+        Streaming::Check,
+        names,
+        input,
+        files,
+        &mut nowhere,
+    ) {
         Ok(_) => Ok(()),
         Err(why) => Err(why),
     }
 }
 
-/// Writes this of the input of this name, and answers how many of its pods are refused.
+/// Writes this of the input of this name, which is read so, and answers how many of its pods are refused, and whether it is nothing.
 fn stream_named<'a, R: Read, S: Files, W: Write>(
+    reading: Reading,
     streaming: Streaming<'_>,
     name: &'a str,
     input: &mut R,
     files: &S,
     output: &mut W,
-) -> Result<usize, Failure<'a>> {
+) -> Result<Made, Failure<'a>> {
     if name == "-" {
-        return stream_reader(streaming, name, input, output);
+        return stream_reader(reading, streaming, name, input, output);
     }
-    stream_file(streaming, name, files, output)
+    stream_file(reading, streaming, name, files, output)
 }
 
-/// Writes this of the file of this name, and answers how many of its pods are refused.
+/// Writes this of the file of this name, which is read so, and answers how many of its pods are refused, and whether it is nothing.
 fn stream_file<'a, S: Files, W: Write>(
+    reading: Reading,
     streaming: Streaming<'_>,
     name: &'a str,
     files: &S,
     output: &mut W,
-) -> Result<usize, Failure<'a>> {
+) -> Result<Made, Failure<'a>> {
     let mut file = match open_named(name, files) {
         Ok(file) => file,
         Err(why) => return Err(why),
     };
-    stream_reader(streaming, name, &mut file, output)
+    stream_reader(reading, streaming, name, &mut file, output)
 }
 
-/// Writes this of what the reader of this name gives, and answers how many of its pods are refused.
+/// Writes this of what the reader of this name gives, read so, and answers how many of its pods are refused, and whether it is nothing.
 fn stream_reader<'a, R: Read, W: Write>(
+    reading: Reading,
     streaming: Streaming<'_>,
     name: &'a str,
     input: &mut R,
     output: &mut W,
-) -> Result<usize, Failure<'a>> {
-    match stream(&streaming, input, output) {
-        Ok(refused) => Ok(refused),
-        Err(why) => Err(failure_of(name, why)),
+) -> Result<Made, Failure<'a>> {
+    match stream(reading, &streaming, input, output) {
+        Ok(made) => Ok(made),
+        Err(why) => Err(failure_of(reading, name, why)),
     }
 }
 
-/// The failure of the input of this name for this reason.
-pub(crate) fn failure_of<'a>(name: &'a str, why: Stop) -> Failure<'a> {
+/// The failure of the input of this name, which is read so, for this reason.
+pub(crate) fn failure_of<'a>(
+    reading: Reading,
+    name: &'a str,
+    why: Stop,
+) -> Failure<'a> {
     match why {
         Stop::Pod {
             number,
             place,
             read,
-        } => refused_at(name, number, place, read.as_slice()),
+        } => refused_at(reading, name, number, place, read.as_slice()),
         Stop::OutOfMemory => Failure::OutOfMemory,
         Stop::ReadFailed => Failure::Unread(name, "read failed"),
         Stop::WriteFailed => Failure::Unwritten(None),
@@ -106,12 +129,13 @@ pub(crate) fn failure_of<'a>(name: &'a str, why: Stop) -> Failure<'a> {
 
 /// The refusal of the pod of this number of the input of this name, which begins with these bytes at this byte.
 fn refused_at<'a>(
+    reading: Reading,
     name: &'a str,
     number: usize,
     place: usize,
     read: &[u8],
 ) -> Failure<'a> {
-    match refusal_of(Reading::Exact, read, place, number) {
+    match refusal_of(reading, read, place, number) {
         Ok(refusal) => Failure::Pods(name, refusal),
         Err(_) => Failure::OutOfMemory,
     }
@@ -124,7 +148,7 @@ impl BlockWriter for Streaming<'_> {
         place: usize,
         block: &mut [u8],
         output: &mut W,
-    ) -> Result<usize, NotMade> {
+    ) -> Result<Made, NotMade> {
         match self {
             Streaming::Json(style) => write_texts(*style, count, place, &*block, output),
             Streaming::Rewrite => Rewriter.write_block(count, place, block, output),
@@ -132,7 +156,7 @@ impl BlockWriter for Streaming<'_> {
                 write_printed(*printing, count, place, &*block, output)
             }
             Streaming::Check => match check(&*block) {
-                Ok(()) => Ok(0),
+                Ok(()) => Ok(Made::of(0, &[])),
                 Err(_) => Err(NotMade::Refused),
             },
         }
@@ -146,7 +170,7 @@ fn write_texts<W: Write>(
     place: usize,
     block: &[u8],
     output: &mut W,
-) -> Result<usize, NotMade> {
+) -> Result<Made, NotMade> {
     let texts = match print_all(style.layout, block) {
         Ok(texts) => texts,
         Err(answer::Failure::OutOfMemory) => return Err(NotMade::OutOfMemory),
@@ -156,20 +180,20 @@ fn write_texts<W: Write>(
         return Err(NotMade::OutOfMemory);
     };
     match write_made(output, made.as_slice()) {
-        Ok(()) => Ok(0),
+        Ok(()) => Ok(Made::of(0, made.as_slice())),
         Err(_) => Err(NotMade::Unwritten),
     }
 }
 
 /// Writes what is printed of the pods of a block, which so many pods and bytes of the input stand before, and answers how many of the printed pods
-/// are refused.
+/// are refused, and whether that is nothing.
 fn write_printed<W: Write>(
     printing: Printing<'_>,
     count: usize,
     place: usize,
     block: &[u8],
     output: &mut W,
-) -> Result<usize, NotMade> {
+) -> Result<Made, NotMade> {
     let Ok(printed) = show_pods(printing.printout, count, place, block) else {
         // What the whole pods that a block consists of are printed as is there, unless memory runs out.
         return Err(NotMade::OutOfMemory);
@@ -180,7 +204,7 @@ fn write_printed<W: Write>(
         return Err(NotMade::OutOfMemory);
     };
     match write_made(output, made.as_slice()) {
-        Ok(()) => Ok(refused),
+        Ok(()) => Ok(Made::of(refused, made.as_slice())),
         Err(_) => Err(NotMade::Unwritten),
     }
 }

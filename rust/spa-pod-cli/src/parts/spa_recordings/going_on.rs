@@ -4,8 +4,10 @@
 use spa_pod::shims::prelude::*;
 use crate::parts::spa_recordings::blocks::whole_of;
 use crate::parts::spa_recordings::plausible::{is_plausible, next_plausible};
-use crate::parts::spa_recordings::reading::{Reading, first_unread, read_as};
+use crate::parts::spa_recordings::reading::{Reading, Unread, first_unread, read_as};
 use spa_pod::parts::spa_bytes::{HEADER_LEN, open};
+use spa_pod::parts::spa_rewrite::{Rejected, find_fault};
+use spa_pod::parts::spa_utils::SpaTypes;
 use spa_pod::shims::memory::AllocError;
 
 /// What becomes of a refused pod.
@@ -15,7 +17,8 @@ pub enum Refused {
     LeftOut,
     /// It is kept as it is.
     Kept,
-    /// It is left out alone, if behind it the input ends or a pod plausibly begins; else with all up to where one does, or up to the end.
+    /// It is left out alone, if behind it the input ends or a pod plausibly begins; else with all up to where one does, or up to the end. Where 64 such
+    /// pods overlap, the next one is sought from the furthest byte on to which one of them was read.
     Resynced,
 }
 
@@ -24,6 +27,31 @@ pub enum Refused {
 pub struct Manner {
     pub reading: Reading,
     pub refused: Refused,
+}
+
+/// How many refused pods that overlap are tried in a row.
+const TRIED: usize = 64;
+
+/// Refused pods of which each begins before the furthest byte to which those before it were read. Where none was refused, both numbers are 0.
+#[derive(Clone, Copy, Debug)]
+pub struct Overlap {
+    /// How many more are tried.
+    pub more: usize,
+    /// The furthest byte of the input to which these pods were read.
+    pub end: usize,
+}
+
+/// How far the work on an input is.
+#[derive(Clone, Copy, Debug)]
+pub struct Progress<'a> {
+    /// The name of the input.
+    pub name: &'a str,
+    /// How many pods of it stand before. What is left out with a refused pod counts as one.
+    pub count: usize,
+    /// How many bytes of it do.
+    pub place: usize,
+    /// The refused pods that overlap before it.
+    pub overlap: Overlap,
 }
 
 /// Bytes that are left out with a refused pod.
@@ -64,27 +92,23 @@ pub trait Maker {
     fn make(&self, pods: Vec<u8>) -> Result<Vec<u8>, AllocError>;
 }
 
-/// Adds what is made of the pods of the input of this name, and which of them are refused; so many pods and bytes of it stand before these.
+/// Adds what is made of the pods of an input from here on, and which of them are refused.
 ///
 /// A refused pod is as long as its size word says; where that is more than is left, or no size word is there, it is all that is left. `Resynced` doesn't
-/// trust the size word. It takes time in proportion to the input, beside what the maker takes; where refused pods are tried one inside
-/// another, that many times as long.
+/// trust the size word. It takes time in proportion to the input, beside what the maker takes; with `Resynced` no byte is read more than 64 times that often.
 pub fn make_each<'a, M: Maker>(
     maker: &M,
     manner: Manner,
-    name: &'a str,
-    count: usize,
-    before: usize,
+    start: Progress<'a>,
     input: &[u8],
     made: &mut Made<'a>,
 ) -> Result<(), AllocError> {
+    let mut at = start;
     let mut left = input;
-    let mut number = count;
     loop {
-        let place = before + (input.len() - left.len());
-        match make_next(maker, manner, name, number, place, left, made)? {
+        match make_next(maker, manner, at, left, made)? {
             Some(behind) => {
-                number = behind.number;
+                at = behind.at;
                 left = behind.rest;
             }
             None => return Ok(()),
@@ -92,11 +116,10 @@ pub fn make_each<'a, M: Maker>(
     }
 }
 
-/// What follows a refused pod.
+/// What follows a refused pod and what is left out with it.
 #[derive(Clone, Copy)]
-struct Behind<'b> {
-    /// Which pod of the input that one is.
-    number: usize,
+struct Behind<'a, 'b> {
+    at: Progress<'a>,
     rest: &'b [u8],
 }
 
@@ -105,31 +128,35 @@ struct Behind<'b> {
 fn make_next<'a, 'b, M: Maker>(
     maker: &M,
     manner: Manner,
-    name: &'a str,
-    count: usize,
-    place: usize,
+    from: Progress<'a>,
     left: &'b [u8],
     made: &mut Made<'a>,
-) -> Result<Option<Behind<'b>>, AllocError> {
+) -> Result<Option<Behind<'a, 'b>>, AllocError> {
     let Some(unread) = first_unread(manner.reading, left)? else {
         add_made(maker, manner.reading, left, &mut made.out)?;
         return Ok(None);
     };
     let (before, _) = left.split_at(left.len() - unread.left.len());
     add_made(maker, manner.reading, before, &mut made.out)?;
-    let len = passed_len(manner.refused, unread.left);
-    let (passed, rest) = unread.left.split_at(len);
-    keep(manner.refused, passed, &mut made.out)?;
-    let number = count + whole_of(before).count + 1;
-    let at = place + before.len();
+    let place = from.place + before.len();
+    let passed = passed_with(manner, from.overlap, place, unread)?;
+    let (bytes, rest) = unread.left.split_at(passed.len);
+    keep(manner.refused, bytes, &mut made.out)?;
+    let count = from.count + whole_of(before).count + 1;
     made.refused.try_push(RefusedPod {
-        name,
-        number,
-        place: at,
+        name: from.name,
+        number: count,
+        place,
         kind: unread.kind,
-        left_out: left_out_by(manner.refused, at, len),
+        left_out: left_out_by(manner.refused, place, passed.len),
     })?;
-    Ok(Some(Behind { number, rest }))
+    let at = Progress {
+        name: from.name,
+        count,
+        place: place + passed.len,
+        overlap: passed.overlap,
+    };
+    Ok(Some(Behind { at, rest }))
 }
 
 /// Adds what is made of the pods as which these bytes are read.
@@ -146,13 +173,27 @@ fn add_made<M: Maker>(
     out.try_extend_from_slice(more.as_slice())
 }
 
-/// How many bytes are passed with the refused pod at the front.
-fn passed_len(refused: Refused, left: &[u8]) -> usize {
-    match refused {
-        Refused::LeftOut => front_len(left),
-        Refused::Kept => front_len(left),
-        Refused::Resynced => len_to_plausible(left),
+/// What is passed with a refused pod.
+#[derive(Clone, Copy)]
+struct Passed {
+    /// How many bytes.
+    len: usize,
+    /// The refused pods that overlap, with this one.
+    overlap: Overlap,
+}
+
+/// What is passed with this refused pod, which begins at this byte of the input, behind refused pods that overlap.
+fn passed_with(
+    manner: Manner,
+    overlap: Overlap,
+    place: usize,
+    pod: Unread<'_>,
+) -> Result<Passed, AllocError> {
+    if let Refused::Resynced = manner.refused {
+        return resync(manner.reading, overlap, place, pod);
     }
+    let len = front_len(pod.left);
+    Ok(Passed { len, overlap })
 }
 
 /// How many bytes the pod at the front takes, or are there of it.
@@ -163,15 +204,89 @@ fn front_len(left: &[u8]) -> usize {
     }
 }
 
-/// How many bytes are left out with the refused pod at the front where its size word isn't trusted.
-fn len_to_plausible(left: &[u8]) -> usize {
+/// What is left out with a refused pod whose size word isn't trusted.
+fn resync(
+    reading: Reading,
+    overlap: Overlap,
+    place: usize,
+    pod: Unread<'_>,
+) -> Result<Passed, AllocError> {
+    let left = pod.left;
     if is_well_followed(left) {
-        return front_len(left);
+        let len = front_len(left);
+        return Ok(Passed { len, overlap });
     }
-    match next_plausible(left, HEADER_LEN) {
+    let read = read_len(reading, pod)?;
+    let overlap = with_one(overlap, place, place + read);
+    let len = match next_plausible(left, sought_from(overlap, place)) {
         Some(at) => at,
         None => left.len(),
+    };
+    Ok(Passed { len, overlap })
+}
+
+/// How far a refused pod is read: so many bytes of it stand before its fault, or leniently before the end of its first member that isn't read.
+fn read_len(reading: Reading, pod: Unread<'_>) -> Result<usize, AllocError> {
+    match reading {
+        Reading::Exact => fault_place(pod),
+        Reading::Lenient => member_end(pod),
     }
+}
+
+/// How many bytes of a refused pod stand before its fault.
+fn fault_place(pod: Unread<'_>) -> Result<usize, AllocError> {
+    match find_fault(pod.left) {
+        Ok(()) => unreachable!(),
+        Err((_, rejected)) => match rejected {
+            Rejected::Fault(_, at, _) => Ok(at),
+            Rejected::TooDeep => Err(AllocError),
+        },
+    }
+}
+
+/// How many bytes of a refused pod stand before the end of its first member that isn't read leniently; before its own, where it is no struct; none, where it
+/// isn't whole.
+fn member_end(pod: Unread<'_>) -> Result<usize, AllocError> {
+    let Some(front) = open(pod.left) else {
+        return Ok(0);
+    };
+    if front.type_ != SpaTypes::Struct.0 {
+        return Ok(front_len(pod.left));
+    }
+    let Some(member) = first_unread(Reading::Lenient, front.body)? else {
+        unreachable!();
+    };
+    Ok(HEADER_LEN + (front.body.len() - member.left.len()) + whole_len(member.left))
+}
+
+/// How many bytes the pod at the front takes, where it is whole; else none.
+fn whole_len(bytes: &[u8]) -> usize {
+    match open(bytes) {
+        Some(front) => bytes.len() - front.rest.len(),
+        None => 0,
+    }
+}
+
+/// The refused pods that overlap, with one more, which begins at this place and is read up to this byte.
+fn with_one(before: Overlap, place: usize, end: usize) -> Overlap {
+    if place < before.end {
+        return Overlap {
+            more: before.more.saturating_sub(1),
+            end: before.end.max(end),
+        };
+    }
+    Overlap {
+        more: TRIED - 1,
+        end,
+    }
+}
+
+/// From which byte of the last of these refused pods on, which begins at this place, the next pod is sought.
+fn sought_from(overlap: Overlap, place: usize) -> usize {
+    if overlap.more > 0 {
+        return HEADER_LEN;
+    }
+    HEADER_LEN.max(overlap.end.saturating_sub(place))
 }
 
 /// Whether the pod at the front is whole, and behind it the input ends or a pod plausibly begins.

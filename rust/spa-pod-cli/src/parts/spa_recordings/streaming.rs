@@ -4,13 +4,15 @@
 use spa_pod::shims::prelude::*;
 use crate::parts::spa_recordings::blocks::{Blocks, whole_of};
 use crate::parts::spa_recordings::reading::{Reading, first_unread};
+use spa_pod::parts::spa_fixed_sized::DeserializeError;
 use spa_pod::parts::spa_in_place::rewrite_in_place;
+use spa_pod::parts::spa_lenient::rewrite_in_place_leniently;
 use crate::parts::spa_pod_commands::output::write;
 use std::io::{Read, Write};
 
 /// Why the work on an input ends before that does.
 pub enum Stop {
-    /// A pod is refused.
+    /// A pod isn't read, or isn't whole.
     Pod {
         /// Which pod of the input it is, the first being 1.
         number: usize,
@@ -38,17 +40,36 @@ pub enum NotMade {
     Unwritten,
 }
 
+/// What is answered of bytes that are made of pods.
+#[derive(Clone, Copy)]
+pub struct Made {
+    /// How many of the pods are refused.
+    pub refused: usize,
+    /// Whether the bytes are none.
+    pub nothing: bool,
+}
+
+impl Made {
+    /// These bytes are made of pods of which so many are refused.
+    pub fn of(refused: usize, out: &[u8]) -> Made {
+        Made {
+            refused,
+            nothing: out.is_empty(),
+        }
+    }
+}
+
 /// What is written of pods that stand one after another.
 pub trait BlockWriter {
     /// Makes this of the pods of a block, which so many pods and bytes of the input stand before, writes it, and answers how many of them are
-    /// refused. The block's bytes may change.
+    /// refused, and whether it is nothing. The block's bytes may change.
     fn write_block<W: Write>(
         &self,
         count: usize,
         place: usize,
         block: &mut [u8],
         output: &mut W,
-    ) -> Result<usize, NotMade>;
+    ) -> Result<Made, NotMade>;
 }
 
 /// Writes the rewritings of pods.
@@ -62,12 +83,12 @@ impl BlockWriter for Rewriter {
         _place: usize,
         block: &mut [u8],
         output: &mut W,
-    ) -> Result<usize, NotMade> {
+    ) -> Result<Made, NotMade> {
         let Ok(len) = rewrite_in_place(block) else {
             return Err(NotMade::Refused);
         };
         match write_made(output, &block[..len]) {
-            Ok(()) => Ok(0),
+            Ok(()) => Ok(Made::of(0, &block[..len])),
             Err(_) => Err(NotMade::Unwritten),
         }
     }
@@ -87,22 +108,23 @@ pub fn write_made<W: Write>(output: &mut W, made: &[u8]) -> Result<(), NotMade> 
     }
 }
 
-/// Writes what is made of the pods of an input, block by block as it comes, and answers how many of them are refused: blocks of whole pods, at
-/// most 64 KiB or one longer pod. Beyond the longest pod it takes as much memory as a block, and what is made of one.
+/// Writes what is made of the pods as which an input is read, block by block as it comes, and answers how many of them are refused, and whether it
+/// is nothing: blocks of whole pods, at most 64 KiB or one longer pod. Beyond the longest pod it takes as much memory as a block, and what is made of one.
 ///
-/// Where it ends before, what is made of the pods up to there is written: up to the first pod that nothing is made of, the last one that
-/// was read, or the last one that memory was there for. A write that fails leaves a beginning of that.
+/// Where it ends before, what is made of the pods up to there is written: up to the first pod that isn't read so, if nothing is made of it, the last one
+/// that came, or the last one that memory was there for. A write that fails leaves a beginning of that.
+///
+/// The numbers of pods and bytes that the writer is told are those of the pods as which the input is read; those of a `Stop` are the input's.
 pub fn stream<B: BlockWriter, R: Read, W: Write>(
+    reading: Reading,
     writer: &B,
     input: &mut R,
     output: &mut W,
-) -> Result<usize, Stop> {
+) -> Result<Made, Stop> {
     let Ok(mut blocks) = Blocks::new() else {
         return Err(Stop::OutOfMemory);
     };
-    let mut count: usize = 0;
-    let mut place: usize = 0;
-    let mut refused: usize = 0;
+    let (mut before, mut made) = (NOTHING, NOTHING_MADE);
     // Far more often than blocks come.
     for _ in 0..u64::MAX {
         let found = match blocks.next(input) {
@@ -110,94 +132,133 @@ pub fn stream<B: BlockWriter, R: Read, W: Write>(
             Err(why) => return Err(why),
         };
         let Some(whole) = found else {
-            return end(count, place, refused, blocks.held_bytes());
+            return end(before, made, blocks.held_bytes());
         };
-        let Some(behind) = place.checked_add(whole.len) else {
+        let Some(behind) = before.place.checked_add(whole.len) else {
             return Err(Stop::ReadFailed);
         };
         match write_front(
+            reading,
             writer,
-            count,
-            place,
+            before,
             whole.len,
             blocks.buffer.as_mut_slice(),
             output,
         ) {
-            Ok(more) => refused += more,
+            Ok(written) => {
+                made.refused += written.made.refused;
+                made.nothing = made.nothing & written.made.nothing;
+                before = Before {
+                    count: before.count + whole.count,
+                    place: behind,
+                    made: before.made + written.len,
+                };
+            }
             Err(why) => return Err(why),
         }
         blocks.pass(whole.len);
-        count += whole.count;
-        place = behind;
     }
     Err(Stop::ReadFailed)
 }
 
-/// Ends behind so many pods and bytes, of which so many pods are refused, where these bytes are held that are no
-/// whole pod: with a refusal of them, unless they are none.
-fn end(
+/// What of an input is passed.
+#[derive(Clone, Copy)]
+struct Before {
+    /// How many pods.
     count: usize,
+    /// How many bytes.
     place: usize,
-    refused: usize,
-    held: &[u8],
-) -> Result<usize, Stop> {
+    /// How many bytes the pods take as which these are read.
+    made: usize,
+}
+
+/// Nothing is passed.
+const NOTHING: Before = Before {
+    count: 0,
+    place: 0,
+    made: 0,
+};
+
+/// Nothing is made.
+const NOTHING_MADE: Made = Made {
+    refused: 0,
+    nothing: true,
+};
+
+/// What was written of a block.
+#[derive(Clone, Copy)]
+struct Written {
+    /// What is answered of it.
+    made: Made,
+    /// How many bytes the pods take as which it is read.
+    len: usize,
+}
+
+/// Ends behind what is passed, of which this is answered, where these bytes are held that are no whole pod: with a refusal of them, unless they are
+/// none.
+fn end(before: Before, made: Made, held: &[u8]) -> Result<Made, Stop> {
     if held.is_empty() {
-        return Ok(refused);
+        return Ok(made);
     }
     match held.try_to_vec() {
         Ok(read) => Err(Stop::Pod {
-            number: count + 1,
-            place,
+            number: before.count + 1,
+            place: before.place,
             read,
         }),
         Err(_) => Err(Stop::OutOfMemory),
     }
 }
 
-/// Writes what is made of the pods of the block that takes so many bytes of the buffer, and which so many pods and bytes of the input stand
-/// before.
+/// Writes what is made of the pods of the block that takes so many bytes of the buffer.
 fn write_front<B: BlockWriter, W: Write>(
+    reading: Reading,
     writer: &B,
-    count: usize,
-    place: usize,
+    before: Before,
     len: usize,
     buffer: &mut [u8],
     output: &mut W,
-) -> Result<usize, Stop> {
-    write_or_stop(writer, count, place, &mut buffer[..len], output)
+) -> Result<Written, Stop> {
+    write_or_stop(reading, writer, before, &mut buffer[..len], output)
 }
 
-/// Writes what is made of the pods of a block, or of those before the first that is refused.
+/// Writes what is made of the pods of a block, or of those before the first that isn't read.
 fn write_or_stop<B: BlockWriter, W: Write>(
+    reading: Reading,
     writer: &B,
-    count: usize,
-    place: usize,
+    before: Before,
     block: &mut [u8],
     output: &mut W,
-) -> Result<usize, Stop> {
-    match writer.write_block(count, place, block, output) {
-        Ok(refused) => Ok(refused),
+) -> Result<Written, Stop> {
+    match write_read(reading, writer, before, block, output) {
+        Ok(written) => Ok(written),
         Err(NotMade::Unwritten) => Err(Stop::WriteFailed),
         Err(NotMade::OutOfMemory) => Err(Stop::OutOfMemory),
-        Err(NotMade::Refused) => Err(write_before(writer, count, place, block, output)),
+        Err(NotMade::Refused) => Err(write_before(reading, writer, before, block, output)),
     }
 }
 
-/// Writes what is made of the pods before the first that is refused, and answers that one's refusal.
+/// Writes what is made of the pods before the first that isn't read, and answers that one's refusal.
 fn write_before<B: BlockWriter, W: Write>(
+    reading: Reading,
     writer: &B,
-    count: usize,
-    place: usize,
+    before: Before,
     block: &mut [u8],
     output: &mut W,
 ) -> Stop {
-    let Some(found) = first_refused(&*block) else {
+    let Some(found) = first_refused(reading, &*block) else {
         return Stop::OutOfMemory;
     };
-    match writer.write_block(count, place, &mut block[..found.at], output) {
+    match write_read(
+        reading,
+        writer,
+        before,
+        &mut block[..found.at],
+        output,
+    ) {
         Ok(_) => Stop::Pod {
-            number: count + found.before + 1,
-            place: place + found.at,
+            number: before.count + found.before + 1,
+            place: before.place + found.at,
             read: found.read,
         },
         Err(NotMade::Unwritten) => Stop::WriteFailed,
@@ -206,7 +267,46 @@ fn write_before<B: BlockWriter, W: Write>(
     }
 }
 
-/// The first refused pod of a block.
+/// Writes what is made of the pods as which a block is read. Its bytes may change, and are as they were where it is refused.
+fn write_read<B: BlockWriter, W: Write>(
+    reading: Reading,
+    writer: &B,
+    before: Before,
+    block: &mut [u8],
+    output: &mut W,
+) -> Result<Written, NotMade> {
+    let len = match read_in_place(reading, block) {
+        Ok(len) => len,
+        Err(why) => return Err(why),
+    };
+    match writer.write_block(before.count, before.made, &mut block[..len], output) {
+        Ok(made) => Ok(Written { made, len }),
+        Err(NotMade::Refused) => match reading {
+            Reading::Exact => Err(NotMade::Refused),
+            // What is read leniently is refused for lack of memory alone.
+            Reading::Lenient => Err(NotMade::OutOfMemory),
+        },
+        Err(why) => Err(why),
+    }
+}
+
+/// Puts the pods as which a block is read in its place, and answers how many bytes they take. Exactly it is taken as it is.
+fn read_in_place(reading: Reading, block: &mut [u8]) -> Result<usize, NotMade> {
+    are_bytes(&*block);
+    match reading {
+        Reading::Exact => Ok(block.len()),
+        Reading::Lenient => match rewrite_in_place_leniently(block) {
+            Ok(len) => Ok(len),
+            Err((_, DeserializeError::OutOfMemory)) => Err(NotMade::OutOfMemory),
+            Err(_) => Err(NotMade::Refused),
+        },
+    }
+}
+
+/// Does nothing: its contract is what the type says of bytes.
+fn are_bytes(_bytes: &[u8]) {}
+
+/// The first pod of a block that isn't read.
 struct Found {
     /// How many pods stand before it.
     before: usize,
@@ -216,9 +316,9 @@ struct Found {
     read: Vec<u8>,
 }
 
-/// The first refused pod of a block, unless memory runs out or there is none.
-fn first_refused(block: &[u8]) -> Option<Found> {
-    let Ok(Some(unread)) = first_unread(Reading::Exact, block) else {
+/// The first pod of a block that isn't read, unless memory runs out or there is none.
+fn first_refused(reading: Reading, block: &[u8]) -> Option<Found> {
+    let Ok(Some(unread)) = first_unread(reading, block) else {
         return None;
     };
     let at = block.len() - unread.left.len();

@@ -111,19 +111,20 @@ pub fn refusal_of(
     })
 }
 
-/// The refusal of the pod behind so many bytes of an input, for a cause of this name and in these words, which isn't in its bytes.
+/// The refusal of the pod of this number, which begins with these bytes at this byte of an input, for a cause of this name and in these words,
+/// which isn't in its bytes.
 pub fn refusal_for(
-    input: &[u8],
+    pod: &[u8],
     place: usize,
+    number: usize,
     kind: &'static str,
     words: &str,
 ) -> Result<Refusal, AllocError> {
-    let (before, pod) = input.split_at(place);
     let type_ = type_name(pod);
     let mut its_words = String::new();
     its_words.try_push_str(words)?;
     Ok(Refusal {
-        number: count(before) + 1,
+        number,
         place,
         type_,
         path: String::new(),

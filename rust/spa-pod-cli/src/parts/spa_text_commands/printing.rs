@@ -3,12 +3,12 @@
 
 use spa_pod::shims::prelude::*;
 use crate::parts::spa_text_commands::answer::Failure;
-use crate::parts::spa_text_commands::message::{Head, head_of, put_head};
+use crate::parts::spa_text_commands::message::{Head, head_of, head_of_value, put_head};
 use spa_pod::parts::spa_fixed_sized::DeserializeError;
 use spa_pod::parts::spa_text::{TextPrinter, print, print_pretty};
 use spa_pod::parts::spa_typed_read::PodDeserializer;
 use spa_pod::parts::spa_value::{Held, Value};
-use spa_pod::parts::spa_view::{Pod, split_first};
+use spa_pod::parts::spa_view::Pod;
 use spa_pod::shims::memory::AllocError;
 
 /// How a text stands on lines.
@@ -40,38 +40,18 @@ pub(crate) fn add_texts(
     let mut left = pods;
     while !left.is_empty() {
         let (rest, value) = read_front(left)?;
-        let head = head_in(outer, left);
-        add_text_at(&mut printer, layout, path, head, &value, lines)?;
+        add_text_at(&mut printer, layout, path, outer, &value, lines)?;
         left = rest;
     }
     Ok(())
 }
 
-/// The head of the message that this top-level pod is, or without one that the bytes begin with; if it is a message.
-fn head_in<'a>(outer: Option<Pod<'a>>, left: &'a [u8]) -> Option<Head<'a>> {
-    match outer {
-        Some(pod) => head_of(pod),
-        None => {
-            let (pod, _) = split_first(left)?;
-            head_of(pod)
-        }
+/// The head of the value, which is a top-level pod, or else stands at a path in this one: that of the message that the pod is, if it is one.
+fn head_at<'a>(path: &str, outer: Option<Pod<'a>>, value: &'a Value) -> Option<Head<'a>> {
+    if path.is_empty() {
+        return head_of_value(value);
     }
-}
-
-/// Adds a text behind this mark for each of these pods.
-pub(crate) fn add_marked(
-    printer: &mut TextPrinter,
-    mark: &str,
-    pods: &[u8],
-    lines: &mut Vec<u8>,
-) -> Result<(), Failure> {
-    let mut left = pods;
-    while !left.is_empty() {
-        let (rest, value) = read_front(left)?;
-        add_text(printer, Layout::OneLine, mark, &value, lines)?;
-        left = rest;
-    }
-    Ok(())
+    head_of(outer?)
 }
 
 /// The value of the pod at the front, and what follows it.
@@ -100,15 +80,16 @@ pub(crate) fn add_text(
     Ok(())
 }
 
-/// Adds the text of a value at this path, in a message of this head, and the end of its last line.
+/// Adds the text of a value at this path in a top-level pod, or of such a pod's, and the end of its last line.
 fn add_text_at(
     printer: &mut TextPrinter,
     layout: Layout,
     path: &str,
-    head: Option<Head<'_>>,
+    outer: Option<Pod<'_>>,
     value: &Value,
     lines: &mut Vec<u8>,
 ) -> Result<(), Failure> {
+    let head = head_at(path, outer, value);
     let ending = begin_wrapped(lines, path, head)?;
     print_in(printer, layout, value, lines)?;
     lines.try_extend_from_slice(ending.as_bytes())?;

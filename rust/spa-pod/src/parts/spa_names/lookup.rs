@@ -54,6 +54,14 @@ pub fn number_of(table: Table, name: &str) -> Option<u32> {
             return Some(entry.0);
         }
     }
+    searched(table, name)
+}
+
+/// The same by a search, which few names need. It stands apart, so that the others keep fewer registers.
+#[cold]
+#[inline(never)]
+fn searched(table: Table, name: &str) -> Option<u32> {
+    let entries = entries_of(table);
     for entry in entries {
         if has_name(entry, name) {
             return Some(entry.0);
@@ -63,6 +71,7 @@ pub fn number_of(table: Table, name: &str) -> Option<u32> {
 }
 
 /// The number of a key by its name, and what is expected of the value under it. None: the table of its object's keys doesn't have the name.
+#[cfg_attr(not(debug_assertions), inline(always))]
 #[must_use]
 pub fn key_named(keys: Table, name: &str) -> Option<(u32, Expected)> {
     let entries = entries_of(keys);

@@ -2,7 +2,7 @@
 //! Pods are replaced by their encodings where they are. It takes no memory and calls itself nowhere: the header of a container whose encoding is begun
 //! holds, until that is complete, where the container around it begins, and how much of that is left.
 
-use crate::parts::spa_rewrite::patch::{behind_words, encode_leaf, place_behind};
+use crate::parts::spa_rewrite::patch::{SECOND_HEADER, WORD_LEN, begins_word, clear_padding, encode_leaf};
 use crate::parts::spa_bytes::{HEADER_LEN, open, two_words, u32_at};
 use crate::parts::spa_events::{key_len, keyed_inside};
 use crate::parts::spa_utils::SpaTypes;
@@ -97,27 +97,31 @@ fn emit(bytes: &mut [u8]) -> usize {
 fn encode_leaves(keyed: bool, pods: &mut [u8]) -> Run {
     let mut at = 0;
     loop {
-        let start = behind_words(keyed, pods, at);
-        if pods.len() - start < HEADER_LEN {
+        if pods.len() - at < HEADER_LEN {
             return Run {
-                kept: start,
-                ended: start,
+                kept: at,
+                ended: at,
                 after: After::End,
             };
         }
-        let here = place_behind(pods, start, 0, keyed);
+        let here = at + key_len(keyed);
+        if begins_word(&pods[here..]) {
+            at = here + SECOND_HEADER;
+            clear_padding(WORD_LEN, &mut pods[here..at]);
+            continue;
+        }
         let Some(front) = open(&pods[here..]) else {
             return Run {
-                kept: start,
-                ended: start,
+                kept: at,
+                ended: at,
                 after: After::End,
             };
         };
         let (type_, size, left) = (front.type_, front.body.len(), front.rest.len());
         if let Some(inner) = holds_whole(type_, size) {
             return Run {
-                kept: start,
-                ended: start,
+                kept: at,
+                ended: at,
                 after: After::Inner(inner, size),
             };
         }
@@ -134,10 +138,10 @@ fn encode_leaves(keyed: bool, pods: &mut [u8]) -> Run {
     }
 }
 
-/// Copies so many bytes down to a place before them, where they aren't there already.
+/// Copies so many bytes down to a place before them, where there are some and they aren't there already.
 #[cfg_attr(not(debug_assertions), inline(always))]
 fn move_down(from: usize, len: usize, to: usize, bytes: &mut [u8]) {
-    if from > to {
+    if from > to && len > 0 {
         bytes.copy_within(from..from + len, to);
     }
 }

@@ -2,7 +2,7 @@
 //! Which fault stands where a look stops.
 
 use crate::shims::prelude::*;
-use crate::parts::spa_rewrite::leaf::CHOICE_HEADER;
+use crate::parts::spa_rewrite::leaf::{CHOICE_HEADER, TWO_WORDS};
 use crate::parts::spa_bodies::VALUE_TYPE_AT;
 use crate::parts::spa_bytes::{HEADER_LEN, SECOND_WORD, open, u32_at};
 use crate::parts::spa_fixed_sized::{FLAGS_SHAPE, Refusal};
@@ -21,6 +21,9 @@ pub(crate) fn fault(place: &[u8]) -> Refusal {
 
 /// The fault of a body of this type.
 fn body_fault(type_: u32, body: &[u8]) -> Refusal {
+    if fixed_len(type_) <= TWO_WORDS {
+        return Refusal::WrongSize;
+    }
     match SpaTypes(type_) {
         SpaTypes::String => Refusal::Text,
         SpaTypes::Bytes => unreachable!(),
@@ -28,31 +31,18 @@ fn body_fault(type_: u32, body: &[u8]) -> Refusal {
         SpaTypes::Array => array_fault(body),
         SpaTypes::Struct => unreachable!(),
         SpaTypes::Choice => choice_fault(body),
-        SpaTypes::None => Refusal::WrongSize,
-        SpaTypes::Bool => Refusal::WrongSize,
-        SpaTypes::Id => Refusal::WrongSize,
-        SpaTypes::Int => Refusal::WrongSize,
-        SpaTypes::Long => Refusal::WrongSize,
-        SpaTypes::Float => Refusal::WrongSize,
-        SpaTypes::Double => Refusal::WrongSize,
-        SpaTypes::Rectangle => Refusal::WrongSize,
-        SpaTypes::Fraction => Refusal::WrongSize,
-        SpaTypes::Fd => Refusal::WrongSize,
         SpaTypes::Object => Refusal::WrongSize,
         SpaTypes::Pointer => Refusal::WrongSize,
         _ => Refusal::InvalidType,
     }
 }
 
-/// The longest body of fixed size, in bytes.
-const WIDE_LEN: u32 = 8;
-
 /// The fault of an array's body.
 fn array_fault(body: &[u8]) -> Refusal {
     if body.len() < HEADER_LEN {
         return Refusal::WrongSize;
     }
-    if fixed_len(u32_at(body, SECOND_WORD)) > WIDE_LEN {
+    if fixed_len(u32_at(body, SECOND_WORD)) > TWO_WORDS {
         return Refusal::InvalidType;
     }
     Refusal::WrongSize
@@ -64,7 +54,7 @@ fn choice_fault(body: &[u8]) -> Refusal {
         return Refusal::WrongSize;
     }
     let len = fixed_len(u32_at(body, VALUE_TYPE_AT));
-    if len == 0 || len > WIDE_LEN {
+    if len == 0 || len > TWO_WORDS {
         return Refusal::InvalidType;
     }
     if u32_at(body, HEADER_LEN) != len {

@@ -73,6 +73,9 @@ pub(crate) fn look_into<'a>(
     if left.is_empty() {
         return Found::Fits(surplus);
     }
+    if let Met::None(place) = meet(keyed, left) {
+        return Found::Stops(place, 0);
+    }
     match look_inside(canonical, keyed, left, frames) {
         Found::Fits(more) => Found::Fits(surplus + more),
         Found::Stops(place, behind) => Found::Stops(place, behind),
@@ -87,15 +90,8 @@ fn look_further(canonical: bool, keyed: bool, pods: &[u8]) -> Found<'_> {
     match look_inside(canonical, keyed, pods, &mut [none_waiting(pods); SOME]) {
         Found::Fits(surplus) => Found::Fits(surplus),
         Found::Stops(place, behind) => Found::Stops(place, behind),
-        Found::TooDeep => look_deep(canonical, keyed, pods),
+        Found::TooDeep => look_inside(canonical, keyed, pods, &mut [none_waiting(pods); MANY]),
     }
-}
-
-/// Looks inside a struct or an object with the long array alone.
-#[cold]
-#[inline(never)]
-fn look_deep(canonical: bool, keyed: bool, pods: &[u8]) -> Found<'_> {
-    look_inside(canonical, keyed, pods, &mut [none_waiting(pods); MANY])
 }
 
 /// Looks inside a struct or an object: whether all pods are canonical, where that is asked, and else whether all are accepted. What is left behind

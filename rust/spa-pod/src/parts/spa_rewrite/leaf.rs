@@ -3,6 +3,7 @@
 
 use crate::shims::prelude::*;
 use crate::parts::spa_rewrite::elements::{elements_of, values_of};
+use crate::parts::spa_rewrite::patch::SECOND_HEADER;
 use crate::parts::spa_bytes::{HEADER_LEN, POINTER_LEN, SECOND_WORD, SHORT_POINTER_LEN, open, u32_at};
 use crate::parts::spa_scan::{fixed_front, fixed_len, is_text, leaf_body_front};
 use crate::parts::spa_utils::SpaTypes;
@@ -11,10 +12,7 @@ use crate::parts::spa_utils::SpaTypes;
 const ONE_WORD: u32 = 4;
 
 /// The length in bytes of a body of two words, the longest of fixed size.
-const TWO_WORDS: u32 = 8;
-
-/// The length in bytes of a whole pod whose body is one or two words.
-const SHORT_POD: usize = 16;
+pub(crate) const TWO_WORDS: u32 = 8;
 
 /// The length in bytes of the four words before the values of a choice.
 pub(crate) const CHOICE_HEADER: usize = 16;
@@ -59,13 +57,13 @@ pub(crate) fn short_leaf(canonical: bool, input: &[u8]) -> Option<&[u8]> {
 /// What follows the pod at the front, where its body is one or two words and of a kind of fixed size.
 #[cfg_attr(not(debug_assertions), inline(always))]
 fn short_front(input: &[u8]) -> Option<&[u8]> {
-    if input.len() < SHORT_POD {
+    if input.len() < SECOND_HEADER {
         return None;
     }
     if !is_short(u32_at(input, 0), u32_at(input, SECOND_WORD)) {
         return None;
     }
-    let (_, rest) = input.split_at(SHORT_POD);
+    let (_, rest) = input.split_at(SECOND_HEADER);
     Some(rest)
 }
 

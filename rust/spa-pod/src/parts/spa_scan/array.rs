@@ -3,7 +3,7 @@
 
 use crate::parts::spa_scan::front::{ONE_WORD, TWO_WORDS, fixed_len, is_word_type};
 use crate::parts::spa_bytes::{HEADER_LEN, SECOND_WORD, u32_at};
-use crate::parts::spa_fixed_sized::{FLAGS_SHAPE, RANGE_SHAPE, STEP_SHAPE};
+use crate::parts::spa_fixed_sized::{FLAGS_SHAPE, NONE_SHAPE, RANGE_SHAPE, STEP_SHAPE};
 use crate::parts::spa_utils::SpaTypes;
 
 /// The length in bytes of the four words before the values of a choice.
@@ -47,19 +47,36 @@ pub(crate) fn is_choice(body: &[u8]) -> bool {
     if !is_array(array) {
         return false;
     }
-    let size = u32_at(array, 0) as usize;
-    let values = body.len() - CHOICE_HEADER;
     let shape = u32_at(body, 0);
-    if shape == RANGE_SHAPE {
-        return values == 3 * size;
+    if shape > FLAGS_SHAPE {
+        return false;
     }
-    if shape > STEP_SHAPE {
-        return shape <= FLAGS_SHAPE;
+    let size = u32_at(array, 0) as usize;
+    let flags = u32_at(body, SECOND_WORD);
+    let values = body.len() - CHOICE_HEADER;
+    taken_len(shape, size, values) == values && written_flags(shape, flags) == flags
+}
+
+/// How many bytes of values a choice of this shape takes, where one has this size, of all that it holds.
+#[cfg_attr(not(debug_assertions), inline(always))]
+#[must_use]
+pub(crate) fn taken_len(shape: u32, size: usize, all: usize) -> usize {
+    match shape {
+        NONE_SHAPE => size,
+        RANGE_SHAPE => size.saturating_mul(3),
+        STEP_SHAPE => size.saturating_mul(4),
+        _ => all,
     }
-    if shape == STEP_SHAPE {
-        return values == 4 * size;
+}
+
+/// The flags that are written of a choice of this shape.
+#[cfg_attr(not(debug_assertions), inline(always))]
+#[must_use]
+pub(crate) fn written_flags(shape: u32, flags: u32) -> u32 {
+    if shape == NONE_SHAPE {
+        return 0;
     }
-    values == size && u32_at(body, SECOND_WORD) == 0
+    flags
 }
 
 /// Whether the bodies of truth values are each 0 or 1.

@@ -72,6 +72,7 @@ fn is_short_pod(input: &[u8]) -> bool {
 
 /// Whether this is the type of a kind whose bodies are any word.
 #[cfg_attr(not(debug_assertions), inline(always))]
+#[must_use]
 pub(crate) fn is_word_type(type_: u32) -> bool {
     match SpaTypes(type_) {
         SpaTypes::Id => true,

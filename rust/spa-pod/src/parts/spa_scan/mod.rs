@@ -6,8 +6,9 @@ mod nesting;
 mod scan;
 mod text;
 
-pub(crate) use front::{fixed_front, fixed_len};
+pub(crate) use array::{taken_len, written_flags};
+pub(crate) use front::{fixed_front, fixed_len, is_word_type};
 pub use nesting::{all_nest_within, nests_within};
-pub(crate) use scan::{leaf_body_front, leaf_front, leaf_members, leaf_properties};
+pub(crate) use scan::{leaf_body_front, leaf_front, leaf_properties};
 pub use scan::LEVELS;
 pub(crate) use text::is_text;

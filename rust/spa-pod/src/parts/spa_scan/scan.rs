@@ -57,17 +57,6 @@ fn leaf_property(input: &[u8]) -> Option<&[u8]> {
     Some(rest)
 }
 
-/// The first members of a struct, as many as `leaf_front` passes, and what follows them.
-#[cfg_attr(not(debug_assertions), inline(always))]
-#[must_use]
-pub(crate) fn leaf_members(input: &[u8]) -> (&[u8], &[u8]) {
-    let mut left = input;
-    while let Some(rest) = leaf_front(left) {
-        left = rest;
-    }
-    input.split_at(input.len() - left.len())
-}
-
 /// The first properties of an object, as many as `leaf_front` passes the pods of, and what follows them.
 #[cfg_attr(not(debug_assertions), inline(always))]
 #[must_use]

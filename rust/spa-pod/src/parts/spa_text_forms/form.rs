@@ -10,12 +10,18 @@ use crate::parts::spa_text_read::Strictness;
 use crate::shims::memory::AllocError;
 
 /// What texts are written in, and how they are read.
+#[derive(Debug)]
 #[derive(Clone, Copy)]
 pub enum Form {
     /// The grammar of named values, read so.
     Named(Strictness),
-    /// What `pw-dump` prints of params, which are objects of this type and this id. It is read strictly.
-    Dump { type_: u32, id: u32 },
+    /// What `pw-dump` prints of params, which are objects. It is read strictly.
+    Dump {
+        /// The type of the objects, which it doesn't say.
+        type_: u32,
+        /// Their id.
+        id: u32,
+    },
 }
 
 impl Form {

@@ -81,13 +81,16 @@ pub(crate) fn put_element(values: &mut ValueArray, element: Element) -> Result<(
 }
 
 /// For how many values there is room at first: as many as most choices have.
-const FIRST_ROOM: usize = 4;
+const FIRST_ROOM: usize = 8;
 
 fn push<T: Copy>(values: &mut Vec<T>, value: T) -> Result<(), Cause> {
-    let room = if values.is_empty() { FIRST_ROOM } else { 1 };
-    let Ok(()) = values.make_room(room) else {
-        return Err(Cause::OutOfMemory);
-    };
-    values.push_reserved(value);
-    Ok(())
+    if values.is_empty() {
+        let Ok(()) = values.make_room(FIRST_ROOM) else {
+            return Err(Cause::OutOfMemory);
+        };
+    }
+    match values.try_push(value) {
+        Ok(()) => Ok(()),
+        Err(_) => Err(Cause::OutOfMemory),
+    }
 }

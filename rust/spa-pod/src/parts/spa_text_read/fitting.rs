@@ -3,11 +3,11 @@
 
 use crate::shims::prelude::*;
 use crate::parts::spa_text_read::names::{expected_under, keys_of, name_of};
-use crate::parts::spa_names::Table;
 use crate::parts::spa_names::keys::{PARAM_ROUTE_DEVICES, PARAM_ROUTE_PROFILES};
 use crate::parts::spa_names::types::OBJECT_PARAM_ROUTE;
+use crate::parts::spa_names::{Expected, Table};
 use crate::parts::spa_utils::SpaTypes;
-use crate::parts::spa_value::{ChoiceValue, Property, Value, ValueArray};
+use crate::parts::spa_value::{ChoiceValue, Value, ValueArray};
 use core::fmt;
 
 /// Which values are read under a key of an object.
@@ -76,14 +76,18 @@ impl fmt::Display for InPlace {
 }
 
 /// The type that belongs under a key of an object of this type.
-fn type_under(type_: u32, key: u32) -> FullType {
+pub(crate) fn type_under(type_: u32, key: u32) -> FullType {
+    wanted_under(type_, key, expected_under(keys_of(type_), key))
+}
+
+/// The same, where the table of the object's keys expects this under the key.
+pub(crate) fn wanted_under(type_: u32, key: u32, expected: Expected) -> FullType {
     if type_ == OBJECT_PARAM_ROUTE && (key == PARAM_ROUTE_PROFILES || key == PARAM_ROUTE_DEVICES) {
         return FullType {
             type_: SpaTypes::Array,
             element: SpaTypes::Int,
         };
     }
-    let expected = expected_under(keys_of(type_), key);
     FullType {
         type_: expected.type_,
         element: expected.element,
@@ -173,10 +177,9 @@ fn takes(wanted: FullType, found: FullType) -> bool {
     found.type_.0 == SpaTypes::None.0 && may_miss(wanted.type_.0)
 }
 
-/// What a property of an object of this type has in place of the type that belongs under its key.
-pub(crate) fn misfit_of(type_: u32, property: &Property) -> Option<Misfit> {
-    let wanted = type_under(type_, property.key);
-    let found = full_type(&property.value);
+/// What a value has in place of the type that belongs there.
+pub(crate) fn misfit_of(wanted: FullType, value: &Value) -> Option<Misfit> {
+    let found = full_type(value);
     if takes(wanted, found) {
         return None;
     }

@@ -5,9 +5,12 @@ use crate::shims::prelude::*;
 use crate::parts::spa_text_read::cause::Cause;
 use crate::parts::spa_text_read::chosen::choice_value;
 use crate::parts::spa_text_read::element::{Element, element_of, put_element, value_of};
-use crate::parts::spa_text_read::fitting::{Misfit, Strictness, element_type, misfit_of};
-use crate::parts::spa_text_read::names::{expected_under, key_named, keys_of};
+use crate::parts::spa_text_read::fitting::{
+    FullType, Misfit, Strictness, element_type, misfit_of, type_under, wanted_under,
+};
+use crate::parts::spa_text_read::names::{expected_under, key_named};
 use crate::parts::spa_text_read::numerals::number_of_digits;
+use crate::parts::spa_text_read::open_object::OpenObject;
 use crate::parts::spa_text_read::shape::Shape;
 use crate::parts::spa_text_read::tokens::{end_object, head, item, key, next_key, word};
 use crate::shims::flags::Flags;
@@ -19,19 +22,8 @@ use crate::parts::spa_value::{Object, Property, PropertyFlags, Value, ValueArray
 /// For how many properties room is made at first: most objects have as many at most.
 const FIRST_ROOM: usize = 8;
 
-/// An object that is begun.
-pub(crate) struct OpenObject {
-    pub(crate) type_: u32,
-    pub(crate) id: u32,
-    pub(crate) properties: Vec<Property>,
-    /// The key and flags of the property whose value is read.
-    pub(crate) key: u32,
-    pub(crate) flags: PropertyFlags,
-    /// Whether a brace follows that value.
-    pub(crate) braced: bool,
-}
-
 /// A value with others in it that is begun, and what is read of it.
+#[derive(Debug)]
 pub(crate) enum Inside {
     /// Members, and whether a brace follows their end.
     Struct {
@@ -195,20 +187,29 @@ impl OpenObject {
                 None => Err(Cause::Token),
             };
         };
-        let Some((key, expected)) = key_at(keys_of(self.type_), name) else {
+        let Some((key, expected)) = key_at(self.keys, name) else {
             return Err(Cause::Name);
         };
         self.key = key;
+        self.wanted = Some(wanted_under(self.type_, key, expected));
         let (flags, braced, head) = property_at(reader)?;
         self.flags = PropertyFlags::from_bits_retain(flags);
         self.braced = braced;
         Ok(Next::Wants(head, expected))
     }
 
+    /// The type that belongs under a key.
+    fn type_under(&self, key: u32) -> FullType {
+        match self.wanted {
+            Some(wanted) if key == self.key => wanted,
+            _ => type_under(self.type_, key),
+        }
+    }
+
     /// What the last property has in place of the type that belongs under its key.
     fn misfit(&self) -> Option<Misfit> {
         match self.properties.last() {
-            Some(property) => misfit_of(self.type_, property),
+            Some(property) => misfit_of(self.type_under(property.key), &property.value),
             None => None,
         }
     }

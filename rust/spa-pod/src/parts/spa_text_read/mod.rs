@@ -10,6 +10,7 @@ pub mod letters;
 pub mod names;
 mod nest;
 pub mod numerals;
+mod open_object;
 mod opening;
 mod place;
 mod reading;

@@ -3,9 +3,10 @@
 
 use crate::shims::prelude::*;
 use crate::parts::spa_text_read::cause::Cause;
-use crate::parts::spa_text_read::inside::{Inside, OpenObject, Opened};
-use crate::parts::spa_text_read::names::ids_of;
+use crate::parts::spa_text_read::inside::{Inside, Opened};
+use crate::parts::spa_text_read::names::{ids_of, keys_of};
 use crate::parts::spa_text_read::numerals::wide_bits;
+use crate::parts::spa_text_read::open_object::OpenObject;
 use crate::parts::spa_text_read::scalars::scalar_of;
 use crate::parts::spa_text_read::shape::Shape;
 use crate::parts::spa_text_read::tag::{Scalar, Tag, bare, tag_of, takes_text};
@@ -256,10 +257,12 @@ fn object_at(reader: &mut Reader<'_>) -> Result<Inside, Cause> {
     Ok(Inside::Object(OpenObject {
         type_,
         id,
+        keys: keys_of(type_),
         properties: Vec::new(),
         key: 0,
         flags: PropertyFlags::from_bits_retain(0),
         braced: false,
+        wanted: None,
     }))
 }
 

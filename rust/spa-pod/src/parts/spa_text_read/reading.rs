@@ -5,7 +5,7 @@ use crate::shims::prelude::*;
 use crate::parts::spa_text_read::cause::Cause;
 use crate::parts::spa_text_read::error::TextError;
 use crate::parts::spa_text_read::fitting::{Misfit, Strictness};
-use crate::parts::spa_text_read::inside::Opened;
+use crate::parts::spa_text_read::inside::{Inside, Opened};
 use crate::parts::spa_text_read::nest::Nest;
 use crate::parts::spa_text_read::opening::open;
 use crate::parts::spa_text_read::place::path_to;
@@ -13,11 +13,14 @@ use crate::parts::spa_text_read::tokens::head;
 use crate::shims::json::{Reader, Scratch};
 use crate::parts::spa_names::Expected;
 use crate::parts::spa_value::{Value, discard};
+use core::mem;
 
 /// Reads texts one after another, in memory that it keeps.
 #[derive(Debug)]
 pub struct TextReader {
     scratch: Scratch,
+    /// Room for the values around the innermost that is begun.
+    outer: Vec<Inside>,
 }
 
 impl TextReader {
@@ -26,6 +29,7 @@ impl TextReader {
     pub fn new() -> TextReader {
         TextReader {
             scratch: Scratch::new(),
+            outer: Vec::new(),
         }
     }
 
@@ -40,7 +44,7 @@ impl TextReader {
         let Ok(mut reader) = Reader::new(text, &mut self.scratch) else {
             return Err(error_at(NO_MEMORY, text, 0, String::new()));
         };
-        match read_whole(&mut reader, strictness) {
+        match read_whole(&mut reader, &mut self.outer, strictness) {
             Ok(value) => Ok(value),
             Err(why) => {
                 let offset = reader.offset();
@@ -123,8 +127,12 @@ fn error_at(why: Why, text: &str, offset: usize, path: String) -> TextError {
 }
 
 /// Reads a value and the end of the text.
-fn read_whole(reader: &mut Reader<'_>, strictness: Strictness) -> Result<Value, Why> {
-    match read_value(reader, strictness) {
+fn read_whole(
+    reader: &mut Reader<'_>,
+    outer: &mut Vec<Inside>,
+    strictness: Strictness,
+) -> Result<Value, Why> {
+    match read_value(reader, outer, strictness) {
         Ok(value) => match reader.next() {
             Some(_) => {
                 discard(value);
@@ -142,14 +150,22 @@ pub fn read_front(
     reader: &mut Reader<'_>,
     strictness: Strictness,
 ) -> Result<Value, Cause> {
-    match read_value(reader, strictness) {
+    let mut outer = Vec::new();
+    match read_value(reader, &mut outer, strictness) {
         Ok(value) => Ok(value),
         Err(why) => Err(why.cause),
     }
 }
 
-/// Reads a value: also one that is nested deep, since what is begun is kept in a list.
-fn read_value(reader: &mut Reader<'_>, strictness: Strictness) -> Result<Value, Why> {
+/// For how many values around others memory is kept from one text to the next: few nest deeper.
+const MOST_KEPT: usize = 64;
+
+/// Reads a value: also one that is nested deep, since what is begun is kept in a list, in this vector's memory.
+fn read_value(
+    reader: &mut Reader<'_>,
+    room: &mut Vec<Inside>,
+    strictness: Strictness,
+) -> Result<Value, Why> {
     let Some(first) = head(reader) else {
         return Err(Why::from(Cause::Token));
     };
@@ -158,7 +174,8 @@ fn read_value(reader: &mut Reader<'_>, strictness: Strictness) -> Result<Value, 
         Ok(Opened::Begun(inside)) => inside,
         Err(cause) => return Err(Why::from(cause)),
     };
-    let outer = Vec::new();
+    room.clear();
+    let outer = mem::replace(room, Vec::new());
     let mut nest = Nest { inner, outer };
     loop {
         match nest.step(reader) {
@@ -173,7 +190,10 @@ fn read_value(reader: &mut Reader<'_>, strictness: Strictness) -> Result<Value, 
                 }
             },
             Ok(false) => {
-                let Nest { inner, outer: _ } = nest;
+                let Nest { inner, outer } = nest;
+                if outer.capacity() <= MOST_KEPT {
+                    *room = outer;
+                }
                 match inner.into_value() {
                     Ok(value) => return Ok(value),
                     Err(cause) => return Err(Why::from(cause)),

@@ -3,6 +3,7 @@
 
 /// The shape of a choice.
 #[derive(Clone, Copy)]
+#[derive(Debug)]
 pub enum Shape {
     None,
     Range,

@@ -1,0 +1,21 @@
+use Rattle.std.proofs.Common.{◌<◌, ◌^◌, arith, length, rules}
+use Rattle.spa_recordings.proofs.Holding.{rest_is_shorter, walk_begins, walk_few, walk_goes_on}
+use Rattle.pod_commands.proofs.refusing.first_formless.Goals as goal
+
+pub loop-front-init : goal.loop-front-init
+loop-front-init c = walk_begins c.args.input.now
+
+pub loop-front-preserved : goal.loop-front-preserved
+loop-front-preserved c =
+    let opened = c.in-Some.ensures.there in
+    walk_goes_on c.args.input.now c.loop-front.left.now _ _ opened.there opened.its_rest c.loop-front.invariant
+
+pub loop-front-smaller : goal.loop-front-smaller
+loop-front-smaller c =
+    let opened = c.in-Some.ensures.there in rest_is_shorter c.loop-front.left.now _ opened.there opened.its_rest
+
+pub overflow_add-before : goal.overflow_add-before
+overflow_add-before c =
+    let f = walk_few c.args.input.now c.loop-front.left.now c.loop-front.before c.loop-front.invariant in
+    let l : length c.args.input.now < 2 ^ 64 = search rules in
+    omega (arith, f, l)

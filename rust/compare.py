@@ -88,6 +88,7 @@ RULES = [
     ('exports', r'mod (\w+) ;', r'pub ( crate ) mod \1 ;'),
     ('reach', r'pub', r'pub ( crate )'),
     ('asserted', r'', r'assert ! \( [^;]* \) ;'),
+    ('proved conditions', r'prove !', r'debug_assert !'),
     ('inlined', r'', r'# [ cfg_attr ( not ( debug_assertions ) , inline ( always ) ) ]'),
     ('inlined', r'', r'# [ inline ]'),
     ('inlined', r'# \[ inline \( (?:always|never) \) \]', r'# [ cfg_attr ( not ( debug_assertions ) , inline ( always ) ) ]'),

@@ -327,7 +327,7 @@ HINTED = [('front', 'open'), ('words', 'u32_at'), ('words', 'u64_at'), ('words',
           ('words', 'wide_body'), ('fixed', 'of_body')]
 
 
-# Where rustc doesn't optimize, what it puts in place of calls makes frames larger, and looks call themselves for each level of nesting.
+# Where rustc doesn't optimize, what it puts in place of calls makes frames larger, also those of functions that call themselves for each level of nesting.
 OPTIMIZED = '#[cfg_attr(not(debug_assertions), inline(always))]'
 
 

@@ -52,18 +52,18 @@ fn status(rt: &HostRuntime) -> Option<u8> {
     Some(answer.status())
 }
 
-/// Standard error, which is told how far a search is where it is a terminal: by a line a second at most, the first after a second.
+/// Shows the progress of a search on the standard error where that is a terminal: by a line a second at most, the first after a second.
 #[derive(Drop)]
 struct Told<'a> {
     rt: &'a HostRuntime,
     /// When a line was written last, or the program began. None: no line is written.
     last: Option<Instant>,
-    /// How many objects were told of.
+    /// How many objects were tried.
     told: usize,
 }
 
 impl<'a> Told<'a> {
-    /// Nothing is told so far.
+    /// No object was tried yet.
     fn new(rt: &'a HostRuntime) -> Told<'a> {
         let last = if rt.stderr().is_terminal() {
             Instant::now(rt).ok()

@@ -1,12 +1,13 @@
 -- Inputs that are checked as they come.
 use Rattle.std.proofs.Common.{◌≡◌, ◌∙◌, ◌∷◌, ◌++◌, [], ap, arith, inl, inr, refl, subst, sym, List, ℕ, Option}
 use Rattle.std.specs.Borrow.{Bor}
+use Rattle.spa_recordings.specs.Streaming.{MayStop}
 use Rattle.spa_recordings.specs.declared.reading.Reading.{Reading}
-use Rattle.spa_recordings.specs.declared.reading.Reading.TheVariants.{Exact}
+use Rattle.spa_recordings.specs.declared.reading.Reading.TheVariants.{Exact, Lenient}
 use Rattle.pod_commands.specs.Answers.{AreUnmade}
 use Rattle.pod_commands.specs.Inputs.{AreMade, StopsAt, left_behind}
-use Rattle.pod_commands.specs.Making.{MakesAll, RefusesBy}
-use Rattle.pod_commands.specs.Streaming.{EndsIn, IsBroken, StreamsAs}
+use Rattle.pod_commands.specs.Making.{AreNoPods, MakesAll, RefusesBy}
+use Rattle.pod_commands.specs.Streaming.{EndsIn, IsBroken, MayRefuse, ShowsLast, StreamsAs, shown_as}
 use Rattle.pod_commands.specs.declared.answer.Failure.{Failure}
 use Rattle.pod_commands.specs.declared.answer.Failure.TheVariants.{Pods, Texts, Pair, Lists, OutOfMemory, Unread, Unwritten}
 use Rattle.pod_commands.specs.declared.request.Making.{Making}
@@ -59,61 +60,74 @@ stops_by P S F r holds (x ∷ xs) out why fact (inr h) =
 -- ---- A check
 
 -- nothing is made
-none_checked : (r : Option (List ℕ)) (holds : List ℕ → Option (List ℕ)) (names : List (Bor (List ℕ))) (out : List ℕ) (n : ℕ) →
-    AreMade (StreamsAs Exact streaming.Check) r holds names out n → (out ≡ []) × (n ≡ 0)
-none_checked r holds [] out n h = h
-none_checked r holds (x ∷ xs) out n h =
-    let t = none_checked (left_behind r x.now) holds xs h.2 h.4 h.9 in
+none_checked : (reading : Reading) (r : Option (List ℕ)) (holds : List ℕ → Option (List ℕ)) (names : List (Bor (List ℕ))) (out : List ℕ) (n : ℕ) →
+    AreMade (StreamsAs reading streaming.Check) r holds names out n → (out ≡ []) × (n ≡ 0)
+none_checked reading r holds [] out n h = h
+none_checked reading r holds (x ∷ xs) out n h =
+    let t = none_checked reading (left_behind r x.now) holds xs h.2 h.4 h.9 in
     let i = h.6.2.2 in
     let j = t.1 in
     let k = h.8 in
     (h.7 ∙ ap (λ z. z ++ h.2) h.6.2.0 ∙ t.0, omega (arith, i, j, k))
 
+-- nor of a last pod
+none_last : (reading : Reading) (number place : ℕ) (read last : List ℕ) → ShowsLast (shown_as reading streaming.Check) number place read last → last ≡ []
+none_last Exact number place read last h = h
+none_last Lenient number place read last h = h
+
 -- nor where it can't be written
-none_unwritten : (r : Option (List ℕ)) (holds : List ℕ → Option (List ℕ)) (names : List (Bor (List ℕ))) (out : List ℕ)
-    (target : Option (Bor (List ℕ))) → StopsAt (StreamsAs Exact streaming.Check) (EndsIn Exact streaming.Check) r holds names out (Unwritten target) → out ≡ []
-none_unwritten r holds [] out target h = absurd h
-none_unwritten r holds (x ∷ xs) out target (inl h) = h.2.2.made.2.0
-none_unwritten r holds (x ∷ xs) out target (inr h) =
-    h.6 ∙ ap (λ z. z ++ h.2) h.5.2.0 ∙ none_unwritten (left_behind r x.now) holds xs h.2 target h.7
+none_unwritten : (reading : Reading) (r : Option (List ℕ)) (holds : List ℕ → Option (List ℕ)) (names : List (Bor (List ℕ))) (out : List ℕ)
+    (target : Option (Bor (List ℕ))) → StopsAt (StreamsAs reading streaming.Check) (EndsIn reading streaming.Check) r holds names out (Unwritten target) → out ≡ []
+none_unwritten reading r holds [] out target h = absurd h
+none_unwritten reading r holds (x ∷ xs) out target (inl h) =
+    elim h.2.1 [
+      | inl f ↦ f.1.made.2.0
+      | inr e ↦ e.3.parts ∙ ap (λ z. z ++ e.3.last) e.3.ends.made.made.2.0 ∙ none_last reading e.0 e.1 e.2 e.3.last e.3.shown
+    ]
+none_unwritten reading r holds (x ∷ xs) out target (inr h) =
+    h.6 ∙ ap (λ z. z ++ h.2) h.5.2.0 ∙ none_unwritten reading (left_behind r x.now) holds xs h.2 target h.7
 
-checked : (input out : List ℕ) (n : ℕ) → StreamsAs Exact streaming.Check input out n → MakesAll Exact Check input out n
-checked input out n h = ((h.0, h.1, (h.2.0, h.2.1)), h.2.2)
+checked : (reading : Reading) (input out : List ℕ) (n : ℕ) → StreamsAs reading streaming.Check input out n → MakesAll reading Check input out n
+checked reading input out n h = ((h.0, h.1, (h.2.0, h.2.1)), h.2.2)
 
-pub all_checked : (r : Option (List ℕ)) (holds : List ℕ → Option (List ℕ)) (names : List (Bor (List ℕ))) (out : List ℕ) (n : ℕ) →
-    AreMade (StreamsAs Exact streaming.Check) r holds names out n → AreMade (MakesAll Exact Check) r holds names [] 0
-all_checked r holds names out n h =
-    let none = none_checked r holds names out n h in
-    let made = made_more (StreamsAs Exact streaming.Check) (MakesAll Exact Check) r holds names out n checked h in
-    subst (λ z. AreMade (MakesAll Exact Check) r holds names z 0) none.0
-    (subst (AreMade (MakesAll Exact Check) r holds names out) none.1 made)
+pub all_checked : (reading : Reading) (r : Option (List ℕ)) (holds : List ℕ → Option (List ℕ)) (names : List (Bor (List ℕ))) (out : List ℕ) (n : ℕ) →
+    AreMade (StreamsAs reading streaming.Check) r holds names out n → AreMade (MakesAll reading Check) r holds names [] 0
+all_checked reading r holds names out n h =
+    let none = none_checked reading r holds names out n h in
+    let made = made_more (StreamsAs reading streaming.Check) (MakesAll reading Check) r holds names out n (checked reading) h in
+    subst (λ z. AreMade (MakesAll reading Check) r holds names z 0) none.0
+    (subst (AreMade (MakesAll reading Check) r holds names out) none.1 made)
 
-pub not_checked : (r : Option (List ℕ)) (holds : List ℕ → Option (List ℕ)) (names : List (Bor (List ℕ))) (old new : Option (List ℕ)) (why : Failure) →
-    IsBroken Exact streaming.Check r holds names old new why → AreUnmade Exact Check r holds names why
-not_checked r holds names old new OutOfMemory b = inl (inl refl)
-not_checked r holds names old new (Unread n words) b = inl (inr (n, words, refl))
-not_checked r holds names old new (Unwritten target) b = absurd (b.2.0 (none_unwritten r holds names b.0 target b.1))
-not_checked r holds names old new (Pods n w) b =
-    inr (stops_more (StreamsAs Exact streaming.Check) (MakesAll Exact Check) (EndsIn Exact streaming.Check) (λ name input made. RefusesBy Exact Check name input) r
-    holds names b.0 (Pods n w) (λ input made i h. (made, i, checked input made i h))
-    (λ name input made e. (made, (e.0, first_refused input made e.1 w e.2 e.3))) b.1)
-not_checked r holds names old new (Texts n w) b =
-    absurd (stops_by (StreamsAs Exact streaming.Check) (EndsIn Exact streaming.Check) ⊥ r holds names b.0 (Texts n w) (λ name input made e. e) b.1)
-not_checked r holds names old new (Pair n w) b =
-    absurd (stops_by (StreamsAs Exact streaming.Check) (EndsIn Exact streaming.Check) ⊥ r holds names b.0 (Pair n w) (λ name input made e. e) b.1)
-not_checked r holds names old new (Lists n m w) b =
-    absurd (stops_by (StreamsAs Exact streaming.Check) (EndsIn Exact streaming.Check) ⊥ r holds names b.0 (Lists n m w) (λ name input made e. e) b.1)
+refuses : (reading : Reading) (name input : List ℕ) (why : Failure) → AreNoPods reading name input why → RefusesBy reading Check name input why
+refuses Exact name input why h = h
+refuses Lenient name input why h = inl h
+
+pub not_checked : (reading : Reading) (r : Option (List ℕ)) (holds : List ℕ → Option (List ℕ)) (names : List (Bor (List ℕ))) (old new : Option (List ℕ)) (why : Failure) →
+    IsBroken reading streaming.Check r holds names old new why → AreUnmade reading Check r holds names why
+not_checked reading r holds names old new OutOfMemory b = inl (inl refl)
+not_checked reading r holds names old new (Unread n words) b = inl (inr (n, words, refl))
+not_checked reading r holds names old new (Unwritten target) b = absurd (b.2.0 (none_unwritten reading r holds names b.0 target b.1))
+not_checked reading r holds names old new (Pods n w) b =
+    inr (stops_more (StreamsAs reading streaming.Check) (MakesAll reading Check) (EndsIn reading streaming.Check) (λ name input made. RefusesBy reading Check name input) r
+    holds names b.0 (Pods n w) (λ input made i h. (made, i, checked reading input made i h))
+    (λ name input made e. (
+      e.2.made,
+      refuses reading name input (Pods n w) (e.0, first_refused reading (MayStop reading (MayRefuse streaming.Check)) input e.2.made e.1 w e.2.ends e.3),
+    )) b.1)
+not_checked reading r holds names old new (Texts n w) b =
+    absurd (stops_by (StreamsAs reading streaming.Check) (EndsIn reading streaming.Check) ⊥ r holds names b.0 (Texts n w) (λ name input made e. e) b.1)
+not_checked reading r holds names old new (Pair n w) b =
+    absurd (stops_by (StreamsAs reading streaming.Check) (EndsIn reading streaming.Check) ⊥ r holds names b.0 (Pair n w) (λ name input made e. e) b.1)
+not_checked reading r holds names old new (Lists n m w) b =
+    absurd (stops_by (StreamsAs reading streaming.Check) (EndsIn reading streaming.Check) ⊥ r holds names b.0 (Lists n m w) (λ name input made e. e) b.1)
 
 -- however a check is asked for
 pub made_by_check : (reading : Reading) (making : Making) (r : Option (List ℕ)) (holds : List ℕ → Option (List ℕ)) (names : List (Bor (List ℕ)))
-    (out : List ℕ) → reading ≡ Exact → making ≡ Check → out ≡ [] → AreMade (MakesAll Exact Check) r holds names [] 0 →
-    AreMade (MakesAll reading making) r holds names out 0
-made_by_check reading making r holds names out e m none h =
-    subst (λ z. AreMade (MakesAll z making) r holds names out 0) (sym e)
-    (subst (λ z. AreMade (MakesAll Exact z) r holds names out 0) (sym m)
-    (subst (λ z. AreMade (MakesAll Exact Check) r holds names z 0) (sym none) h))
+    (out : List ℕ) → making ≡ Check → out ≡ [] → AreMade (MakesAll reading Check) r holds names [] 0 → AreMade (MakesAll reading making) r holds names out 0
+made_by_check reading making r holds names out m none h =
+    subst (λ z. AreMade (MakesAll reading z) r holds names out 0) (sym m)
+    (subst (λ z. AreMade (MakesAll reading Check) r holds names z 0) (sym none) h)
 
 pub unmade_by_check : (reading : Reading) (making : Making) (r : Option (List ℕ)) (holds : List ℕ → Option (List ℕ)) (names : List (Bor (List ℕ)))
-    (why : Failure) → reading ≡ Exact → making ≡ Check → AreUnmade Exact Check r holds names why → AreUnmade reading making r holds names why
-unmade_by_check reading making r holds names why e m h =
-    subst (λ z. AreUnmade z making r holds names why) (sym e) (subst (λ z. AreUnmade Exact z r holds names why) (sym m) h)
+    (why : Failure) → making ≡ Check → AreUnmade reading Check r holds names why → AreUnmade reading making r holds names why
+unmade_by_check reading making r holds names why m h = subst (λ z. AreUnmade reading z r holds names why) (sym m) h

@@ -1,5 +1,5 @@
 -- What is said of a refused pod, whatever follows it.
-use Rattle.std.proofs.Common.{◌≡◌, ◌≤◌, ◌<◌, ◌+◌, ◌⊎◌, ◌∙◌, ℕ, List, [], ◌++◌, Option, Some, None, ap, ap₂, append-nil, arith, drop, inl, inr, length, length-append, length-drop, refl, subst, sym, take}
+use Rattle.std.proofs.Common.{◌≡◌, ◌≢◌, ◌≤◌, ◌<◌, ◌+◌, ◌⊎◌, ◌∙◌, ℕ, List, [], ◌++◌, Option, Some, None, ap, ap₂, append-nil, arith, drop, inl, inr, length, length-append, length-drop, refl, subst, sym, take}
 use Rattle.std.proofs.lemmas.List.{drop-append-le, drop_at, take-append-le, take_at}
 use Rattle.std.proofs.lemmas.Bool.Decides.{nat_tests}
 use Rattle.std.specs.Borrow.{Bor}
@@ -21,8 +21,9 @@ use Rattle.spa_bodies.specs.Reading.{Names, NamesFaultKind}
 use Rattle.spa_recordings.specs.Streaming.{EndsAtPod}
 use Rattle.spa_read.specs.Reading.{StandsLeniently, in_body, no_front}
 use Rattle.spa_read.specs.Reading as leniently
+use Rattle.spa_read.proofs.Conveying.{none_behind}
 use Rattle.spa_recordings.proofs.Holding.{nothing_longer}
-use Rattle.spa_recordings.specs.Reading.{IsNoPod}
+use Rattle.spa_recordings.specs.Reading.{IsAccepted, IsLeftOf, IsNoPod, IsNothing}
 use Rattle.spa_recordings.specs.declared.reading.Reading.{Reading}
 use Rattle.spa_recordings.specs.declared.reading.Reading.TheVariants.{Exact, Lenient}
 use Rattle.spa_refusals.specs.Paths.{HaveRead, HoldsMember, HoldsValue, IsInnermost, LeadsTo, StepsTo, cut_off, further, holds_none, itself, member, members_read, number_of, properties_read, property, short_object, step_limit, type_name, type_number, type_text}
@@ -288,36 +289,45 @@ module _ (pod more : List ℕ) (f : HasFront pod) where
       ]
 
 -- what is said of a pod, of which at least the whole was read, or all that is left
-refusal_ahead : (left read unread : List ℕ) (r : Refusal) → left ≡ read ++ unread →
-    ((HasFront read × ⊤) ⊎ (¬ (HasFront read) × (unread ≡ []))) → IsRefusalOf Exact read r → IsRefusalOf Exact left r
-refusal_ahead left read unread r e (inl w) h =
-    subst (λ z. IsRefusalOf Exact z r) (sym e) (refusal_longer read unread w.0 Exact r h)
-refusal_ahead left read unread r e (inr w) h =
-    subst (λ z. IsRefusalOf Exact z r) (sym (e ∙ ap (λ z. read ++ z) w.1 ∙ append-nil read)) h
+refusal_ahead : (reading : Reading) (R : Type 0) (left read unread : List ℕ) (r : Refusal) → left ≡ read ++ unread →
+    ((HasFront read × R) ⊎ (¬ (HasFront read) × (unread ≡ []))) → IsRefusalOf reading read r → IsRefusalOf reading left r
+refusal_ahead reading R left read unread r e (inl w) h =
+    subst (λ z. IsRefusalOf reading z r) (sym e) (refusal_longer read unread w.0 reading r h)
+refusal_ahead reading R left read unread r e (inr w) h =
+    subst (λ z. IsRefusalOf reading z r) (sym (e ∙ ap (λ z. read ++ z) w.1 ∙ append-nil read)) h
+
+-- what is checked is read
+accepted : (reading : Reading) (first out : List ℕ) (n : ℕ) → StreamsAs reading streaming.Check first out n → IsAccepted reading first
+accepted Exact first out n h = (h.2.1.0, subst (AreMembers h.2.1.0) h.1 h.2.1.1)
+accepted Lenient first out n h = (h.1.0, h.1.1)
+
+-- what begins with it isn't, where no pod is read behind it
+left_behind : (reading : Reading) (first left : List ℕ) → IsAccepted reading first → left ≢ [] → IsNothing reading left →
+    ¬ (IsAccepted reading (first ++ left)) × IsLeftOf reading (first ++ left) left
+left_behind Exact first left vs some nothing =
+    (λ m. refused_behind_members vs.0 m.0 first left vs.1 some nothing m.1, (vs.0, first, refl, vs.1, some))
+left_behind Lenient first left vs some nothing =
+    (λ m. none_behind vs.0 m.0 first left vs.1 some nothing m.1, (vs.0, first, refl, vs.1, some))
 
 -- the pod at which a check ends is the first refused one
-pub first_refused : (input out read : List ℕ) (r : Refusal) →
-    EndsAtPod Exact ⊤ (StreamsAs Exact streaming.Check) input out r.number r.place read → IsRefusalOf Exact read r →
-    IsFirstRefusal Exact input r
-first_refused input out read r e h =
+pub first_refused : (reading : Reading) (R : Type 0) (input out read : List ℕ) (r : Refusal) →
+    EndsAtPod reading R (StreamsAs reading streaming.Check) input out r.number r.place read → IsRefusalOf reading read r → IsFirstRefusal reading input r
+first_refused reading R input out read r e h =
     let made = e.made in
-    let vs = made.made.2.1 in
-    let first = subst (AreMembers vs.0) made.made.1 vs.1 in
     let p = e.its_place in
     let l = ap length made.parts ∙ length-append made.first e.left in
     let behind : drop r.place input ≡ e.left =
     ap (drop r.place) made.parts ∙ drop_at made.first e.left r.place (sym p) in
     let before : take r.place input ≡ made.first =
-    ap (take r.place) made.parts ∙ take_at made.first e.left r.place (sym p) in (
-      λ m.
-          refused_behind_members vs.0 m.0 made.first e.left first e.ahead.some e.ahead.refused
-          (subst (AreMembers m.0) made.parts m.1),
-      (vs.0, made.first, made.parts ∙ ap (λ z. made.first ++ z) (sym behind), first, λ z. e.ahead.some (sym behind ∙ z)),
+    ap (take r.place) made.parts ∙ take_at made.first e.left r.place (sym p) in
+    let rest = left_behind reading made.first e.left (accepted reading made.first out made.refused made.made) e.ahead.some e.ahead.refused in (
+      λ m. rest.0 (subst (IsAccepted reading) made.parts m),
+      subst (λ z. IsLeftOf reading z (drop r.place input)) (sym made.parts) (subst (IsLeftOf reading (made.first ++ e.left)) (sym behind) rest.1),
       record {
         within = omega (arith, p, l);
         number = e.its_number ∙ ap (λ z. length (walk z) + 1) (sym before);
         its =
-            subst (λ z. IsRefusalOf Exact z r) (sym behind)
-            (refusal_ahead e.left read e.ahead.unread r e.ahead.parts e.ahead.enough h);
+            subst (λ z. IsRefusalOf reading z r) (sym behind)
+            (refusal_ahead reading R e.left read e.ahead.unread r e.ahead.parts e.ahead.enough h);
       },
     )

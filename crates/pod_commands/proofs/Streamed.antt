@@ -1,11 +1,11 @@
 -- Inputs that are written of as they come, name by name.
-use Rattle.std.proofs.Common.{◌≡◌, ◌≢◌, ◌∙◌, ◌+◌, ◌∷◌, ◌++◌, ◌&&◌, [], Bool, false, true, true≢false, ap, append_assoc, append-nil, arith, inl, inr, length, refl, subst, suc, sym, take, List, ℕ, Option, Some, None}
+use Rattle.std.proofs.Common.{Global, Vec, ◌≡◌, ◌≢◌, ◌∙◌, ◌+◌, ◌∷◌, ◌++◌, ◌&&◌, [], Bool, false, true, true≢false, ap, append_assoc, append-nil, arith, inl, inr, length, refl, subst, suc, sym, take, List, ℕ, Option, Some, None}
 use Rattle.std.specs.Borrow.{Bor}
 use Rattle.std.specs.Io.KnownBytes.{Appends}
 use Rattle.spa_device.specs.Whole.{IsAllOf}
 use Rattle.std.specs.Prelude.{◌⊎◌, Decides, is_some, IfErr, IfOk, Result, Ok, Err}
 use Rattle.spa_recordings.specs.declared.reading.Reading.{Reading}
-use Rattle.spa_recordings.specs.declared.reading.Reading.TheVariants.{Exact}
+use Rattle.spa_recordings.specs.declared.reading.Reading.TheVariants.{Exact, Lenient}
 use Rattle.spa_recordings.proofs.Holding.{nothing_read}
 use Rattle.spa_recordings.specs.Streaming.{EndsAtPod, MakesFirst, MayStop, Stops, Streams}
 use Rattle.spa_recordings.specs.declared.streaming.Made.{Made}
@@ -16,7 +16,7 @@ use Rattle.pod_commands.specs.Answers.{Gets, IsExcluded, IsFound, IsShownIn, IsS
 use Rattle.pod_commands.specs.Inputs.{AreMade, IsKnown, IsOpened, content_of, left_behind}
 use Rattle.pod_commands.specs.Sending.{IsSent}
 use Rattle.pod_commands.specs.StreamLaws.{nothing_written}
-use Rattle.pod_commands.specs.Streaming.{EndsIn, HasNoPod, IsBroken, IsBrokenAt, IsFailureOf, IsMadeInBlocks, IsMadeOfEach, IsRefusedAs, IsWritten, MayRefuse, StreamsAs, made_as}
+use Rattle.pod_commands.specs.Streaming.{EndsIn, EndsShown, HasNoPod, IsBroken, IsBrokenAt, IsCutIn, IsEndOf, IsFailureOf, IsLastShown, IsMadeInBlocks, IsMadeOfEach, IsRefusedAs, IsWritten, MayRefuse, ShowsLast, StreamsAs, made_as, shown_as}
 use Rattle.pod_commands.specs.declared.request.Printing.{Printing}
 use Rattle.pod_commands.specs.declared.answer.Failure.{Failure}
 use Rattle.pod_commands.specs.declared.answer.Failure.TheVariants.{Pods, Texts, Pair, Lists, OutOfMemory, Unread, Unwritten}
@@ -48,6 +48,10 @@ pub record StreamedSoFar (reading : Reading) (s : Streaming) (remaining : Option
   pub nothing : Decides its.nothing (out ≡ [])
   pub written : Appends old new out
   pub made : MadeSoFar (StreamsAs reading s) (EndsIn reading s) remaining holds names now left out its.refused
+
+-- nothing was written behind what was
+appends_on : (a b c : Option (List ℕ)) (xs : List ℕ) → Appends a b xs → Appends b c [] → Appends a c xs
+appends_on a b c xs h k = subst (Appends a c) (append-nil xs) (appends_more a b c xs [] h k)
 
 take_behind : (xs ys : List ℕ) (n : ℕ) → take (length xs + n) (xs ++ ys) ≡ xs ++ take n ys
 take_behind [] ys n = ap (λ m. take m ys) (let e : 0 + n ≡ n = omega arith in e)
@@ -143,27 +147,114 @@ unread reading s name content old why u = of (known content) u
     of k (inr e) = subst (IsBrokenAt reading s name content old old) (sym e.2) (k.0, [], k.1, (k.0, none_of reading s k.0), appends_nothing old)
 
 -- it ends before it is done
-pub broken : (reading : Reading) (s : Streaming) (name : Bor (List ℕ)) (content old new : Option (List ℕ)) (e : Stop) (why : Failure) → IsFailureOf reading name e why →
-    Stops reading (MayStop reading (MayRefuse s)) (StreamsAs reading s) content old new e → IsBrokenAt reading s name.now content old new why
-broken reading s name content old new stop.OutOfMemory why t h =
-    subst (IsBrokenAt reading s name.now content old new) (sym t) (h.input, h.out, h.its, h.ends, h.written)
-broken reading s name content old new stop.ReadFailed why t h =
-    subst (IsBrokenAt reading s name.now content old new) (sym t.3) (h.input, h.out, h.its, h.ends, h.written)
-broken reading s name content old new stop.WriteFailed why t h =
-    subst (IsBrokenAt reading s name.now content old new) (sym t) (h.input, h.out, h.its, (refl, h.ends.0, h.ends.1), h.written)
-broken reading s name content old new (stop.Pod number place read) why t h = of why t
+module _ (reading : Reading) (s : Streaming) (name : Bor (List ℕ)) (content old mid new : Option (List ℕ)) where
+  abbrev pub StopsBy : Stop → Type 0
+  StopsBy e = Stops reading (MayStop reading (MayRefuse s)) (StreamsAs reading s) content old mid e
+
+  abbrev pub BreaksBy : Failure → Type 0
+  BreaksBy why = IsBrokenAt reading s name.now content old new why
+
+  no_memory : (why : Failure) → why ≡ OutOfMemory → Appends mid new [] → StopsBy stop.OutOfMemory → BreaksBy why
+  no_memory why t w h = subst BreaksBy (sym t) (h.input, h.out, h.its, h.ends, appends_on old mid new h.out h.written w)
+
+  read_fails : (why : Failure) → IsFailureOf reading name stop.ReadFailed why → Appends mid new [] → StopsBy stop.ReadFailed → BreaksBy why
+  read_fails why t w h = subst BreaksBy (sym t.3) (h.input, h.out, h.its, h.ends, appends_on old mid new h.out h.written w)
+
+  write_fails : (why : Failure) → why ≡ Unwritten None → Appends mid new [] → StopsBy stop.WriteFailed → BreaksBy why
+  write_fails why t w h =
+      let k = h.written in
+      subst BreaksBy (sym t)
+      (h.input, h.out, h.its, (refl, inl (h.ends.0, h.ends.1)), (k.0, k.1, appends_on old mid new (take k.1 h.out) k.2 w))
+
+  -- the pod at which it ends, and what is shown of it
+  ends_shown : (input out made last : List ℕ) (number place number' place' : ℕ) (read : List ℕ) → out ≡ made ++ last → number' ≡ number → place' ≡ place →
+      EndsAtPod reading (MayStop reading (MayRefuse s)) (StreamsAs reading s) input made number place read →
+      ShowsLast (shown_as reading s) number place read last → EndsShown reading s input out number' place' read
+  ends_shown input out made last number place number' place' read parts n p ends shown =
+      subst (λ z. EndsShown reading s input out z place' read) (sym n)
+      (subst (λ z. EndsShown reading s input out number z read) (sym p)
+      (record { made = made; last = last; parts = parts; ends = ends; shown = shown }))
+
+  none_shown : (number place : ℕ) (read : List ℕ) → None ≡ shown_as reading s → ShowsLast (shown_as reading s) number place read []
+  none_shown number place read e = subst (λ z. ShowsLast z number place read []) e refl
+
+  at_pod : (number place : ℕ) (read : Vec ℕ Global) (why : Failure) → None ≡ shown_as reading s → IsRefusedAs reading name.now number place read.items why →
+      Appends mid new [] → StopsBy (stop.Pod number place read) → BreaksBy why
+  at_pod number place read (Pods n w) e t k h = (
+    h.input,
+    h.out,
+    h.its,
+    (
+      t.0,
+      read.items,
+      ends_shown h.input h.out h.out [] number place w.number w.place read.items (sym (append-nil h.out)) t.1 t.2 h.ends (none_shown number place read.items e),
+      t.3,
+    ),
+    appends_on old mid new h.out h.written k,
+  )
+  at_pod number place read OutOfMemory e t k h = (h.input, h.out, h.its, (h.ends.left, h.ends.made), appends_on old mid new h.out h.written k)
+  at_pod number place read (Texts n w) e t k h = absurd t
+  at_pod number place read (Pair n w) e t k h = absurd t
+  at_pod number place read (Lists n m w) e t k h = absurd t
+  at_pod number place read (Unread n words) e t k h = absurd t
+  at_pod number place read (Unwritten n) e t k h = absurd t
+
+  at_shown : (printing : Printing) (number place : ℕ) (read : Vec ℕ Global) (why : Failure) → Some printing ≡ shown_as reading s →
+      IsLastShown printing reading name.now number place read.items mid new why → StopsBy (stop.Pod number place read) → BreaksBy why
+  at_shown printing number place read (Pods n w) e t h =
+      let last = t.1.0 in
+      let shows = subst (λ z. ShowsLast z number place read.items last) e t.1.1 in (
+        h.input,
+        h.out ++ last,
+        h.its,
+        (t.0.0, read.items, ends_shown h.input (h.out ++ last) h.out last number place w.number w.place read.items refl t.0.1 t.0.2 h.ends shows, t.0.3),
+        appends_more old mid new h.out last h.written t.1.2,
+      )
+  at_shown printing number place read (Unwritten n) e t h =
+      let last = t.1 in
+      let shows = subst (λ z. ShowsLast z number place read.items last) e t.2 in (
+        h.input,
+        h.out ++ last,
+        h.its,
+        (t.0, inr (number, place, read.items, ends_shown h.input (h.out ++ last) h.out last number place number place read.items refl refl refl h.ends shows)),
+        written_more old mid new h.out last (Unwritten n) h.written t.3,
+      )
+  at_shown printing number place read OutOfMemory e t h = (h.input, h.out, h.its, (h.ends.left, h.ends.made), appends_on old mid new h.out h.written t)
+  at_shown printing number place read (Texts n w) e t h = absurd t
+  at_shown printing number place read (Pair n w) e t h = absurd t
+  at_shown printing number place read (Lists n m w) e t h = absurd t
+  at_shown printing number place read (Unread n words) e t h = absurd t
+
+  pub broken : (shown : Option Printing) (e : Stop) (why : Failure) → shown ≡ shown_as reading s → IsEndOf shown reading name e mid new why → StopsBy e →
+      BreaksBy why
+  broken None stop.OutOfMemory why i t h = no_memory why t.0 t.1 h
+  broken None stop.ReadFailed why i t h = read_fails why t.0 t.1 h
+  broken None stop.WriteFailed why i t h = write_fails why t.0 t.1 h
+  broken None (stop.Pod number place read) why i t h = at_pod number place read why i t.0 t.1 h
+  broken (Some printing) stop.OutOfMemory why i t h = no_memory why t.0 t.1 h
+  broken (Some printing) stop.ReadFailed why i t h = read_fails why t.0 t.1 h
+  broken (Some printing) stop.WriteFailed why i t h = write_fails why t.0 t.1 h
+  broken (Some printing) (stop.Pod number place read) why i t h = at_shown printing number place read why i t h
+
+-- a last pod that is shown isn't whole
+pub cut_in : (reading : Reading) (s : Streaming) (shown : Option Printing) (content old new : Option (List ℕ)) (e : Stop) → shown ≡ shown_as reading s →
+    Stops reading (MayStop reading (MayRefuse s)) (StreamsAs reading s) content old new e → IsCutIn shown e
+cut_in reading s shown content old new e i h = subst (λ z. IsCutIn z e) (sym i) (of reading s e h)
   where
-    of : (why : Failure) → IsRefusedAs reading name.now number place read.items why → IsBrokenAt reading s name.now content old new why
-    of (Pods n w) t =
-        let same = subst (λ p. EndsAtPod reading (MayStop reading (MayRefuse s)) (StreamsAs reading s) h.input h.out w.number p read.items) (sym t.2)
-        (subst (λ k. EndsAtPod reading (MayStop reading (MayRefuse s)) (StreamsAs reading s) h.input h.out k place read.items) (sym t.1) h.ends) in
-        (h.input, h.out, h.its, (t.0, read.items, same, t.3), h.written)
-    of OutOfMemory t = (h.input, h.out, h.its, (h.ends.left, h.ends.made), h.written)
-    of (Texts n w) t = absurd t
-    of (Pair n w) t = absurd t
-    of (Lists n m w) t = absurd t
-    of (Unread n words) t = absurd t
-    of (Unwritten n) t = absurd t
+    of : (reading : Reading) (s : Streaming) (e : Stop) → Stops reading (MayStop reading (MayRefuse s)) (StreamsAs reading s) content old new e →
+        IsCutIn (shown_as reading s) e
+    of Exact (streaming.Print printing) (stop.Pod number place read) h =
+        elim h.ends.ahead.enough [
+          | inl f ↦ absurd f.1
+          | inr f ↦ f.0
+        ]
+    of Exact (streaming.Print printing) stop.OutOfMemory h = tt
+    of Exact (streaming.Print printing) stop.ReadFailed h = tt
+    of Exact (streaming.Print printing) stop.WriteFailed h = tt
+    of Exact (streaming.Json style) e h = tt
+    of Exact streaming.Rewrite e h = tt
+    of Exact streaming.Check e h = tt
+    of Lenient s e h = tt
 
 -- a refused pod is none
 pub no_pod : (reading : Reading) (s : Streaming) (content old new : Option (List ℕ)) (e : Stop) → Stops reading (MayStop reading (MayRefuse s)) (StreamsAs reading s) content old new e → HasNoPod reading e

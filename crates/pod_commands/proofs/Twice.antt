@@ -107,8 +107,8 @@ pods_unknown : (r : Option (List ℕ)) (holds : List ℕ → Option (List ℕ)) 
 pods_unknown r holds [] made out n name why files m s = absurd s
 pods_unknown r holds (x ∷ xs) made out n name why files m (inl s) =
     let vs = m.6.0.2.1 in
-    let d = differs ⊤ (content_of r holds x.now) m.0 s.0 out vs.0 why.number why.place s.2.1 m.5 s.1
-    (subst (AreMembers vs.0) m.6.0.1 vs.1) s.2.2 in
+    let d = differs ⊤ (content_of r holds x.now) m.0 s.0 s.2.2.made vs.0 why.number why.place s.2.1 m.5 s.1
+    (subst (AreMembers vs.0) m.6.0.1 vs.1) s.2.2.ends in
     subst (λ z. holds z ≡ None) (sym s.2.0) (subst (λ b. (if b then r else holds x.now) ≡ None) files.0 d)
 pods_unknown r holds (x ∷ xs) made out n name why files m (inr s) =
     pods_unknown (left_behind r x.now) holds xs m.2 s.2 m.4 name why files.1 m.9 s.7

@@ -1,6 +1,7 @@
 pub mod Answers
 pub mod ColourLaws
 pub mod Colours
+pub mod Cut
 pub mod Inputs
 pub mod Making
 pub mod Misuses

@@ -1,8 +1,9 @@
 -- What is written of inputs as they come.
-use Rattle.std.specs.Prelude.{◌≡◌, ◌≢◌, ◌⊎◌, ⊤, ℕ, List, [], ◌++◌, Option, None, Some, take}
+use Rattle.std.specs.Prelude.{◌≡◌, ◌≢◌, ◌-◌, ◌⊎◌, ⊤, ℕ, List, [], ◌++◌, Option, None, Some, take}
 use Rattle.std.specs.Io.KnownBytes.{Appends}
 use Rattle.std.specs.Borrow.{Bor}
 use Rattle.spa_device.specs.Whole.{IsAllOf}
+use Rattle.spa_format.specs.Front.{HasFront}
 use Rattle.spa_format.specs.Pod.{AreMembers}
 use Rattle.spa_format.specs.Tree.{Trees}
 use Rattle.spa_recordings.specs.Rewritings.{RewritesAll}
@@ -13,10 +14,12 @@ use Rattle.spa_recordings.specs.GoingOn.{EndsBySize, GoesOn}
 use Rattle.spa_recordings.specs.declared.going_on.Refused.{Refused}
 use Rattle.spa_recordings.specs.declared.going_on.RefusedPod.{RefusedPod}
 use Rattle.spa_recordings.specs.declared.reading.Reading.{Reading}
+use Rattle.spa_recordings.specs.declared.reading.Reading.TheVariants.{Exact}
 use Rattle.spa_recordings.specs.declared.streaming.Stop.{Stop}
 use Rattle.spa_recordings.specs.declared.streaming.Stop.TheVariants as stop
 use Rattle.spa_refusals.specs.Refusals.{IsRefusalOf}
 use Rattle.pod_commands.specs.Colours.{PrintsIn, ShowsIn}
+use Rattle.pod_commands.specs.Cut.{ShowsCut}
 use Rattle.pod_commands.specs.Inputs.{StopsAt}
 use Rattle.spa_refusals.specs.declared.several.NamedRefusal.{NamedRefusal}
 use Rattle.pod_commands.specs.Making.{Makes}
@@ -25,6 +28,7 @@ use Rattle.pod_commands.specs.declared.request.Making.{Making}
 use Rattle.pod_commands.specs.declared.request.Making.TheVariants as making
 use Rattle.pod_commands.specs.declared.answer.Failure.{Failure}
 use Rattle.pod_commands.specs.declared.answer.Failure.TheVariants.{Pods, Texts, Pair, Lists, OutOfMemory, Unread, Unwritten}
+use Rattle.pod_commands.specs.declared.request.Printing.{Printing}
 use Rattle.pod_commands.specs.declared.request.Streaming.{Streaming}
 use Rattle.pod_commands.specs.declared.request.Streaming.TheVariants as streaming
 
@@ -46,15 +50,34 @@ MayRefuse streaming.Check = ⊤
 abbrev pub StreamsAs : Reading → Streaming → (input out : List ℕ) → (refused : ℕ) → Type 0
 StreamsAs reading s input out refused = MakesAs reading (WritesOf s 0 0) input out refused
 
--- why the work on an input of this name, read so, ends before that does, and what was made of it till then: of some first pods
+-- how parts of inputs that are read exactly are printed, if they are
+abbrev pub shown_as : Reading → Streaming → Option Printing
+shown_as Exact (streaming.Print printing) = Some printing
+shown_as reading s = None
+
+-- what is written of the pod of this number at this byte, of which this was read and at which the work ends: what is shown of it, or nothing
+abbrev pub ShowsLast : Option Printing → (number place : ℕ) → (read last : List ℕ) → Type 0
+ShowsLast None number place read last = last ≡ []
+ShowsLast (Some printing) number place read last = ShowsCut printing (number - 1) place read last
+
+-- the work ends at this pod, and this was made: of those before it, and of itself what is shown of it
+pub record EndsShown (reading : Reading) (s : Streaming) (input out : List ℕ) (number place : ℕ) (read : List ℕ) : Type 0 where
+  pub made : List ℕ
+  pub last : List ℕ
+  pub parts : out ≡ made ++ last
+  pub ends : EndsAtPod reading (MayStop reading (MayRefuse s)) (StreamsAs reading s) input made number place read
+  pub shown : ShowsLast (shown_as reading s) number place read last
+
+-- why the work on an input of this name, read so, ends before that does, and what was made of it till then: of some first pods, and of a last one
 abbrev pub EndsIn : Reading → Streaming → (name input out : List ℕ) → Failure → Type 0
 EndsIn reading s name input out (Pods n why) =
-    (n.now ≡ name)
-    × (read : List ℕ) × EndsAtPod reading (MayStop reading (MayRefuse s)) (StreamsAs reading s) input out why.number why.place read
-    × IsRefusalOf reading read why
+    (n.now ≡ name) × (read : List ℕ) × EndsShown reading s input out why.number why.place read × IsRefusalOf reading read why
 EndsIn reading s name input out (Unread n words) = (left : List ℕ) × MakesFirst (StreamsAs reading s) input out left
 EndsIn reading s name input out OutOfMemory = (left : List ℕ) × MakesFirst (StreamsAs reading s) input out left
-EndsIn reading s name input out (Unwritten target) = (target ≡ None) × (left : List ℕ) × MakesFirst (StreamsAs reading s) input out left
+EndsIn reading s name input out (Unwritten target) =
+    (target ≡ None)
+    × (((left : List ℕ) × MakesFirst (StreamsAs reading s) input out left)
+    ⊎ ((number : ℕ) × (place : ℕ) × (read : List ℕ) × EndsShown reading s input out number place read))
 EndsIn reading s name input out _ = ⊥
 
 -- these bytes were written, or where a write failed, of which there are some, so many first ones of them
@@ -135,6 +158,26 @@ IsFailureOf reading name stop.OutOfMemory why = why ≡ OutOfMemory
 IsFailureOf reading name stop.ReadFailed why = (n : Bor (List ℕ)) × (words : Bor (List ℕ)) × (n.now ≡ name.now) × (why ≡ Unread n words)
 IsFailureOf reading name stop.WriteFailed why = why ≡ Unwritten None
 IsFailureOf reading name (stop.Pod number place read) why = IsRefusedAs reading name.now number place read.items why
+
+-- a last pod that is shown isn't whole
+abbrev pub IsCutIn : Option Printing → Stop → Type 0
+IsCutIn (Some printing) (stop.Pod number place read) = ¬ (HasFront read.items)
+IsCutIn shown why = ⊤
+
+-- what is there of the last pod was written, and this is said of it
+abbrev pub IsLastShown : Printing → Reading → (name : List ℕ) → (number place : ℕ) → (read : List ℕ) → (old new : Option (List ℕ)) → Failure → Type 0
+IsLastShown printing reading name number place read old new (Pods n why) =
+    IsRefusedAs reading name number place read (Pods n why) × ((last : List ℕ) × ShowsCut printing (number - 1) place read last × Appends old new last)
+IsLastShown printing reading name number place read old new (Unwritten target) =
+    (target ≡ None) × (last : List ℕ) × ShowsCut printing (number - 1) place read last × IsWritten (Unwritten target) old new last
+IsLastShown printing reading name number place read old new OutOfMemory = Appends old new []
+IsLastShown printing reading name number place read old new _ = ⊥
+
+-- the failure of the input of this name for this reason, and what was written of a last pod that is shown
+abbrev pub IsEndOf : Option Printing → Reading → Bor (List ℕ) → Stop → (old new : Option (List ℕ)) → Failure → Type 0
+IsEndOf (Some printing) reading name (stop.Pod number place read) old new why =
+    IsLastShown printing reading name.now number place read.items old new why
+IsEndOf shown reading name stop old new why = IsFailureOf reading name stop why × Appends old new []
 
 -- what is made of pods is what is made of each
 abbrev pub IsMadeOfEach : Making → Type 0

@@ -5,6 +5,7 @@
 pub mod answer;
 pub mod colours;
 mod command;
+mod cut;
 pub mod files;
 mod making;
 pub mod misuse;

@@ -38,8 +38,8 @@ use spa_text_forms::Form;
 use std::alloc::{AllocError, Global};
 use std::io::Read;
 
-/// What is made of each of the inputs of these names, read so, one behind another. Inputs that are read exactly and
-/// checked are held block by block, and else whole.
+/// What is made of each of the inputs of these names, read so, one behind another. Inputs that are checked are held block by
+/// block, and else whole.
 #[tactic(auto, using(crate::proofs::Checked::made_by_check, crate::proofs::Checked::unmade_by_check))]
 pub(crate) fn make_all<'a, R: Read, S: Files>(
     alloc: Global,
@@ -53,8 +53,8 @@ pub(crate) fn make_all<'a, R: Read, S: Files>(
         (λ out. AreMade (MakesAll reading making.entry) (R.remaining input.old) (S.holds files.now) names.now out.items 0) }
     ensures refused { IfErr result (AreUnmade reading making.entry (R.remaining input.old) (S.holds files.now) names.now) }
 {
-    if let (Reading::Exact, Making::Check) = (reading, making) {
-        return match check_all(alloc, names, input, files) {
+    if let Making::Check = making {
+        return match check_all(alloc, reading, names, input, files) {
             Ok(()) => Ok(Vec::new(alloc)),
             Err(why) => Err(why),
         };

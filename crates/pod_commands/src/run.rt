@@ -179,7 +179,7 @@ fn rewrite_twice<'a, R: Read, S: Files, W: Write + Drop>(
     ensures { IsMadeBy Exact Stops Rewrite result.0 (R.remaining input.old) names.now
         (outlet target.entry (W.contents device) (W.contents result.1) (S.holds files.old) (S.holds files.new)) }
 {
-    match check_all(alloc, names, input, files) {
+    match check_all(alloc, Reading::Exact, names, input, files) {
         Ok(()) => match emptied(names, files) {
             Some(name) => {
                 let why = Failure::Unread(name, "emptied while it was read");

@@ -4,15 +4,17 @@ ghost use Rattle.std.specs.Io.KnownBytes.{Appends};
 ghost use Rattle.pod_commands.specs.Answers.{AreUnmade};
 ghost use Rattle.pod_commands.specs.Inputs.{AreMade, IsKnown, content_of, left_behind};
 ghost use Rattle.pod_commands.specs.Making.{MakesAll};
-ghost use Rattle.pod_commands.specs.Streaming.{HasNoPod, IsBroken, IsBrokenAt, IsFailureOf, IsRefusedAs, MayRefuse, StreamsAs, WritesOf};
+ghost use Rattle.pod_commands.specs.Streaming as spec;
+ghost use Rattle.pod_commands.specs.Streaming.{HasNoPod, IsBroken, IsBrokenAt, IsCutIn, IsEndOf, IsFailureOf, IsLastShown, IsRefusedAs, MayRefuse, StreamsAs, WritesOf};
 ghost use Rattle.pod_commands.specs.declared.request.Making.TheVariants.{Check};
 ghost use Rattle.pod_commands.specs.declared.request.Streaming.TheVariants as streaming;
-ghost use Rattle.spa_recordings.specs.declared.reading.Reading.TheVariants.{Exact};
+ghost use Rattle.spa_format.specs.Front.{HasFront};
 ghost use Rattle.spa_recordings.specs.Reading.{IsNothing};
 ghost use Rattle.spa_recordings.specs.Streaming.{IsNotMade, Streams, WritesMade};
 
 use crate::answer::Failure;
 use crate::colours::{colours_of, in_colours};
+use crate::cut::show_cut;
 use crate::files::{Files, open_named};
 use crate::request::{Printing, Streaming, Style};
 use spa_pod_commands::making::check;
@@ -64,23 +66,24 @@ pub(crate) fn stream_all<'a, R: Read, S: Files, W: Write>(
     Ok(made)
 }
 
-/// Passes where the inputs of these names consist of pods, which it looks at block by block; nothing is written.
+/// Passes where the inputs of these names are read so, which it looks at block by block; nothing is written.
 #[tactic(auto, using(crate::proofs::Checked::all_checked))]
 pub(crate) fn check_all<'a, R: Read, S: Files>(
     alloc: Global,
+    reading: Reading,
     names: &[&'a str],
     input: &mut R,
     files: &S,
 ) -> Result<(), Failure<'a>>
     ensures accepted { OnOk result
-        (AreMade (MakesAll Exact Check) (R.remaining input.old) (S.holds files.now) names.now [] 0) }
+        (AreMade (MakesAll reading Check) (R.remaining input.old) (S.holds files.now) names.now [] 0) }
     ensures refused { IfErr result
-        (AreUnmade Exact Check (R.remaining input.old) (S.holds files.now) names.now) }
+        (AreUnmade reading Check (R.remaining input.old) (S.holds files.now) names.now) }
 {
     let mut nowhere = io::sink();
     match stream_all(
         alloc,
-        Reading::Exact,
+        reading,
         Streaming::Check,
         names,
         input,
@@ -154,7 +157,75 @@ fn stream_reader<'a, R: Read, W: Write>(
 {
     match stream(alloc, reading, &streaming, input, output) {
         Ok(made) => Ok(made),
-        Err(why) => Err(failure_of(alloc, reading, name, why)),
+        Err(why) => {
+            let shown = shown_as(reading, streaming);
+            Err(end(alloc, reading, shown, name, why, output))
+        }
+    }
+}
+
+/// How parts of inputs that are read exactly are printed, if they are.
+fn shown_as<'a>(reading: Reading, streaming: Streaming<'a>) -> Option<Printing<'a>>
+    ensures { result ≡ spec.shown_as reading streaming.entry }
+{
+    match (reading, streaming) {
+        (Reading::Exact, Streaming::Print(printing)) => Some(printing),
+        _ => None,
+    }
+}
+
+/// The failure of the input of this name, which is read so, for this reason. Of a last pod that is shown so, of which not all is there, it writes what is
+/// there.
+fn end<'a, W: Write>(
+    alloc: Global,
+    reading: Reading,
+    shown: Option<Printing<'_>>,
+    name: &'a str,
+    why: Stop,
+    output: &mut W,
+) -> Failure<'a>
+    requires nothing { HasNoPod reading why }
+    requires cut { IsCutIn shown why }
+    ensures { IsEndOf shown.entry reading name.entry why (W.contents output.old) (W.contents output.new) result }
+{
+    match (shown, why) {
+        (
+            Some(printing),
+            Stop::Pod {
+                number,
+                place,
+                read,
+            },
+        ) => end_at_pod(alloc, reading, printing, name, number, place, read, output),
+        (_, why) => failure_of(alloc, reading, name, why),
+    }
+}
+
+/// Writes what is there of the last pod, which has this number and begins with these bytes at this byte, and answers its refusal.
+fn end_at_pod<'a, W: Write>(
+    alloc: Global,
+    reading: Reading,
+    printing: Printing<'_>,
+    name: &'a str,
+    number: usize,
+    place: usize,
+    read: Vec<u8>,
+    output: &mut W,
+) -> Failure<'a>
+    requires nothing { IsNothing reading read.items }
+    requires cut { ¬ (HasFront read.items) }
+    ensures { IsLastShown printing.entry reading name.entry.now number place read.items
+        (W.contents output.old) (W.contents output.new) result }
+{
+    let Ok(refusal) = refusal_of(alloc, reading, read.as_slice(), place, number) else {
+        return Failure::OutOfMemory;
+    };
+    let Ok(shown) = show_cut(alloc, printing, number.saturating_sub(1), place, read) else {
+        return Failure::OutOfMemory;
+    };
+    match write_made(output, shown.as_slice()) {
+        Ok(()) => Failure::Pods(name, refusal),
+        Err(_) => Failure::Unwritten(None),
     }
 }
 

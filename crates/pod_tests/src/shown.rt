@@ -29,7 +29,7 @@ fn answers(
         device,
         NO_SCREEN,
     );
-    let mut line = [0; 100];
+    let mut line = [0; 120];
     let mut faults = Device::new(&mut line, PIECE);
     let is_reported = report(&mut device, &mut faults, &answer).is_ok();
     if faults.taken() == WANTING.as_bytes() || faults.taken() == INPUT_WANTING.as_bytes() {
@@ -105,6 +105,27 @@ fn is_deep_shown(rt: &HostRuntime) -> Result<bool, AllocError> {
 #[test]
 fn deep_pods_are_shown(rt: HostRuntime) -> Result<(), AllocError> {
     let holds = is_deep_shown(&rt)?;
+    assert!(rt; holds);
+    Ok(())
+}
+
+/// Whether `show` shows so many levels without the innermost one, whose eight bytes aren't there.
+fn is_deep_cut_shown(rt: &HostRuntime) -> Result<bool, AllocError> {
+    let bytes = nested_structs(rt.alloc(), LEVELS - 1, &[0, 14])?;
+    let there = bytes.len().saturating_sub(8);
+    let mut room = vec![in rt.alloc(); 0; ROOM]?;
+    let source = Source::whole(&bytes.as_slice()[..there], ALL);
+    let wanted: Wanted<'_> = (
+        b"(99998) Struct: size 0\n.. cut: 799992 of 800000 bytes are there\n",
+        b"pod: standard input: pod 1 (Struct), byte 0: the bytes are cut short: 799992 of 800000 are there (Short)\n",
+        1,
+    );
+    answers(rt, &["show"], source, room.as_mut_slice(), wanted)
+}
+
+#[test]
+fn deep_pods_that_are_cut_are_shown(rt: HostRuntime) -> Result<(), AllocError> {
+    let holds = is_deep_cut_shown(&rt)?;
     assert!(rt; holds);
     Ok(())
 }

@@ -1,7 +1,8 @@
 //! Reads by each built-in type, of pods that are cut.
+use crate::front::Typed;
 use spa_typed_read::{PodDeserialize, PodDeserializer};
 use spa_utils::{Choice, Fd, Float32, Float64, Fraction, Id, Rectangle};
-use spa_value::{Bitmap, Value};
+use spa_value::Bitmap;
 use std::alloc::Global;
 
 /// Whether reading this type finds the front short.
@@ -32,7 +33,7 @@ fn are_borrowed_short(alloc: Global, input: &[u8]) -> bool {
         && is_short::<Vec<u8>>(alloc, input)
         && is_short::<Bitmap<'_>>(alloc, input)
         && is_short::<(u32, u64)>(alloc, input)
-        && is_short::<Value>(alloc, input)
+        && is_short::<Typed>(alloc, input)
 }
 
 fn are_lists_short(alloc: Global, input: &[u8]) -> bool {

@@ -19,11 +19,11 @@ pub(crate) enum Front<'a> {
 }
 
 /// What a read of a value answers: what follows the front, and the value, or the refusal.
-type Answer<'a> = Result<(&'a [u8], Value), DeserializeError<&'a [u8]>>;
+type Answer<'a> = Result<(&'a [u8], Held), DeserializeError<&'a [u8]>>;
 
 /// A user's type, which is read by the deserializer's own calls.
 #[derive(Drop)]
-struct Any(Value);
+struct Any(Held);
 
 impl<'de> PodDeserialize<'de> for Any {
     ghost use Rattle.spa_value.specs.View.{view};
@@ -36,18 +36,38 @@ impl<'de> PodDeserialize<'de> for Any {
     ) -> Result<(Any, DeserializeSuccess<'de>), DeserializeError<&'de [u8]>> {
         let _alloc = deserializer.allocator();
         let (value, success) = deserializer.deserialize_any()?;
-        Ok((Any(value), success))
+        Ok((Any(Held::from(value)), success))
+    }
+}
+
+/// What the type `Value` is read as, held: a crate that has a `Value` dropped proves how that is taken apart.
+#[derive(Drop)]
+pub(crate) struct Typed(Held);
+
+impl<'de> PodDeserialize<'de> for Typed {
+    ghost use Rattle.spa_value.specs.View.{view};
+    ghost use Rattle.std.specs.Prelude.{◌≡◌};
+
+    ghost reads = { λ value it. view it.0 ≡ value };
+
+    fn deserialize(
+        deserializer: PodDeserializer<'de>,
+    ) -> Result<(Typed, DeserializeSuccess<'de>), DeserializeError<&'de [u8]>> {
+        let (value, success) = Value::deserialize(deserializer)?;
+        Ok((Typed(Held::from(value)), success))
     }
 }
 
 /// What the read of any value answers.
 fn read(alloc: Global, input: &[u8]) -> Answer<'_> {
-    PodDeserializer::deserialize_any_from(alloc, input)
+    let (rest, value) = PodDeserializer::deserialize_any_from(alloc, input)?;
+    Ok((rest, Held::from(value)))
 }
 
 /// What the read by the type `Value` answers.
 fn typed_read(alloc: Global, input: &[u8]) -> Answer<'_> {
-    PodDeserializer::deserialize_from(alloc, input)
+    let (rest, Typed(value)) = PodDeserializer::deserialize_from(alloc, input)?;
+    Ok((rest, value))
 }
 
 /// What the read by the user's type answers.
@@ -64,7 +84,7 @@ pub(crate) fn front_of(alloc: Global, input: &[u8]) -> Result<Front<'_>, AllocEr
 /// What a read answered.
 fn front_in<'a>(alloc: Global, answer: Answer<'a>) -> Result<Front<'a>, AllocError> {
     match answer {
-        Ok((rest, value)) => accepted(alloc, &Held::from(value), rest),
+        Ok((rest, value)) => accepted(alloc, &*value, rest),
         Err(DeserializeError::OutOfMemory) => Err(AllocError),
         Err(error) => Ok(refused(error)),
     }
@@ -113,7 +133,7 @@ pub(crate) fn push_front(
         answers.push_str("; but not by a user's type")?;
     }
     if let Ok((_, value)) = read(alloc, input) {
-        push_doubt_of(alloc, input, &Held::from(value), answers)?;
+        push_doubt_of(alloc, input, &*value, answers)?;
     }
     Ok(len)
 }

@@ -133,8 +133,8 @@ fn push_held(alloc: Global, input: &[u8], answers: &mut String) -> Result<(), Al
     match (read(alloc, input)?, read(alloc, input)?) {
         (Some(held), Some(twin)) => {
             let lent = *held == *twin;
-            let inner = held.into_inner();
-            write!(answers, " lent: {lent}, handed back: {}", inner == *twin)
+            let inner = Held::from(held.into_inner());
+            write!(answers, " lent: {lent}, handed back: {}", *inner == *twin)
         }
         _ => answers.push_str(" refused"),
     }

@@ -8,7 +8,7 @@ use Rattle.spa_builder.specs.declared.begun.What.{What}
 use Rattle.spa_builder.specs.declared.begun.Stage.{Stage}
 use Rattle.spa_builder.specs.declared.begun.Stage.TheVariants.{Nothing, Struct, Property, Object, Array, Choice}
 
--- the stage is that of no pod
+-- no pod is open at this stage
 abbrev pub no_stage : Stage → Bool
 no_stage Nothing = true
 no_stage Struct = false
@@ -17,7 +17,7 @@ no_stage Object = false
 no_stage Array = false
 no_stage Choice = false
 
--- the frame is that of no pod
+-- no pod is open in this frame
 abbrev pub is_nothing : What → Bool
 is_nothing w = no_stage w.stage
 
@@ -25,7 +25,7 @@ is_nothing w = no_stage w.stage
 abbrev pub at_stage : What → Stage → What
 at_stage w stage = record { stage = stage; elements = w.elements }
 
--- the frames, the outermost first: where the innermost is that of no pod, there are only the outer ones
+-- the frames, the outermost first: where no pod is open in the innermost, there are only the outer ones
 abbrev pub frames_in : List BegunPod → BegunPod → List BegunPod
 frames_in outer o = cond (is_nothing o.what) outer (outer ++ o ∷ [])
 

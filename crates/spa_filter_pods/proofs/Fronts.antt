@@ -1,59 +1,85 @@
--- The objects at the fronts of two inputs, and why they aren't filtered.
-use Rattle.std.proofs.Common.{◌≡◌, List, ℕ, inl, inr}
+-- The objects at the fronts of two inputs, filtered, and why they aren't.
+use Rattle.std.proofs.Common.{◌≡◌, ◌⊎◌, List, ℕ, inl, inr, refl, ap, ◌∙◌, subst, None}
+use Rattle.std.specs.List.{All}
+use Rattle.std.proofs.lemmas.List.Elements.{All-nil}
 use Rattle.spa_format.specs.Pod.{IsPod}
-use Rattle.spa_format.specs.Tree.{Tree, object}
-use Rattle.spa_filter.specs.Filtering.{CanFilter}
-use Rattle.spa_filter.specs.Refusals.{AreRefused, OnDisagreement}
-use Rattle.spa_keyed_objects.specs.declared.side.Side.{Side}
+use Rattle.spa_format.specs.Tree.{Tree, object, Properties, no_properties, property, join_properties}
+use Rattle.spa_keyed_objects.specs.Keys.{AtKey, offered_at}
+use Rattle.spa_keyed_objects.proofs.Holding.{HoldsAtKeys-none}
+use Rattle.spa_keyed_objects.proofs.Lookups.{offered_at-joined}
+use Rattle.spa_filter.specs.Filtering.{Agree, CanFilter, Filters, IsFilter}
+use Rattle.spa_filter.specs.Refusals.{AreRefused, IsKeyRefusal, IsRefusal, OnDisagreement}
 use Rattle.spa_keyed_objects.specs.declared.side.Side.TheVariants.{First, Second}
 use Rattle.spa_filter.specs.declared.error.FilterError.{FilterError}
 use Rattle.spa_filter.specs.declared.error.FilterError.TheVariants.{TypeMismatch, Missing, Unsupported, Disjoint, Unread, NotObject, TooLarge, OutOfMemory}
-use Rattle.spa_filter.proofs.Agreeing.{cannot_filter}
-use Rattle.spa_object_view.specs.Fronts.{BeginBoth, BeginsObject, IsObject}
+use Rattle.spa_filter.proofs.Agreeing.{AreRefused-properties, IsRefusal-next, cannot_filter}
+use Rattle.spa_filter.proofs.CommonPods.{plain_differ, plain_typed}
+use Rattle.spa_object_view.specs.Fronts.{BeginBoth, IsObject}
+use Rattle.spa_object_view.specs.Meeting.{AreOfOneType, IsRefusedNext, Meets, MeetsTooLarge}
+use Rattle.spa_object_view.specs.Written.{AreApartAtFirst}
 use Rattle.spa_object_view.proofs.Both.{never_both, other_first, other_second}
-use Rattle.spa_filter_pods.specs.Fronts.{AreFrontsRefused, IsFrontRefused, OnNoFilter}
-use Rattle.spa_filter_pods.specs.Written.{AreViewsRefused}
+use Rattle.spa_object_view.proofs.Joined.{join_properties-assoc}
+use Rattle.spa_object_view.proofs.Rules.{all_agree, both, holds_by, never_one_type}
+use Rattle.spa_filter_pods.specs.Fronts.{AreFrontsRefused, FilterTooLarge, FiltersAt, OnNoFilter}
 
--- the second side's refusal, behind a first side that is an object
-pub second_refused : (a b : List ℕ) → BeginsObject a → (e : FilterError) →
-    IsFrontRefused Second b e → AreFrontsRefused a b e
-second_refused a b first (Unread First) h = let no : First ≡ Second = h.0 in cc
-second_refused a b first (Unread Second) h = (first, h.1)
-second_refused a b first (NotObject First) h = let no : First ≡ Second = h.0 in cc
-second_refused a b first (NotObject Second) h = (first, h.1)
-second_refused a b first OutOfMemory h = inr (inl (first, h))
-second_refused a b first _ h = absurd h
+-- two objects that meet by the rule can be filtered, and to that in which they meet
+pub filtered : (v w met : Tree) → Meets FiltersAt v w met → CanFilter v w × IsFilter v w met
+filtered (object t i ps) (object u j qs) (object s l met) h = (
+  (h.0, subst (All (AtKey Agree ps qs)) h.3.keys (all_agree {Holds = FiltersAt} {Agree = Agree} (λ o p f x r. r.0) ps qs met h.3.values)),
+  (h.0, h.1, h.2, holds_by {Holds = FiltersAt} {Other = Filters} (λ o p f x r. r.1) ps qs (join_properties ps qs) met h.3),
+)
+filtered (object t i ps) (object u j qs) met h = absurd h
+filtered (object t i ps) w met h = absurd h
+filtered v w met h = absurd h
 
--- and the first side's
-pub first_refused : (a b : List ℕ) (e : FilterError) → IsFrontRefused First a e → AreFrontsRefused a b e
-first_refused a b (Unread First) h = h.1
-first_refused a b (Unread Second) h = let no : Second ≡ First = h.0 in cc
-first_refused a b (NotObject First) h = h.1
-first_refused a b (NotObject Second) h = let no : Second ≡ First = h.0 in cc
-first_refused a b OutOfMemory h = inl h
-first_refused a b _ h = absurd h
+-- the first key of all, under which both sides have values that are apart, is refused,
+apart_refused : (ps qs : Properties) (key : ℕ) → AreApartAtFirst ps qs key → IsRefusal ps qs (Disjoint key)
+apart_refused ps qs key a =
+    let f = a.our.flags in
+    let v = a.our.value in
+    let first = offered_at-joined key f v no_properties a.behind ps a.first refl in
+    let disjoint = plain_differ v a.their.value (plain_typed v a.apart.first) (plain_typed a.their.value a.apart.second) a.apart.differ in
+    IsRefusal-next ps qs no_properties no_properties key (HoldsAtKeys-none Filters ps qs) f v (join_properties a.behind qs) (ap (λ z. join_properties z qs) a.first)
+    (All-nil (AtKey Agree ps qs)) refl (Disjoint key) (refl, rw (first, a.found) disjoint)
 
--- objects that are there aren't refused for what their fronts are
-never_unread : (s : Side) (v w : Tree) → AreRefused v w (Unread s) → ⊥
-never_unread s (object t i ps) (object u j qs) r = r.1
-never_unread s (object t i ps) w r = absurd r
-never_unread s v w r = absurd r
+-- and a key at which the rule refuses
+next_refused : (ps qs : Properties) (e : FilterError) → IsRefusedNext FiltersAt IsKeyRefusal ps qs e → IsRefusal ps qs e
+next_refused ps qs e r = by_place r.place
+  where
+    at_place : (ts : Properties) → join_properties ps qs ≡ join_properties r.done (property r.key r.flags r.value ts) → IsRefusal ps qs e
+    at_place ts along =
+        IsRefusal-next ps qs r.done r.met r.key (holds_by {Holds = FiltersAt} {Other = Filters} (λ o p f x h. h.1) ps qs r.done r.met r.holds) r.flags r.value ts along
+        (all_agree {Holds = FiltersAt} {Agree = Agree} (λ o p f x h. h.0) ps qs r.met r.holds.values) r.fresh e r.refused
 
-never_other : (s : Side) (v w : Tree) → AreRefused v w (NotObject s) → ⊥
-never_other s (object t i ps) (object u j qs) r = r.1
-never_other s (object t i ps) w r = absurd r
-never_other s v w r = absurd r
+    by_place : ((ps ≡ join_properties r.done (property r.key r.flags r.value r.behind))
+        ⊎ ((offered_at r.key ps ≡ None) × (join_properties ps qs ≡ join_properties r.done (property r.key r.flags r.value r.behind)))) → IsRefusal ps qs e
+    by_place (inl all) =
+        at_place (join_properties r.behind qs)
+        (ap (λ z. join_properties z qs) all ∙ join_properties-assoc r.done (property r.key r.flags r.value r.behind) qs)
+    by_place (inr p) = at_place r.behind p.1
 
--- what two objects are refused for that were looked at
-pub views_refused : (a b : List ℕ) (e : FilterError) → AreViewsRefused a b e → AreFrontsRefused a b e
-views_refused a b TypeMismatch h = h
-views_refused a b (Missing k) h = h
-views_refused a b (Unsupported k) h = h
-views_refused a b (Disjoint k) h = h
-views_refused a b (Unread s) h = absurd (never_unread s h.ours h.theirs h.holds)
-views_refused a b (NotObject s) h = absurd (never_other s h.ours h.theirs h.holds)
-views_refused a b TooLarge h = h
-views_refused a b OutOfMemory h = inr (inr h)
+one_type : {Fact : Properties → Properties → Type 0} (e : FilterError) → ((ps qs : Properties) → Fact ps qs → IsRefusal ps qs e) → (v w : Tree) → AreOfOneType Fact v w → AreRefused v w e
+one_type e f (object t i ps) (object u j qs) h = AreRefused-properties t i u j ps qs e h.0 (f ps qs h.1)
+one_type e f (object t i ps) w h = absurd h
+one_type e f v w h = absurd h
+
+-- why two inputs don't meet is a refusal of theirs
+module _ (a b : List ℕ) where
+  pub apart : (key : ℕ) → BeginBoth a b (AreOfOneType (λ ps qs. AreApartAtFirst ps qs key)) → BeginBoth a b (λ v w. AreRefused v w (Disjoint key))
+  apart key h = both (one_type (Disjoint key) (λ ps qs. apart_refused ps qs key)) h
+
+  at_key : (e : FilterError) → BeginBoth a b (AreOfOneType (λ ps qs. IsRefusedNext FiltersAt IsKeyRefusal ps qs e)) → BeginBoth a b (λ v w. AreRefused v w e)
+  at_key e h = both (one_type e (λ ps qs. next_refused ps qs e)) h
+
+  pub refused : (e : FilterError) → BeginBoth a b (AreOfOneType (λ ps qs. IsRefusedNext FiltersAt IsKeyRefusal ps qs e)) → AreFrontsRefused a b e
+  refused (Missing k) h = at_key (Missing k) h
+  refused (Unsupported k) h = at_key (Unsupported k) h
+  refused (Disjoint k) h = at_key (Disjoint k) h
+  refused OutOfMemory h = inr (inr (at_key OutOfMemory h))
+  refused _ h = absurd (never_one_type (λ ps qs r. r.refused) h.ours h.theirs h.holds)
+
+  pub too_large : BeginBoth a b (MeetsTooLarge FiltersAt) → BeginBoth a b FilterTooLarge
+  too_large h = both (λ v w m. record { met = m.met; filter = (filtered v w m.met m.meet).1; large = m.large }) h
 
 first_object : (v w : Tree) → CanFilter v w → IsObject v
 first_object (object t i ps) w h = tt

@@ -1,19 +1,23 @@
 -- When the objects at the fronts of two inputs are filtered, and why they aren't: docs/NEGOTIATION.md, "From bytes to bytes".
-use Rattle.std.specs.Prelude.{⊤, ◌≡◌, ◌⊎◌, ℕ, List}
+use Rattle.std.specs.Prelude.{⊤, ◌≡◌, ◌⊎◌, ℕ, List, Option}
 use Rattle.spa_format.specs.Tree.{Tree}
 use Rattle.spa_format.specs.Front.{IsRefused}
 use Rattle.spa_format.specs.Encoding.{encoding_of}
 use Rattle.spa_format.specs.Pod.{IsPod}
 use Rattle.spa_format.specs.Writable.{IsTooLarge}
 use Rattle.spa_bodies.specs.Reading.{MayLackMemory}
-pub use Rattle.spa_object_view.specs.Fronts.{BeginBoth, BeginsObject, BeginsObjectOf, BeginsOther}
-use Rattle.spa_object_view.specs.declared.front.ObjectPod.{ObjectPod}
-use Rattle.spa_filter.specs.Filtering.{IsFilter}
+pub use Rattle.spa_object_view.specs.Fronts.{BeginBoth, BeginsObject, BeginsOther}
+pub use Rattle.spa_object_view.specs.Meeting.{OfViewed}
+use Rattle.spa_filter.specs.Filtering.{Agree, Filters, IsFilter}
 use Rattle.spa_filter.specs.Refusals.{AreRefused}
-use Rattle.spa_keyed_objects.specs.declared.side.Side.{Side}
+use Rattle.spa_keyed_objects.specs.Keys.{Offered}
 use Rattle.spa_keyed_objects.specs.declared.side.Side.TheVariants.{First, Second}
 use Rattle.spa_filter.specs.declared.error.FilterError.{FilterError}
 use Rattle.spa_filter.specs.declared.error.FilterError.TheVariants.{Unread, NotObject, TooLarge, OutOfMemory}
+
+-- the two sides agree under a key, and these are the flags and the value to which they filter there
+abbrev pub FiltersAt : Option Offered → Option Offered → ℕ → Tree → Type 0
+FiltersAt ours theirs flags x = Agree ours theirs × Filters ours theirs flags x
 
 -- the two values filter to a third, whose encoding these bytes are
 pub record FilterIn (bytes : List ℕ) (ours theirs : Tree) : Type 0 where
@@ -40,19 +44,8 @@ AreFrontsRefused a b OutOfMemory =
     ⊎ BeginBoth a b (λ v w. AreRefused v w OutOfMemory)
 AreFrontsRefused a b e = BeginBoth a b (λ v w. AreRefused v w e)
 
--- the fact holds of any two inputs with the pods of these objects at their fronts
-abbrev pub OfViewed : (ours theirs : ObjectPod) → (List ℕ → List ℕ → Type 0) → Type 0
-OfViewed ours theirs Holds = (a b : List ℕ) → BeginsObjectOf a ours → BeginsObjectOf b theirs → Holds a b
-
 -- the fact holds unless the refusal is for want of memory or for the size of the answer
 abbrev pub OnNoFilter : Type 0 → FilterError → Type 0
 OnNoFilter fact OutOfMemory = ⊤
 OnNoFilter fact TooLarge = ⊤
 OnNoFilter fact _ = fact
-
--- the refusal is one of this side's front
-abbrev pub IsFrontRefused : Side → List ℕ → FilterError → Type 0
-IsFrontRefused side input (Unread s) = (s ≡ side) × IsRefused input
-IsFrontRefused side input (NotObject s) = (s ≡ side) × BeginsOther input
-IsFrontRefused side input OutOfMemory = MayLackMemory input
-IsFrontRefused side input _ = ⊥

@@ -1,13 +1,15 @@
 //! Filters the objects of two pods.
-ghost use Rattle.std.specs.Prelude.{IfErr, IfOk, OnOk};
+ghost use Rattle.std.specs.Prelude.{IfErr, IfOk, List, OnOk, ℕ};
 ghost use Rattle.spa_filter.specs.Filtering.{CanFilter};
-ghost use Rattle.spa_filter_pods.specs.Fronts.{AreFrontsRefused, FilterIn, IsFrontRefused, OfViewed, OnNoFilter};
-ghost use Rattle.spa_object_view.specs.Fronts.{BeginBoth, BeginsObjectOf};
+ghost use Rattle.spa_filter.specs.Refusals.{IsKeyRefusal};
+ghost use Rattle.spa_filter_pods.specs.Fronts.{AreFrontsRefused, FilterIn, FiltersAt, OfViewed, OnNoFilter};
+ghost use Rattle.spa_object_view.specs.Fronts.{BeginBoth};
+ghost use Rattle.spa_object_view.specs.Meeting.{AreStopped};
 
-use crate::views::filter_objects;
-use spa_filter::{FilterError, Side};
+use crate::rule::Filtering;
+use spa_filter::FilterError;
 use spa_format::laws::pods_have_one_value;
-use spa_object_view::{NoObject, ObjectPod, object_pod};
+use spa_object_view::{ObjectPod, Stop, meet_pods, meet_viewed};
 use std::alloc::Global;
 
 /// Filters the objects at the fronts of two inputs by the rules of `filter`, and answers the encoding of the outcome. The bytes
@@ -27,9 +29,10 @@ pub fn filter_pods(alloc: Global, a: &[u8], b: &[u8]) -> Result<Vec<u8>, FilterE
     ensures cause { IfErr result (AreFrontsRefused a.now b.now) }
 {
     pods_have_one_value();
-    let first = object_at(alloc, a, Side::First)?;
-    let second = object_at(alloc, b, Side::Second)?;
-    filter_viewed(alloc, &first, &second)
+    match meet_pods::<Filtering>(alloc, a, b) {
+        Ok(bytes) => Ok(bytes),
+        Err(stop) => Err(refusal(stop)),
+    }
 }
 
 /// Filters two objects that `object_pod` has viewed: answers what `filter_pods` does of any two inputs at whose fronts they are. So
@@ -46,25 +49,23 @@ pub fn filter_viewed(
     ensures cause { IfErr result (λ e. OfViewed ours.now theirs.now (λ a b. AreFrontsRefused a b e)) }
 {
     pods_have_one_value();
-    // Bytes that a caller took for a rewriting may hold no object.
-    let Some(first) = ours.view() else {
-        return Err(FilterError::Unread(Side::First));
-    };
-    let Some(second) = theirs.view() else {
-        return Err(FilterError::Unread(Side::Second));
-    };
-    filter_objects(alloc, &first, &second)
+    match meet_viewed::<Filtering>(alloc, ours, theirs) {
+        Ok(bytes) => Ok(bytes),
+        Err(stop) => Err(refusal(stop)),
+    }
 }
 
-/// The object at the front of a side's bytes. Refused as `Unread` or `NotObject` of the side, and as `OutOfMemory`.
-fn object_at(alloc: Global, bytes: &[u8], side: Side) -> Result<ObjectPod<'_>, FilterError>
-    ensures object { IfOk result (BeginsObjectOf bytes.now) }
-    ensures cause { IfErr result (IsFrontRefused side bytes.now) }
+/// The refusal of two objects that don't meet.
+fn refusal(stop: Stop<FilterError>) -> FilterError
+    ensures { (a b : List ℕ) → AreStopped FiltersAt IsKeyRefusal a b stop → AreFrontsRefused a b result }
 {
-    match object_pod(alloc, bytes) {
-        Ok(pod) => Ok(pod),
-        Err(NoObject::Unread) => Err(FilterError::Unread(side)),
-        Err(NoObject::Other) => Err(FilterError::NotObject(side)),
-        Err(NoObject::OutOfMemory) => Err(FilterError::OutOfMemory),
+    match stop {
+        Stop::Unread(side) => FilterError::Unread(side),
+        Stop::NotObject(side) => FilterError::NotObject(side),
+        Stop::TypeMismatch => FilterError::TypeMismatch,
+        Stop::Apart(key) => FilterError::Disjoint(key),
+        Stop::Refused(error) => error,
+        Stop::TooLarge => FilterError::TooLarge,
+        Stop::OutOfMemory => FilterError::OutOfMemory,
     }
 }

@@ -1,5 +1,5 @@
 -- Why pods aren't rewritten in place; and what was written elsewhere and copied back.
-use Rattle.std.proofs.Common.{◌≡◌, ℕ, ◌+◌, ◌-◌, List, [], ◌++◌, length, drop, refl, sym, ap, ◌∙◌, subst, arith, length-append}
+use Rattle.std.proofs.Common.{◌≡◌, ℕ, ◌+◌, ◌-◌, List, [], ◌++◌, length, drop, refl, sym, ap, ◌∙◌, subst, arith}
 use Rattle.std.specs.Borrow.{Bor}
 use Rattle.std.specs.Prelude.{Option, Some}
 use Rattle.std.proofs.lemmas.List.{drop_at}
@@ -19,55 +19,30 @@ use Rattle.spa_format.proofs.Unique.{same_members}
 use Rattle.spa_rewrite.specs.Rewriting.{AreRewritten, IsLeft, RefusesFront, RefusesList}
 use Rattle.spa_rewrite.specs.Shorter.{AreRewrittenAs, AreShorter}
 use Rattle.spa_rewrite.proofs.FirstPods.{left_behind_pods}
+use Rattle.spa_rewrite.proofs.Lengths.{lengths}
 use Rattle.spa_rewrite.proofs.Stretches.{list_refused}
 
 -- what is left begins behind so many bytes
 left_at : (input left : List ℕ) (at : ℕ) → IsLeft input left → at ≡ length input - length left → drop at input ≡ left
 left_at input left at l e =
     let a = ap length l.2 in
-    let b = length-append l.1 left in
-    let n : at ≡ length l.1 = omega arith in
-    ap (drop at) l.2 ∙ drop_at l.1 left at (sym n)
+    ap (drop at) l.2 ∙ drop_at l.1 left at (omega lengths)
 
 -- a refusal says the same with another place
 pub moved_same : {J : Type 0} (place : J) (e : DeserializeError (Bor (List ℕ))) → IsFaultOf (moved place e) e
 moved_same place (error.Nom f) = refl
-moved_same place error.UnsupportedType = refl
-moved_same place error.InvalidType = refl
-moved_same place error.PropertyMissing = refl
-moved_same place (error.PropertyWrongKey k) = refl
-moved_same place error.InvalidChoiceType = refl
-moved_same place error.MissingChoiceValues = refl
-moved_same place error.WrongSize = refl
-moved_same place error.UnreadMembers = refl
-moved_same place error.NoElementLeft = refl
-moved_same place error.FailedReader = refl
-moved_same place error.OutOfMemory = refl
+moved_same place _ = refl
 
 moved_fact : {I J : Type 0} (F : Type 0) (place : J) (e : DeserializeError I) → OnFault F e → OnFault F (moved place e)
 moved_fact F place (error.Nom f) h = h
-moved_fact F place error.UnsupportedType h = h
-moved_fact F place error.InvalidType h = h
-moved_fact F place error.PropertyMissing h = h
-moved_fact F place (error.PropertyWrongKey k) h = h
-moved_fact F place error.InvalidChoiceType h = h
-moved_fact F place error.MissingChoiceValues h = h
-moved_fact F place error.WrongSize h = h
-moved_fact F place error.UnreadMembers h = h
-moved_fact F place error.NoElementLeft h = h
-moved_fact F place error.FailedReader h = h
-moved_fact F place error.OutOfMemory h = h
+moved_fact F place _ h = h
 
 -- the offset that the look gives
 pub offset_known : (input left : List ℕ) (top at : ℕ) (place : Bor (List ℕ)) (why : Refusal) → drop top input ≡ left → IsFaultAt left place.now at why →
     NamesOffset input top (moved (Some (top + at)) (error_of place why))
 offset_known input left top at place refusal.Short d f = (at, refl, subst (StandsAt Short from_pod at) (sym d) f.offset)
 offset_known input left top at place refusal.Text d f = (at, refl, subst (StandsAt Text from_pod at) (sym d) f.offset)
-offset_known input left top at place refusal.InvalidType d f = tt
-offset_known input left top at place refusal.InvalidChoiceType d f = tt
-offset_known input left top at place refusal.MissingChoiceValues d f = tt
-offset_known input left top at place refusal.WrongSize d f = tt
-offset_known input left top at place refusal.OutOfMemory d f = tt
+offset_known input left top at place _ d f = tt
 
 pub refused_behind : (input first others left : List ℕ) (at : ℕ) (offset : Option ℕ) (placed : DeserializeError (Bor (List ℕ))) → input ≡ first ++ others →
     AreCanonical first → RefusesList others left placed → at ≡ length input - length left → NamesOffset input at (moved offset placed) →
@@ -98,12 +73,11 @@ pub rewritten_long : (pods out : List ℕ) (n : ℕ) → AreShorter pods n → A
 rewritten_long pods out n s w =
     let one = ap member_encodings (same_members w.0 s.values pods w.1 s.members) in
     let e = ap length (w.2 ∙ one) in
-    let l = s.long in
     omega arith
 
 -- the length that is answered
 pub into_counted : (input : List ℕ) (n len : ℕ) → AreShorter input n → len ≡ length input - n → AreRewrittenAs input len
-into_counted input n len s e = let l = s.long in record { values = s.values; members = s.members; long = omega arith }
+into_counted input n len s e = record { values = s.values; members = s.members; long = omega arith }
 
 -- what memory is asked for behind the first pods
 pub asks_behind : (input first others : List ℕ) → input ≡ first ++ others → AreCanonical first → AsksMemory others → AsksMemory input

@@ -1,4 +1,4 @@
-//! Pods rewritten into another buffer, where they may get shorter.
+//! Rewrites pods into another buffer. What is written may be shorter than the input.
 ghost use Rattle.std.specs.Prelude.{◌≡◌, ◌<◌, ◌≤◌, ◌++◌, IfNone, IfSome, [], drop, length, take};
 ghost use Rattle.spa_rewrite.specs.Rewriting.{AreRewritten};
 ghost use Rattle.spa_rewrite.specs.Shorter.{ArePodsWithin, AreRewrittenAs};

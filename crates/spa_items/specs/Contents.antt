@@ -107,7 +107,7 @@ elements type depth at b =
     elements_along (word_or c 4) depth (word_or c 0) (at + before_values type)
     (first_chunks (word_or c 0) (element_count type b) (drop header_size c))
 
--- the item of the element of this number, or of the value of it, counted from 0, where the body begins at the byte `at`
+-- the item of an array's element or a choice's value with this number, counted from 0, where the pod's body begins at the byte `at`
 abbrev pub element_at : (type depth at number : ℕ) → List ℕ → Item
 element_at type depth at number b =
     let c = values_of type b in

@@ -17,7 +17,7 @@ put_from zero xs old = overlaid xs old
 put_from (suc n) xs [] = []
 put_from (suc n) xs (o ∷ os) = o ∷ put_from n xs os
 
--- the items were written so, and this is the index behind them
+-- the items were written from the index `place` on, and `behind` is the index behind them
 pub record ArePut (place : ℕ) (xs old : List Item) (behind : ℕ) (new : List Item) : Type 0 where
   pub counted : behind ≡ place + length xs
   pub written : new ≡ put_from place xs old

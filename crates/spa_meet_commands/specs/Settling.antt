@@ -12,7 +12,7 @@ abbrev pub plain_properties : Properties → Properties
 plain_properties no_properties = no_properties
 plain_properties (property key flags v ps) = property key flags (if may_fixate flags then plain_of v else v) (plain_properties ps)
 
--- an object of such properties; another value as it was
+-- an object with its properties made plain; any other value as it was
 abbrev pub plain_object : Tree → Tree
 plain_object (object t i ps) = object t i (plain_properties ps)
 plain_object v = v
@@ -21,7 +21,7 @@ abbrev pub plain_objects : Trees → Trees
 plain_objects no_trees = no_trees
 plain_objects (member v vs) = member (plain_object v) (plain_objects vs)
 
--- the encodings of the values that the input consists of pods of, made plain so
+-- the encodings of the values of the input's pods, after `plain_object`
 abbrev pub SettlesAll : (input out : List ℕ) → Type 0
 SettlesAll input out = (vs : Trees) × AreMembers vs input × (out ≡ member_encodings (plain_objects vs))
 

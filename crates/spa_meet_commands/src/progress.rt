@@ -1,12 +1,12 @@
-//! How far a search is.
+//! The progress of a search.
 
-/// Who is told how far a search for two objects that agree is.
+/// What shows the progress of a search for two objects that agree.
 pub trait Progress {
-    /// Takes note that the next of so many objects of the first list is tried now with those of the second.
+    /// Called before each of the `objects` objects of the first list is tried with those of the second.
     fn tell(&mut self, objects: usize);
 }
 
-/// Nobody.
+/// Shows nothing.
 #[derive(Drop)]
 pub struct Unwatched;
 

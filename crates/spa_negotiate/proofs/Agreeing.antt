@@ -4,11 +4,6 @@ use Rattle.spa_format.specs.Tree.{Tree, choice}
 use Rattle.spa_value.specs.View.{view}
 use Rattle.spa_value.specs.declared.value.Value.{Value}
 use Rattle.spa_keyed_objects.specs.Keys.{Offered}
-use Rattle.spa_filter_elements.specs.Order as order
-use Rattle.spa_filter_offers.specs.Admits as filters
-use Rattle.spa_filter.specs.Refusals as filters_not
-use Rattle.spa_filter.specs.declared.error.FilterError.{FilterError}
-use Rattle.spa_filter.specs.declared.error.FilterError.TheVariants as cause
 use Rattle.spa_negotiate.specs.declared.error.NegotiateError.{NegotiateError}
 use Rattle.spa_negotiate.specs.declared.error.NegotiateError.TheVariants.{Unsupported, Disjoint, OutOfMemory}
 use Rattle.spa_negotiate.specs.Admits.{AreSupported, IsCommon, IsPlain, IsSupported, plain_of}

@@ -1,30 +1,73 @@
 -- The objects at the fronts of two inputs, and the bytes of that in which they meet.
-use Rattle.std.proofs.Common.{◌≡◌, ℕ, List, ◌∙◌, true, inl, inr}
+use Rattle.std.proofs.Common.{◌≡◌, ◌⊎◌, ℕ, List, ◌∙◌, refl, subst, true, inl, inr, None}
 use Rattle.std.specs.Bool.{IsTrue}
 use Rattle.spa_format.specs.Fixation.{all_settled, are_settled}
 use Rattle.spa_format.specs.Pod.{IsPod}
-use Rattle.spa_format.specs.Tree.{Tree, object, Properties}
+use Rattle.spa_format.specs.Tree.{Tree, object, Properties, no_properties, property, join_properties}
 use Rattle.spa_format.specs.Walk.{ArePropertiesOf, property_walk, properties_of}
-use Rattle.spa_keyed_objects.specs.declared.side.Side.{Side}
+use Rattle.spa_keyed_objects.specs.Keys.{offered_at}
+use Rattle.spa_keyed_objects.proofs.Holding.{HoldsAtKeys-none}
+use Rattle.spa_keyed_objects.proofs.Lookups.{offered_at-absent, offered_at-joined}
 use Rattle.spa_keyed_objects.specs.declared.side.Side.TheVariants.{First, Second}
 use Rattle.spa_negotiate.specs.declared.error.NegotiateError.{NegotiateError}
 use Rattle.spa_negotiate.specs.declared.error.NegotiateError.TheVariants.{TypeMismatch, Unsupported, Disjoint, Unread, NotObject, TooLarge, OutOfMemory}
-use Rattle.spa_negotiate.specs.Fronts.{MeetIn, OnNoMeeting, IsFrontRefused, AreFrontsRefused, AreViewsRefused}
-use Rattle.spa_negotiate.specs.Meeting.{CanMeet, Meet}
-use Rattle.spa_negotiate.specs.Refusals.{AreRefused, OnDisagreement}
-use Rattle.spa_negotiate.proofs.Refusing.{cannot_meet}
-use Rattle.spa_object_view.specs.Fronts.{BeginBoth, BeginsObject, IsObject}
+use Rattle.spa_negotiate.specs.Fronts.{MeetIn, OnNoMeeting, AreFrontsRefused}
+use Rattle.spa_negotiate.specs.Meeting.{CanMeet, IsMetAt, Meet}
+use Rattle.spa_negotiate.specs.Refusals.{AreRefused, IsKeyRefusal, IsRefusal, OnDisagreement}
+use Rattle.spa_negotiate.proofs.Putting.{plain_differ}
+use Rattle.spa_filter.proofs.CommonPods.{plain_typed}
+use Rattle.spa_negotiate.proofs.Refusing.{AreRefused-properties, cannot_meet}
+use Rattle.spa_negotiate.proofs.Settlements.{IsRefusal-first}
+use Rattle.spa_object_view.specs.Fronts.{BeginBoth, IsObject}
+use Rattle.spa_object_view.specs.Meeting.{AreOfOneType, IsRefusedNext}
+use Rattle.spa_object_view.specs.Written.{AreApartAtFirst}
 use Rattle.spa_object_view.proofs.Both.{never_both, other_first, other_second}
+use Rattle.spa_object_view.proofs.Rules.{both, never_one_type}
 
--- the second side's refusal, behind a first side that is an object
-pub second_refused : (a b : List ℕ) → BeginsObject a → (e : NegotiateError) →
-    IsFrontRefused Second b e → AreFrontsRefused a b e
-second_refused a b first (Unread First) h = let no : First ≡ Second = h.0 in cc
-second_refused a b first (Unread Second) h = (first, h.1)
-second_refused a b first (NotObject First) h = let no : First ≡ Second = h.0 in cc
-second_refused a b first (NotObject Second) h = (first, h.1)
-second_refused a b first OutOfMemory h = inr (inl (first, h))
-second_refused a b first _ h = absurd h
+-- the first key of all, under which both sides have values that are apart, is refused,
+apart_refused : (ps qs : Properties) (key : ℕ) → AreApartAtFirst ps qs key → IsRefusal ps qs (Disjoint key)
+apart_refused ps qs key a =
+    let v = a.our.value in
+    let disjoint = plain_differ v a.their.value key (plain_typed v a.apart.first) (plain_typed a.their.value a.apart.second) a.apart.differ in
+    IsRefusal-first ps qs no_properties no_properties a.behind key a.our.flags v a.first (HoldsAtKeys-none IsMetAt ps qs) refl (Disjoint key)
+    (refl, rw a.found (disjoint.1, disjoint.2))
+
+-- and a key at which the rule refuses: the first side has it
+alone_refused : (ps qs : Properties) (key : ℕ) (e : NegotiateError) → IsKeyRefusal key None (offered_at key qs) e → IsRefusal ps qs e
+alone_refused ps qs key (Unsupported k) h = absurd h.1
+alone_refused ps qs key (Disjoint k) h = absurd h.1
+alone_refused ps qs key OutOfMemory h = tt
+alone_refused ps qs key _ h = absurd h
+
+next_refused : (ps qs : Properties) (e : NegotiateError) → IsRefusedNext IsMetAt IsKeyRefusal ps qs e → IsRefusal ps qs e
+next_refused ps qs e r = by_place r.place
+  where
+    by_place : ((ps ≡ join_properties r.done (property r.key r.flags r.value r.behind))
+        ⊎ ((offered_at r.key ps ≡ None) × (join_properties ps qs ≡ join_properties r.done (property r.key r.flags r.value r.behind)))) → IsRefusal ps qs e
+    by_place (inl all) =
+        let first = offered_at-joined r.key r.flags r.value r.done r.behind ps all (offered_at-absent r.key r.done r.fresh) in
+        IsRefusal-first ps qs r.done r.met r.behind r.key r.flags r.value all r.holds r.fresh e
+        (subst (λ o. IsKeyRefusal r.key o (offered_at r.key qs) e) first r.refused)
+    by_place (inr p) = alone_refused ps qs r.key e (subst (λ o. IsKeyRefusal r.key o (offered_at r.key qs) e) p.0 r.refused)
+
+one_type : {Fact : Properties → Properties → Type 0} (e : NegotiateError) → ((ps qs : Properties) → Fact ps qs → IsRefusal ps qs e) → (v w : Tree) → AreOfOneType Fact v w → AreRefused v w e
+one_type e f (object t i ps) (object u j qs) h = AreRefused-properties t i u j ps qs e h.0 (f ps qs h.1)
+one_type e f (object t i ps) w h = absurd h
+one_type e f v w h = absurd h
+
+-- why two inputs don't meet is a refusal of theirs
+module _ (a b : List ℕ) where
+  pub apart : (key : ℕ) → BeginBoth a b (AreOfOneType (λ ps qs. AreApartAtFirst ps qs key)) → BeginBoth a b (λ v w. AreRefused v w (Disjoint key))
+  apart key h = both (one_type (Disjoint key) (λ ps qs. apart_refused ps qs key)) h
+
+  at_key : (e : NegotiateError) → BeginBoth a b (AreOfOneType (λ ps qs. IsRefusedNext IsMetAt IsKeyRefusal ps qs e)) → BeginBoth a b (λ v w. AreRefused v w e)
+  at_key e h = both (one_type e (λ ps qs. next_refused ps qs e)) h
+
+  pub refused : (e : NegotiateError) → BeginBoth a b (AreOfOneType (λ ps qs. IsRefusedNext IsMetAt IsKeyRefusal ps qs e)) → AreFrontsRefused a b e
+  refused (Unsupported k) h = at_key (Unsupported k) h
+  refused (Disjoint k) h = at_key (Disjoint k) h
+  refused OutOfMemory h = inr (inr (at_key OutOfMemory h))
+  refused _ h = absurd (never_one_type (λ ps qs r. r.refused) h.ours h.theirs h.holds)
 
 -- the law of walks over properties, and that of those that need no fixation
 abbrev WalksFindProperties : Type 0
@@ -54,36 +97,6 @@ pub settled-both : (a b bytes : List ℕ) → MeetingsAreSettled → WalksFindPr
     BeginBoth a b (MeetIn bytes) → IsTrue (all_settled (property_walk (properties_of bytes)))
 settled-both a b bytes plain walks settled m =
     settled-met plain walks settled m.ours m.theirs m.holds.met bytes m.holds.meet m.holds.pod
-
--- the first side's refusal
-pub first_refused : (a b : List ℕ) (e : NegotiateError) → IsFrontRefused First a e → AreFrontsRefused a b e
-first_refused a b (Unread First) h = h.1
-first_refused a b (Unread Second) h = let no : Second ≡ First = h.0 in cc
-first_refused a b (NotObject First) h = h.1
-first_refused a b (NotObject Second) h = let no : Second ≡ First = h.0 in cc
-first_refused a b OutOfMemory h = inl h
-first_refused a b _ h = absurd h
-
--- objects that are there aren't refused for what their fronts are
-never_unread : (s : Side) (v w : Tree) → AreRefused v w (Unread s) → ⊥
-never_unread s (object t i ps) (object u j qs) r = r.1
-never_unread s (object t i ps) w r = absurd r
-never_unread s v w r = absurd r
-
-never_other : (s : Side) (v w : Tree) → AreRefused v w (NotObject s) → ⊥
-never_other s (object t i ps) (object u j qs) r = r.1
-never_other s (object t i ps) w r = absurd r
-never_other s v w r = absurd r
-
--- what two objects are refused for that were looked at
-pub views_refused : (a b : List ℕ) (e : NegotiateError) → AreViewsRefused a b e → AreFrontsRefused a b e
-views_refused a b TypeMismatch h = h
-views_refused a b (Unsupported k) h = h
-views_refused a b (Disjoint k) h = h
-views_refused a b (Unread s) h = absurd (never_unread s h.ours h.theirs h.holds)
-views_refused a b (NotObject s) h = absurd (never_other s h.ours h.theirs h.holds)
-views_refused a b TooLarge h = h
-views_refused a b OutOfMemory h = inr (inr h)
 
 first_object : (v w : Tree) → CanMeet v w → IsObject v
 first_object (object t i ps) w h = tt

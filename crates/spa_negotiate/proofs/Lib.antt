@@ -1,4 +1,3 @@
-pub mod Passing
 pub mod Agreeing
 pub mod Settlements
 pub mod Refusing
@@ -8,5 +7,4 @@ mod MetValues
 pub mod OfferViews
 pub mod Putting
 pub mod Leaves
-pub mod Meetings
 pub mod Fronts

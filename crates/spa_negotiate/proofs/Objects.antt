@@ -1,7 +1,6 @@
 -- From lists of properties to the two objects that have them.
 use Rattle.std.proofs.Common.{◌≡◌, List, refl, sym, ap, ◌∙◌, subst, Vec, Global}
-use Rattle.std.specs.List.{All}
-use Rattle.spa_format.specs.Tree.{Tree, Properties, object, join_properties}
+use Rattle.spa_format.specs.Tree.{Tree, object, join_properties}
 use Rattle.spa_value.specs.declared.object.Property.{Property}
 use Rattle.spa_value.specs.declared.object.Object.{Object, out-Object, roll-Object}
 use Rattle.spa_value.specs.View.{object_view}
@@ -9,11 +8,9 @@ use Rattle.spa_value.specs.Views.{property_views}
 use Rattle.spa_value.specs.ObjectLaws.{ObjectsHaveTheirFields, ObjectsAreMadeOfFields}
 use Rattle.spa_negotiate.specs.declared.error.NegotiateError.{NegotiateError}
 use Rattle.spa_negotiate.specs.declared.error.NegotiateError.TheVariants.{TypeMismatch}
-use Rattle.spa_keyed_objects.specs.Keys.{AtKey, HoldsAtKeys}
-use Rattle.spa_negotiate.specs.Meeting.{Agree, CanMeet, IsMetAt, Meet}
+use Rattle.spa_negotiate.specs.Meeting.{Meet}
 use Rattle.spa_negotiate.specs.PropertyLists.{AreSettled}
 use Rattle.spa_negotiate.specs.Refusals.{IsRefusal, AreRefused}
-use Rattle.spa_negotiate.proofs.Settlements.{agree_settled}
 use Rattle.spa_negotiate.proofs.Refusing.{AreRefused-properties}
 
 module _ (fields : ObjectsHaveTheirFields) (made : ObjectsAreMadeOfFields) (o p : Object) where
@@ -65,11 +62,3 @@ module _ (fields : ObjectsHaveTheirFields) (made : ObjectsAreMadeOfFields) (o p 
         let same = sym (made f.type_ f.id rs) in
         let one_type = subst (Meet left right) same (sym one, refl, refl, h) in
         both (λ v w. Meet v w (object_view met)) one_type
-
-    pub objects_can : (rs : Properties) →
-        HoldsAtKeys IsMetAt (property_views xs) (property_views ys) (property_views xs) rs →
-        CanMeet (object_view o) (object_view p)
-    objects_can rs h =
-        let each = agree_settled (property_views xs) (property_views ys) rs h.values in
-        let agree = subst (All (AtKey Agree (property_views xs) (property_views ys))) h.keys each in
-        both CanMeet (sym one, agree)

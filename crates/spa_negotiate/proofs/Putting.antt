@@ -1,10 +1,10 @@
 -- Properties put behind one another, as they are written.
-use Rattle.std.proofs.Common.{◌≡◌, ◌≢◌, ℕ, zero, suc, ◌<◌, ◌≤◌, List, ◌++◌, length, take, drop, refl, sym, ap, ◌∙◌, subst, arith, append_assoc, true, if◌then◌else◌, Some, None}
+use Rattle.std.proofs.Common.{◌≡◌, ◌≢◌, ℕ, zero, suc, ◌<◌, ◌≤◌, List, ◌++◌, length, take, drop, refl, sym, ap, ◌∙◌, subst, arith, append_assoc, true, Option, Some}
 use Rattle.std.specs.Prelude.{nat_lt, replicate}
 use Rattle.std.proofs.lemmas.List.{length-take-le, take-append-drop, append-nil}
 use Rattle.spa_format.specs.Words.{word_at, word_bytes, wide_at, wide_bytes, padding}
 use Rattle.spa_format.specs.Kind.{Kind, bool_kind, Fixed, bool, kind_of, content, body_size, type_number}
-use Rattle.spa_format.specs.Tree.{Tree, fixed, choice, choice_type, type_of, Properties}
+use Rattle.spa_format.specs.Tree.{Tree, fixed, choice}
 use Rattle.spa_format.specs.Encoding.{encoding_of}
 use Rattle.spa_format.specs.Pod.{IsPod}
 use Rattle.spa_format.specs.Typed.{IsBytes, IsTyped}
@@ -15,16 +15,19 @@ use Rattle.spa_format.proofs.Unique.{one_value}
 use Rattle.spa_format.proofs.WordLemmas.{IsBytes-take, length-word_bytes, word_at-take}
 use Rattle.spa_scan.proofs.Words.{content_kept, word_there, wide_back, wide_of_take}
 use Rattle.spa_negotiate.specs.Admits.{Admits, IsPlain, plain_of}
-use Rattle.spa_keyed_objects.specs.Keys.{offered, offered_at}
-use Rattle.spa_negotiate.specs.Refusals.{IsKeyRefusal, IsValueRefusal}
-use Rattle.spa_negotiate.specs.declared.error.NegotiateError.{NegotiateError}
+use Rattle.spa_keyed_objects.specs.Keys.{Offered, offered}
+use Rattle.spa_negotiate.specs.Meeting.{IsMetAt}
+use Rattle.spa_negotiate.specs.Refusals.{IsValueRefusal}
 use Rattle.spa_negotiate.specs.declared.error.NegotiateError.TheVariants.{Disjoint}
-use Rattle.spa_negotiate.proofs.Agreeing.{IsSupported-plain, met_alone, refused_value}
+use Rattle.spa_negotiate.proofs.Agreeing.{IsSupported-plain}
 use Rattle.spa_negotiate.specs.Offering.{IsOffer, IsShared, value_of}
 use Rattle.spa_bodies.specs.Written.{IsLeaf}
-use Rattle.spa_object_view.specs.Written.{IsFound}
+use Rattle.spa_filter.proofs.CommonPods.{plain_differ as differ, plain_tree}
+use Rattle.spa_object_view.specs.Answers.{IsPutBy}
+use Rattle.spa_object_view.specs.declared.answer.Answer.{Answer}
+use Rattle.spa_object_view.proofs.Rules.{put_of}
 use Rattle.spa_keyed_objects.specs.CanonicalPods.{IsCanonicalPod}
-use Rattle.spa_negotiate.specs.Written.{IsCommonEncoded, IsCommonPut, IsMetPut, IsPut}
+use Rattle.spa_negotiate.specs.Written.{IsCommonEncoded, IsCommonPut, IsPut}
 use Rattle.spa_negotiate.specs.declared.offer_view.OfferView.{OfferView}
 
 -- the encoding of what a body says, which holds no truth value but 0 and 1
@@ -136,19 +139,6 @@ put_offered v offer key old new o p =
     let default : o.default ≡ value_of o.kind offer.values.now = o.values.1.says in
     subst (λ x. IsPut key x old new) (ap (λ x. fixed x) (sym default) ∙ sym o.plain) (p o.kind o.its_type o.its_size)
 
-plain_itself : (v : Tree) → IsPlain v → plain_of v ≡ v
-plain_itself (choice s f k d vs) h = absurd h
-plain_itself _ h = refl
-
-admits_itself : (v : Tree) → IsPlain v → Admits v v
-admits_itself (choice s f k d vs) h = absurd h
-admits_itself _ h = refl
-
--- what a plain value admits is itself
-plain_admits : (v x : Tree) → IsPlain v → Admits v x → x ≡ v
-plain_admits (choice s f k d vs) x h a = absurd h
-plain_admits _ x h a = a
-
 written_fixed : (x : Tree) → ((y : Fixed) × (x ≡ fixed y)) → IsTyped x → IsWritable x → IsCanonicalPod x (encoding_of x)
 written_fixed x f t w =
     let typed = subst IsTyped f.1 t in
@@ -163,20 +153,16 @@ written_admitted v x pod i h t w =
     let itself : IsCanonicalPod v (encoding_of v) = record { its_pod = subst (λ b. IsPod b v) i.same i.its_pod; same = refl } in
     subst (λ z. IsCanonicalPod z (encoding_of z)) (sym h) itself
 
-pub plain_typed : (v : Tree) → type_of v ≢ choice_type → IsPlain v
-plain_typed (choice s f k d vs) n = absurd (n refl)
-plain_typed _ n = tt
-
 pub put_plain : (v : Tree) (key : ℕ) (pod old new : List ℕ) → IsPlain v → IsCanonicalPod v pod →
     new ≡ old ++ ((word_bytes key ++ word_bytes 0) ++ pod) → IsPut key (plain_of v) old new
 put_plain v key pod old new h w p =
-    subst (λ x. IsPut key x old new) (sym (plain_itself v h)) (record { plain = h; pod = pod; written = w; parts = p })
+    subst (λ x. IsPut key x old new) (sym (plain_tree v h).own) (record { plain = h; pod = pod; written = w; parts = p })
 
 pub put_same : (v w : Tree) (key : ℕ) (pod other old new : List ℕ) → IsPlain v → IsPlain w → pod ≡ other → IsCanonicalPod v pod → IsCanonicalPod w other →
     new ≡ old ++ ((word_bytes key ++ word_bytes 0) ++ pod) → IsCommonPut v w key old new
 put_same v w key pod other old new h i e first second p =
     let same : v ≡ w = one_value other v w (subst (λ b. IsPod b v) e first.its_pod) second.its_pod in
-    let admitted = admits_itself v h in
+    let admitted = (plain_tree v h).itself in
     record {
       value = v;
       supported = (IsSupported-plain v h, IsSupported-plain w i);
@@ -186,8 +172,7 @@ put_same v w key pod other old new h i e first second p =
 
 -- two plain values that differ have none in common,
 pub plain_differ : (v w : Tree) (key : ℕ) → IsPlain v → IsPlain w → v ≢ w → IsValueRefusal key v w (Disjoint key)
-plain_differ v w key h i n =
-    (refl, (IsSupported-plain v h, IsSupported-plain w i), λ s. n (sym (plain_admits v s.0 h s.1.0) ∙ plain_admits w s.0 i s.1.1))
+plain_differ v w key h i n = (refl, (IsSupported-plain v h, IsSupported-plain w i), (differ v w h i n).1)
 
 -- nor have two that are written in two ways
 pub plain_apart : (v w : Tree) (key : ℕ) (pod other : List ℕ) → IsPlain v → IsPlain w → ¬ (pod ≡ other) → IsCanonicalPod v pod → IsCanonicalPod w other →
@@ -206,7 +191,7 @@ leaf_admits w x n h = subst IsLeaf (sym h) n
 
 -- a value with members admits itself alone, and one without members doesn't admit it
 pub none_beside : (v w : Tree) → ¬ (IsLeaf v) → IsLeaf w → (x : Tree) → Admits v x → ¬ (Admits w x)
-none_beside v w h n x a b = h (subst IsLeaf (plain_admits v x (plain_with_members v h) a) (leaf_admits w x n b))
+none_beside v w h n x a b = h (subst IsLeaf ((plain_tree v (plain_with_members v h)).alone x a) (leaf_admits w x n b))
 
 -- a value that two values admit was put, as it is written
 pub put_admitted : (v w : Tree) (key : ℕ) (pod old new : List ℕ) → IsCanonicalPod v pod → IsCommonEncoded v w key old new → IsCommonPut v w key old new
@@ -229,20 +214,13 @@ put_shared v w a key value old new o s p =
       put = p s.kind s.its_type (o.its_size ∙ ap body_size same);
     }
 
-pub met_found : (v : Tree) (qs : Properties) (key our_flags flags : ℕ) (other old new : List ℕ) → IsFound (offered_at key qs) flags other →
-    ((w : Tree) → IsCanonicalPod w other → IsCommonPut v w key old new) → IsMetPut (Some (offered our_flags v)) (offered_at key qs) key old new
-met_found v qs key our_flags flags other old new f p =
-    let c = p f.value f.written in
-    let it : IsMetPut (Some (offered our_flags v)) (Some (offered flags f.value)) key old new =
-    record { value = c.value; met = (refl, c.put.plain, (c.supported, (c.value, c.common)), c.common); put = c.put } in
-    subst (λ o. IsMetPut (Some (offered our_flags v)) o key old new) (sym f.is_found) it
+-- what was put for a key of both sides,
+pub met_both : (v w : Tree) (f g key : ℕ) (old new : Answer) → new.is_large ≡ old.is_large → IsCommonPut v w key old.bytes.items new.bytes.items →
+    IsPutBy IsMetAt (Some (offered f v)) (Some (offered g w)) key old new
+met_both v w f g key old new z c =
+    put_of IsMetAt _ _ key 0 c.value c.put.pod old new (refl, c.put.plain, (c.supported, (c.value, c.common)), c.common) (omega arith) c.put.parts z c.put.written
 
-pub refused_found : (v : Tree) (qs : Properties) (key our_flags flags : ℕ) (other : List ℕ) (e : NegotiateError) → IsFound (offered_at key qs) flags other →
-    ((w : Tree) → IsCanonicalPod w other → IsValueRefusal key v w e) → IsKeyRefusal key (Some (offered our_flags v)) (offered_at key qs) e
-refused_found v qs key our_flags flags other e f p =
-    refused_value (offered our_flags v) (offered flags f.value) (offered_at key qs) f.is_found key e (p f.value f.written)
-
-pub put_alone : (v : Tree) (qs : Properties) (key our_flags : ℕ) (old new : List ℕ) → offered_at key qs ≡ None → IsPut key (plain_of v) old new →
-    IsMetPut (Some (offered our_flags v)) (offered_at key qs) key old new
-put_alone v qs key our_flags old new e p =
-    record { value = plain_of v; met = met_alone (offered our_flags v) (offered_at key qs) (plain_of v) e refl; put = p }
+-- and for one of a side alone
+pub met_alone : (ours theirs : Option Offered) (v : Tree) (key : ℕ) (old new : Answer) → IsMetAt ours theirs 0 (plain_of v) → new.is_large ≡ old.is_large →
+    IsPut key (plain_of v) old.bytes.items new.bytes.items → IsPutBy IsMetAt ours theirs key old new
+met_alone ours theirs v key old new h z p = put_of IsMetAt ours theirs key 0 (plain_of v) p.pod old new h (omega arith) p.parts z p.written

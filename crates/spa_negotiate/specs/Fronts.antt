@@ -2,12 +2,10 @@
 use Rattle.std.specs.Prelude.{⊤, ◌≡◌, ◌⊎◌, ℕ, List}
 use Rattle.spa_format.specs.Tree.{Tree}
 use Rattle.spa_format.specs.Front.{IsRefused}
-use Rattle.spa_format.specs.Encoding.{encoding_of}
-use Rattle.spa_format.specs.Pod.{IsPod}
-use Rattle.spa_format.specs.Writable.{IsTooLarge}
 use Rattle.spa_bodies.specs.Reading.{MayLackMemory}
 pub use Rattle.spa_object_view.specs.Fronts.{BeginBoth, BeginsObject, BeginsOther, IsObject}
-use Rattle.spa_negotiate.specs.Meeting.{Meet}
+use Rattle.spa_object_view.specs.Meeting.{MeetsIn, MeetsTooLarge}
+use Rattle.spa_negotiate.specs.Meeting.{IsMetAt}
 use Rattle.spa_negotiate.specs.Refusals.{AreRefused}
 use Rattle.spa_keyed_objects.specs.declared.side.Side.{Side}
 use Rattle.spa_keyed_objects.specs.declared.side.Side.TheVariants.{First, Second}
@@ -15,17 +13,12 @@ use Rattle.spa_negotiate.specs.declared.error.NegotiateError.{NegotiateError}
 use Rattle.spa_negotiate.specs.declared.error.NegotiateError.TheVariants.{Unread, NotObject, TooLarge, OutOfMemory}
 
 -- the two values meet in a third, whose encoding these bytes are
-pub record MeetIn (bytes : List ℕ) (ours theirs : Tree) : Type 0 where
-  pub met : Tree
-  pub meet : Meet ours theirs met
-  pub encoding : bytes ≡ encoding_of met
-  pub pod : IsPod bytes met
+abbrev pub MeetIn : List ℕ → Tree → Tree → Type 0
+MeetIn = MeetsIn IsMetAt
 
 -- the two values meet in a third, in whose encoding a size doesn't fit a word of 32 bits
-pub record MeetTooLarge (ours theirs : Tree) : Type 0 where
-  pub met : Tree
-  pub meet : Meet ours theirs met
-  pub large : IsTooLarge met
+abbrev pub MeetTooLarge : Tree → Tree → Type 0
+MeetTooLarge = MeetsTooLarge IsMetAt
 
 -- the refusal is one of the two inputs: one of the first comes before one of the second, and both before any other
 abbrev pub AreFrontsRefused : (a b : List ℕ) → NegotiateError → Type 0
@@ -44,11 +37,6 @@ abbrev pub OnNoMeeting : Type 0 → NegotiateError → Type 0
 OnNoMeeting fact OutOfMemory = ⊤
 OnNoMeeting fact TooLarge = ⊤
 OnNoMeeting fact _ = fact
-
--- the refusal is one of two inputs that begin with objects
-abbrev pub AreViewsRefused : (a b : List ℕ) → NegotiateError → Type 0
-AreViewsRefused a b TooLarge = BeginBoth a b MeetTooLarge
-AreViewsRefused a b e = BeginBoth a b (λ v w. AreRefused v w e)
 
 -- the refusal is one of this side's front
 abbrev pub IsFrontRefused : Side → List ℕ → NegotiateError → Type 0

@@ -1,9 +1,10 @@
 -- When two objects can meet, and in which object they do: docs/NEGOTIATION.md, "The rules".
 use Rattle.std.specs.Prelude.{⊤, ◌≡◌, ℕ, Option, Some}
 use Rattle.std.specs.List.{All}
-use Rattle.spa_format.specs.Tree.{Tree, object, join_properties}
-use Rattle.spa_keyed_objects.specs.Keys.{AtKey, HoldsAtKeys, Offered, keys_of}
+use Rattle.spa_format.specs.Tree.{Tree, object}
+use Rattle.spa_keyed_objects.specs.Keys.{AtKey, Offered, keys_of}
 pub use Rattle.spa_filter.specs.Settling.{Settles}
+use Rattle.spa_object_view.specs.Meeting.{Meets}
 use Rattle.spa_negotiate.specs.Admits.{AreSupported, HasCommon, IsPlain}
 
 -- the two sides agree under a key: one of them lacks it, or both values are supported and there is a value that both admit
@@ -25,7 +26,4 @@ CanMeet _ _ = ⊥
 -- The two objects, of one type, meet in the third, which has that type and the first's id. It has the keys of the first and then
 -- those that only the second has, each once, with the flags and the value in which the two meet under it.
 abbrev pub Meet : Tree → Tree → Tree → Type 0
-Meet (object type our_id ours) (object its_type its_id theirs) (object met_type met_id met) =
-    (its_type ≡ type) × (met_type ≡ type) × (met_id ≡ our_id)
-    × HoldsAtKeys IsMetAt ours theirs (join_properties ours theirs) met
-Meet _ _ _ = ⊥
+Meet = Meets IsMetAt

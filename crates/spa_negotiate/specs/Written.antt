@@ -1,15 +1,12 @@
--- The object in which two objects meet, property by property.
-use Rattle.std.specs.Prelude.{◌≡◌, ℕ, List, ◌++◌, Option}
+-- A property of the object in which two objects meet.
+use Rattle.std.specs.Prelude.{◌≡◌, ℕ, List, ◌++◌}
 use Rattle.spa_format.specs.Encoding.{encoding_of}
 use Rattle.spa_format.specs.Typed.{IsTyped}
 use Rattle.spa_format.specs.Words.{word_bytes}
 use Rattle.spa_format.specs.Writable.{IsWritable}
-use Rattle.spa_format.specs.Tree.{Tree, Properties}
-use Rattle.spa_keyed_objects.specs.Keys.{HoldsAtKeys, Offered}
-use Rattle.spa_object_view.specs.Written.{AreBehind}
+use Rattle.spa_format.specs.Tree.{Tree}
 use Rattle.spa_keyed_objects.specs.CanonicalPods.{IsCanonicalPod}
 use Rattle.spa_negotiate.specs.Admits.{AreSupported, IsCommon, IsPlain}
-use Rattle.spa_negotiate.specs.Meeting.{IsMetAt}
 
 -- a property with this key, no flags and this plain value was appended, canonical
 pub record IsPut (key : ℕ) (value : Tree) (old new : List ℕ) : Type 0 where
@@ -34,15 +31,3 @@ pub record IsCommonEncoded (ours theirs : Tree) (key : ℕ) (old new : List ℕ)
   pub typed : IsTyped value
   pub writable : IsWritable value
   pub parts : new ≡ old ++ ((word_bytes key ++ word_bytes 0) ++ encoding_of value)
-
--- a property was appended with the value in which the two sides meet under its key
-pub record IsMetPut (ours theirs : Option Offered) (key : ℕ) (old new : List ℕ) : Type 0 where
-  pub value : Tree
-  pub met : IsMetAt ours theirs 0 value
-  pub put : IsPut key value old new
-
--- behind `head` are canonical properties in which the two sides meet under the keys of these
-pub record IsMetBehind (ours theirs these : Properties) (head out : List ℕ) : Type 0 where
-  pub met : Properties
-  pub held : AreBehind met head out
-  pub settles : HoldsAtKeys IsMetAt ours theirs these met

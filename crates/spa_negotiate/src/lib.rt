@@ -6,9 +6,9 @@ pub mod laws;
 mod negotiation;
 mod offer_view;
 mod pods;
+mod rule;
 mod settling;
 mod support;
-mod views;
 
 pub use error::NegotiateError;
 pub use negotiation::{common, negotiate};

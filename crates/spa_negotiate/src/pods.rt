@@ -1,16 +1,17 @@
 //! Negotiates the objects of two pods.
-ghost use Rattle.std.specs.Prelude.{IfErr, IfOk, IsTrue, OnOk};
+ghost use Rattle.std.specs.Prelude.{IfErr, IfOk, IsTrue, List, OnOk, ℕ};
 ghost use Rattle.spa_format.specs.Fixation.{all_settled};
 ghost use Rattle.spa_format.specs.Walk.{properties_of, property_walk};
-ghost use Rattle.spa_object_view.specs.Fronts.{BeginBoth, BeginsObjectOf};
-ghost use Rattle.spa_negotiate.specs.Meeting.{CanMeet};
-ghost use Rattle.spa_negotiate.specs.Fronts.{AreFrontsRefused, IsFrontRefused, MeetIn, OnNoMeeting};
+ghost use Rattle.spa_object_view.specs.Fronts.{BeginBoth};
+ghost use Rattle.spa_object_view.specs.Meeting.{AreStopped};
+ghost use Rattle.spa_negotiate.specs.Meeting.{CanMeet, IsMetAt};
+ghost use Rattle.spa_negotiate.specs.Fronts.{AreFrontsRefused, MeetIn, OnNoMeeting};
+ghost use Rattle.spa_negotiate.specs.Refusals.{IsKeyRefusal};
 
 use crate::error::NegotiateError;
 use crate::laws::{meetings_need_no_fixation, refused_fronts_cannot_meet};
-use crate::views::meet_objects;
-use spa_keyed_objects::Side;
-use spa_object_view::{NoObject, ObjectPod, object_pod};
+use crate::rule::Settling;
+use spa_object_view::{Stop, meet_pods};
 use std::alloc::Global;
 
 /// Negotiates the objects at the fronts of two inputs by the rules of `negotiate`, and answers the encoding of the object in
@@ -34,26 +35,23 @@ pub fn negotiate_pods(alloc: Global, a: &[u8], b: &[u8]) -> Result<Vec<u8>, Nego
 {
     refused_fronts_cannot_meet();
     meetings_need_no_fixation();
-    let first = object_at(alloc, a, Side::First)?;
-    let second = object_at(alloc, b, Side::Second)?;
-    let Some(ours) = first.view() else {
-        unreachable!()
-    };
-    let Some(theirs) = second.view() else {
-        unreachable!()
-    };
-    meet_objects(alloc, &ours, &theirs)
+    match meet_pods::<Settling>(alloc, a, b) {
+        Ok(bytes) => Ok(bytes),
+        Err(stop) => Err(refusal(stop)),
+    }
 }
 
-/// The object at the front of a side's bytes. Refused as `Unread` or `NotObject` of the side, and as `OutOfMemory`.
-fn object_at(alloc: Global, bytes: &[u8], side: Side) -> Result<ObjectPod<'_>, NegotiateError>
-    ensures object { IfOk result (BeginsObjectOf bytes.now) }
-    ensures cause { IfErr result (IsFrontRefused side bytes.now) }
+/// The refusal of two objects that don't meet.
+fn refusal(stop: Stop<NegotiateError>) -> NegotiateError
+    ensures { (a b : List ℕ) → AreStopped IsMetAt IsKeyRefusal a b stop → AreFrontsRefused a b result }
 {
-    match object_pod(alloc, bytes) {
-        Ok(pod) => Ok(pod),
-        Err(NoObject::Unread) => Err(NegotiateError::Unread(side)),
-        Err(NoObject::Other) => Err(NegotiateError::NotObject(side)),
-        Err(NoObject::OutOfMemory) => Err(NegotiateError::OutOfMemory),
+    match stop {
+        Stop::Unread(side) => NegotiateError::Unread(side),
+        Stop::NotObject(side) => NegotiateError::NotObject(side),
+        Stop::TypeMismatch => NegotiateError::TypeMismatch,
+        Stop::Apart(key) => NegotiateError::Disjoint(key),
+        Stop::Refused(error) => error,
+        Stop::TooLarge => NegotiateError::TooLarge,
+        Stop::OutOfMemory => NegotiateError::OutOfMemory,
     }
 }

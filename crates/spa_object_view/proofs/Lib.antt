@@ -8,3 +8,5 @@ pub mod Sides
 pub mod Same
 pub mod ObjectPods
 pub mod Both
+pub mod Rules
+mod Meetings

@@ -1,5 +1,5 @@
 -- The pods of objects at the fronts of inputs.
-use Rattle.std.proofs.Common.{inl, inr, ◌≡◌, ◌≢◌, ℕ, List, take, refl, sym, ap, ◌∙◌, subst, arith}
+use Rattle.std.proofs.Common.{inl, inr, ◌≡◌, ◌≢◌, ℕ, List, refl, sym, ap, ◌∙◌, subst, arith}
 use Rattle.std.proofs.lemmas.List.{take_all}
 use Rattle.spa_format.specs.Words.{word_at, extent}
 use Rattle.spa_format.specs.Tree.{Tree, object, object_type, type_of}
@@ -12,7 +12,6 @@ use Rattle.spa_format.proofs.Shapes.{object_only}
 use Rattle.spa_format.proofs.Unique.{one_value}
 use Rattle.spa_bytes.specs.Opening.{Opens}
 use Rattle.spa_fixed_sized.specs.declared.fault.Refusal.{Refusal}
-use Rattle.spa_fixed_sized.specs.declared.fault.Refusal.TheVariants as refusal
 use Rattle.spa_bodies.specs.Reading.{TakesMemory}
 use Rattle.spa_scan.specs.Canonical.{BeginsCanonical}
 use Rattle.spa_scan.specs.Depth.{NestsDeeper, levels_looked_into}

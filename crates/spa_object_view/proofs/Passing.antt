@@ -13,10 +13,6 @@ pub on_ok : {T E : Type 0} {P Q : Type 0} (r : Result T E) → (P → Q) → OnO
 on_ok (Ok v) f h = f h
 on_ok (Err e) f h = tt
 
-pub on_if : {T E : Type 0} {P : T → Type 0} {Q : Type 0} (r : Result T E) → ((v : T) → P v → Q) → IfOk r P → OnOk r Q
-on_if (Ok v) f h = f v h
-on_if (Err e) f h = tt
-
 pub if_ok : {T E : Type 0} {P Q : T → Type 0} (r : Result T E) → ((v : T) → P v → Q v) → IfOk r P → IfOk r Q
 if_ok (Ok v) f h = f v h
 if_ok (Err e) f h = tt

@@ -1,3 +1,5 @@
 pub mod Written
 pub mod KeyOrder
 pub mod Fronts
+pub mod Answers
+pub mod Meeting

@@ -13,7 +13,7 @@ const SHORT_LEN: usize = 24;
 
 /// The key of the first of our properties, where both sides have values under it that aren't choices and differ. `None` says nothing.
 #[inline(always)]
-pub fn first_apart(ours: &[u8], theirs: &[u8]) -> Option<u32>
+pub(crate) fn first_apart(ours: &[u8], theirs: &[u8]) -> Option<u32>
     ensures { IfSome result (λ key. (ps qs : Properties) → AreWritten ps ours.now → AreWritten qs theirs.now
         → AreApartAtFirst ps qs key) }
 {

@@ -21,9 +21,9 @@ const PLACES: u64 = 4294967296;
 
 /// Borrowed properties, and, where there are many, a sorted index of their keys for binary search.
 #[derive(Drop)]
-pub struct Keyed<'a> {
+pub(crate) struct Keyed<'a> {
     /// The bytes of the properties.
-    pub properties: &'a [u8],
+    pub(crate) properties: &'a [u8],
     /// The index: key and offset of each property as one number, in ascending order.
     order: Option<Vec<u64>>,
 }
@@ -31,7 +31,7 @@ pub struct Keyed<'a> {
 impl<'a> Keyed<'a> {
     /// These properties, with an index where there are many. Refused only for want of memory.
     #[inline(always)]
-    pub fn new(alloc: Global, properties: &'a [u8]) -> Result<Keyed<'a>, AllocError>
+    pub(crate) fn new(alloc: Global, properties: &'a [u8]) -> Result<Keyed<'a>, AllocError>
         ensures properties { IfOk result (λ keyed. keyed.properties.now ≡ properties.now) }
         ensures keyed { IfOk result (λ keyed. IsKeyed keyed) }
     {
@@ -50,7 +50,7 @@ impl<'a> Keyed<'a> {
 
     /// The first property with this key. None: no property has it.
     #[inline(always)]
-    pub fn find(&self, key: u32) -> Option<PropertyView<'a>>
+    pub(crate) fn find(&self, key: u32) -> Option<PropertyView<'a>>
         requires { IsKeyed self.now }
         ensures found { (ps : Properties) → AreWritten ps self.now.properties.now
             → MatchOption result (offered_at key ps ≡ None)
@@ -67,7 +67,7 @@ impl<'a> Keyed<'a> {
 
     /// Whether no property has this key.
     #[inline(always)]
-    pub fn lacks(&self, key: u32) -> bool
+    pub(crate) fn lacks(&self, key: u32) -> bool
         requires { IsKeyed self.now }
         ensures { (ps : Properties) → AreWritten ps self.now.properties.now → has_key key ps ≡ not result }
     {
@@ -79,7 +79,12 @@ impl<'a> Keyed<'a> {
 
     /// Whether no property of `other` and none before `first` here has the key of `first`. All keys before it are below `bound`.
     #[inline(always)]
-    pub fn is_new_beside(&self, other: &Keyed<'_>, first: &PropertyView<'_>, bound: u64) -> bool
+    pub(crate) fn is_new_beside(
+        &self,
+        other: &Keyed<'_>,
+        first: &PropertyView<'_>,
+        bound: u64,
+    ) -> bool
         requires itself { IsKeyed self.now }
         requires other { IsKeyed other.now }
         ensures { SaysNewBeside result other.now.properties.now self.now.properties.now first.now bound }
@@ -89,7 +94,7 @@ impl<'a> Keyed<'a> {
 
     /// Whether no property before `first` has its key. All keys before it are below `bound`.
     #[inline(always)]
-    pub fn is_new(&self, first: &PropertyView<'_>, bound: u64) -> bool
+    pub(crate) fn is_new(&self, first: &PropertyView<'_>, bound: u64) -> bool
         requires { IsKeyed self.now }
         ensures { SaysNew result self.now.properties.now first.now bound }
     {
@@ -114,7 +119,7 @@ impl<'a> Keyed<'a> {
 
 /// The bound raised so that this key is below it, too.
 #[inline(always)]
-pub fn raised(bound: u64, key: u32) -> u64
+pub(crate) fn raised(bound: u64, key: u32) -> u64
     ensures { (bound ≤ result) × (key < result) }
 {
     let key = u64::from(key);

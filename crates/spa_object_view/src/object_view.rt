@@ -35,7 +35,7 @@ pub struct PropertyView<'a> {
 
 /// The property at the front of the bytes. None: there is no whole one.
 #[inline(always)]
-pub fn first_property(properties: &[u8]) -> Option<PropertyView<'_>>
+pub(crate) fn first_property(properties: &[u8]) -> Option<PropertyView<'_>>
     ensures first { IfSome result
         (λ first. HasFirst properties.now first.key first.flags first.pod.now first.rest.now) }
     ensures words { IfSome result (λ first. (first.key < size_limit) × (first.flags < size_limit)) }
@@ -65,7 +65,7 @@ pub fn first_property(properties: &[u8]) -> Option<PropertyView<'_>>
 
 /// The first property with this key, by a linear search. None: no property has it.
 #[inline(always)]
-pub fn find(properties: &[u8], key: u32) -> Option<PropertyView<'_>>
+pub(crate) fn find(properties: &[u8], key: u32) -> Option<PropertyView<'_>>
     ensures found { (ps : Properties) → AreWritten ps properties.now
         → MatchOption result (offered_at key ps ≡ None)
         (λ first. IsFound (offered_at key ps) first.flags first.pod.now) }

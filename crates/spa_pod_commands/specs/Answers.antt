@@ -27,7 +27,7 @@ IsOneWord (x ∷ y ∷ more) word = ⊥
 abbrev pub IsUse : List (Bor (List ℕ)) → Type 0
 IsUse words = IsOneWord words (codes "rewrite") ⊎ IsOneWord words (codes "fixate") ⊎ IsOneWord words (codes "show")
 
--- the one fact where the work was done, and the other of the reason where it was refused
+-- where the work was done, the first fact holds, and where it was refused, the second of the reason; the words were those of the program
 abbrev pub OnAnswer : Answer → Type 0 → (Failure → Type 0) → Type 0
 OnAnswer Done WasDone WasRefused = WasDone
 OnAnswer (Refused why) WasDone WasRefused = WasRefused why
@@ -44,7 +44,7 @@ status_of Done = 0
 status_of (Refused why) = 1
 status_of Misused = 2
 
--- what is said of a refusal
+-- the text of a refusal
 abbrev pub failure_text : Failure → List ℕ
 failure_text (Pod place kind) = codes "byte " ++ (decimal place ++ (codes ": " ++ kind.now))
 failure_text OutOfMemory = codes "out of memory"
@@ -65,7 +65,7 @@ Rewrites input out = AreRewritten input [] out
 abbrev pub IsFixatedPod : List ℕ → List ℕ → Type 0
 IsFixatedPod b out = (HasObject b × (out ≡ fixated_bytes b)) ⊎ ((¬ (HasObject b)) × (out ≡ b))
 
--- each of these pods so, one after another
+-- these pods one after another, each after fixation
 abbrev pub AreFixated : List (List ℕ) → List ℕ → Type 0
 AreFixated [] out = out ≡ []
 AreFixated (p ∷ ps) out = (first : List ℕ) × (others : List ℕ) × (out ≡ first ++ others) × IsFixatedPod p first × AreFixated ps others
@@ -84,7 +84,7 @@ pub record Writes (Makes : List ℕ → List ℕ → Type 0) (remaining old new 
   pub made : Makes input out
   pub written : Appends old new out
 
--- such an output was begun: so many first bytes of it were written, maybe all, and then the output failed
+-- the input was read whole, the first `count` bytes of what is made of it were written, maybe all, and then the output failed
 pub record BeginsToWrite (Makes : List ℕ → List ℕ → Type 0) (remaining old new : Option (List ℕ)) : Type 0 where
   pub input : List ℕ
   pub read : IsAllOf remaining input

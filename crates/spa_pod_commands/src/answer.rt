@@ -1,4 +1,4 @@
-//! What becomes of a run, and what is said of it.
+//! The outcome of a run: its status, and its line on the standard error.
 ghost use Rattle.std.specs.Prelude.{◌≡◌, ◌++◌, ℕ, OnErr, OnOk, take};
 ghost use Rattle.std.specs.Io.KnownBytes.{Appends};
 ghost use Rattle.spa_pod_commands.specs.Answers.{line_of, status_of};
@@ -9,7 +9,7 @@ use spa_device::ReadError;
 use std::fmt;
 use std::io::{self, Write};
 
-/// What became of a run.
+/// The outcome of a run.
 #[derive(Debug, Drop)]
 pub enum Answer {
     /// The work was done.

@@ -1,3 +1,4 @@
+mod Ended
 pub mod Going
 pub mod Holding
 mod Likely

@@ -1,4 +1,5 @@
 pub mod Blocks
+pub mod Cut
 pub mod GoingOn
 pub mod Passing
 pub mod Plausible

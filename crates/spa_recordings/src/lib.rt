@@ -2,6 +2,7 @@
 #![tactic(auto)]
 
 mod blocks;
+pub mod cut;
 pub mod going_on;
 pub mod passing;
 pub mod plausible;

@@ -416,7 +416,7 @@ fn read_in_place(alloc: Global, reading: Reading, block: &mut [u8]) -> Result<us
 }
 
 /// Does nothing: its contract is what the type says of bytes.
-fn are_bytes(_bytes: &[u8])
+pub(crate) fn are_bytes(_bytes: &[u8])
     ensures { IsBytes _bytes.now }
 {}
 

@@ -1,9 +1,8 @@
 -- Pods that a look accepts or refuses.
 use Rattle.std.proofs.Common.{◌≡◌, ℕ, ◌+◌, ◌-◌, ◌<◌, ◌≤◌, List, ◌++◌, length, refl, sym, ap, ◌∙◌, subst, arith, append_assoc, length-append}
 use Rattle.std.specs.Borrow.{Bor}
-use Rattle.std.specs.Prelude.{Bool, false}
-use Rattle.std.proofs.lemmas.List.{length-take-le}
-use Rattle.spa_format.specs.Words.{extent, header_size, word_at}
+use Rattle.std.specs.Prelude.{Bool}
+use Rattle.spa_format.specs.Words.{header_size}
 use Rattle.spa_format.specs.Tree.{Tree, no_trees, member, join_members}
 use Rattle.spa_format.specs.Front.{Begins, HasFront, IsRefused, front_of}
 use Rattle.spa_format.specs.Faults.{Short, Text, InvalidType, InvalidChoiceType, MissingChoiceValues, WrongSize, Stands, StandsAtFront, at_front}
@@ -20,7 +19,7 @@ use Rattle.spa_scan.specs.Depth.{depth_of, levels_looked_into}
 use Rattle.spa_rewrite.specs.Look.{IsRejected, StopsAt}
 use Rattle.spa_rewrite.specs.Rewriting.{IsLeft, RefusesFront}
 use Rattle.spa_rewrite.specs.Shorter.{ArePodsWithin}
-use Rattle.spa_events.specs.Inside.{IsInside, key_size}
+use Rattle.spa_events.specs.Inside.{IsInside}
 use Rattle.spa_rewrite.specs.Offsets.{IsFaultAt, StandsAt, at_pod, from_pod}
 use Rattle.spa_rewrite.specs.declared.look.Rejected.{Rejected}
 use Rattle.spa_rewrite.specs.declared.look.Rejected.TheVariants as rejected
@@ -32,6 +31,7 @@ use Rattle.spa_rewrite.proofs.Refusals.{front_refused}
 use Rattle.spa_rewrite.proofs.Rewritten.{parted}
 use Rattle.spa_rewrite.proofs.ShorterLemmas.{first_within, within_behind}
 use Rattle.spa_rewrite.proofs.Stretches.{FirstMembers}
+use Rattle.spa_rewrite.proofs.Lengths.{lengths}
 
 -- what stands at a place is no pod of the grammar
 fault_refuses : (input place : List ℕ) (why : Refusal) → Says (λ k. Stands k place input) ⊥ why → IsRefused input
@@ -48,17 +48,14 @@ pub inside_stops : (type : ℕ) (input body rest inside place : List ℕ) (inner
     IsInside type body inner inside → StopsAt inner inside place behind → at ≡ header_size + length body - (length place + behind) →
     Says (λ k. StandsAtFront k place) ⊥ why → IsFaultAt input place at why
 inside_stops type input body rest inside place inner behind at why o i s e f =
-    let room = s.room in
     let long = body_long type body inside inner i in
-    let same : header_size + (key_size inner + (length inside - (length place + behind))) ≡ at = omega arith in
-    let fits = o.shorter in
     let stands = says_through (λ k. StandsAtFront k place) (λ k. Stands k place input) ⊥ ⊥
     (λ k x. stands_opened type input body rest inside inner k place o i (s.stands k x)) (λ n. n) why f in
     record {
       refused = fault_refuses input place why stands;
       stands = stands;
       offset = says_through (λ k. StandsAtFront k place) (λ k. StandsAt k from_pod at input) ⊥ ⊥
-          (λ k x. subst (λ n. StandsAt k from_pod n input) same
+          (λ k x. subst (λ n. StandsAt k from_pod n input) (omega arith)
           (offset_opened type input body rest inside inner k (length inside - (length place + behind)) o i (s.offset k x))) (λ n. n) why f;
       within = omega arith;
     }
@@ -81,18 +78,15 @@ rejected_value input rejected.TooDeep s v b = deep_begun levels_looked_into inpu
 -- so it isn't the first of pods of so many levels
 pub rejected_first : (left : List ℕ) (r : Rejected) → 0 < length left → IsRejected left r → ¬ (ArePodsWithin levels_looked_into left)
 rejected_first left r l s w =
-    let f = first_within levels_looked_into false left left refl l w in
+    let f = first_within levels_looked_into left l w in
     let d = rejected_value left r s f.value (record { there = f.there; pod = f.pod }) in
-    let shallow = f.shallow in
     omega arith
 
 -- less is left behind an accepted pod
 pub less_left : (pod rest : List ℕ) (v : Tree) → BeginsWith pod v rest → length rest + 8 ≤ length pod
 less_left pod rest v b =
     let d = ap length (parted pod v rest b) ∙ length-append (front_of pod) rest in
-    let h = b.begins.there.whole in
-    let f = length-take-le (extent (word_at pod 0)) pod h in
-    omega arith
+    omega lengths
 
 pub fewer_left : (pod rest : List ℕ) (v : Tree) → BeginsWith pod v rest → length rest < length pod
 fewer_left pod rest v b = let l = less_left pod rest v b in omega arith

@@ -1,19 +1,18 @@
 -- Containers whose encodings are begun, and what their headers hold.
-use Rattle.std.proofs.Common.{◌≡◌, ℕ, ◌+◌, ◌-◌, ◌<◌, ◌≤◌, ◌%◌, List, [], ◌∷◌, ◌++◌, length, drop, take, refl, sym, ap, ◌∙◌, subst, arith, append_assoc, length-append, length-drop}
+use Rattle.std.proofs.Common.{◌≡◌, ℕ, ◌+◌, ◌-◌, ◌<◌, ◌≤◌, ◌%◌, List, [], ◌∷◌, ◌++◌, length, drop, take, refl, sym, ap, ◌∙◌, subst, arith, append_assoc, length-drop}
 use Rattle.std.specs.Prelude.{⊤, Bool, false, true}
 use Rattle.std.proofs.lemmas.List.{append-nil, drop-drop, drop-take, drop_at, length-take-le, take-take}
 use Rattle.spa_format.specs.Words.{extent, header_size, size_limit, word_at, word_bytes}
 use Rattle.spa_format.specs.Front.{HasFront, front_of, rest_of}
 use Rattle.spa_format.specs.Typed.{IsBytes}
-use Rattle.spa_format.proofs.Encodings.{two_words_length}
 use Rattle.spa_format.proofs.Fronts.{length-body_of}
 use Rattle.spa_format.proofs.WordLemmas.{IsBytes-drop, IsBytes-take, word_at-take}
 use Rattle.spa_bytes.specs.Opening.{Opens}
 use Rattle.spa_events.specs.Inside.{IsBehindKey, key_size}
-use Rattle.spa_rewrite.specs.Emit.{last_bit}
-use Rattle.spa_rewrite.specs.Placed.{ArePlaced, HoldsWhole, IsInner, IsPlaced, type_inside}
+use Rattle.spa_rewrite.specs.Emit.{ArePlaced, HoldsWhole, IsPlaced, IsPodOf, last_bit, type_inside}
 use Rattle.spa_rewrite.proofs.Places.{inner_placed, pods_placed}
 use Rattle.spa_rewrite.proofs.Written.{drop_past, here_is, opened_here, take_past}
+use Rattle.spa_rewrite.proofs.Lengths.{lengths}
 
 -- a container whose encoding is begun: where it begins, whether the list that it is in is keyed, and what of that list follows it
 pub record Begun : Type 0 where
@@ -33,30 +32,26 @@ with_header inner start b = take start b ++ (header_of inner (length b - (start 
 header_behind : (inner : Bool) (w b : List ℕ) (n start key : ℕ) → n ≡ length w → start ≡ n + key →
     with_header inner start (w ++ b) ≡ w ++ with_header inner key b
 header_behind inner w b n start key l s =
-    let size = length-append w b in
     let front : take start (w ++ b) ≡ w ++ take key b = ap (λ i. take i (w ++ b)) s ∙ take_past w b n key (sym l) in
     let back : drop (start + header_size) (w ++ b) ≡ drop (key + header_size) b =
-    ap (λ i. drop i (w ++ b)) (let e : start + header_size ≡ n + (key + header_size) = omega arith in e) ∙ drop_past w b n (key + header_size) (sym l) in
-    let many : length (w ++ b) - (start + header_size) ≡ length b - (key + header_size) = omega arith in
+    ap (λ i. drop i (w ++ b)) (omega lengths) ∙ drop_past w b n (key + header_size) (sym l) in
     ap (λ x. x ++ (header_of inner (length (w ++ b) - (start + header_size)) ++ drop (start + header_size) (w ++ b))) front
     ∙ ap (λ x. (w ++ take key b) ++ (header_of inner (length (w ++ b) - (start + header_size)) ++ x)) back
-    ∙ ap (λ n. (w ++ take key b) ++ (header_of inner n ++ drop (key + header_size) b)) many
+    ∙ ap (λ n. (w ++ take key b) ++ (header_of inner n ++ drop (key + header_size) b)) (omega lengths)
     ∙ append_assoc w (take key b) (header_of inner (length b - (key + header_size)) ++ drop (key + header_size) b)
 
 header_kept : (inner : Bool) (start : ℕ) (b : List ℕ) → start + header_size ≤ length b → length (with_header inner start b) ≡ length b
 header_kept inner start b r =
     let n = length b - (start + header_size) in
-    let l0 = length-take-le start b (omega arith) in
-    let l1 = length-drop (start + header_size) b in
-    let l2 = two_words_length n (type_inside inner) in
-    let l3 = length-append (header_of inner n) (drop (start + header_size) b) in
-    let l4 = length-append (take start b) (header_of inner n ++ drop (start + header_size) b) in
-    omega arith
+    omega lengths
 
 -- A container that is first.
 
 pub record IsContainerHere (inner : Bool) (here body : List ℕ) : Type 0 where
-  pub its : IsInner (front_of here) inner
+  pub type : ℕ
+  pub size : ℕ
+  pub its : IsPodOf (front_of here) type size
+  pub holds : HoldsWhole type size inner
   pub body_is : drop header_size (front_of here) ≡ body
   pub long : length (front_of here) ≡ header_size + length body
   pub key : key_size inner ≤ length body
@@ -72,21 +67,19 @@ container_here inner here body rest type size o z w =
     let key = key_size inner in
     let pod = front_of here in
     let d = ap length o.its_rest ∙ length-drop (extent (word_at here 0)) here in
-    let whole = o.there.whole in
-    let many : length here - length rest ≡ extent (word_at here 0) = omega arith in
-    let op = opened_here here body rest pod type size o z (ap (λ i. take i here) (sym many)) in
+    let op = opened_here here body rest pod type size o z (ap (λ i. take i here) (sym (omega arith))) in
     let room = holds_key inner type size w in
     let own = op.its in
-    let pod_long = own.long in
-    let whole8 = w.whole in
     let long : length pod ≡ header_size + length body = omega arith in
     let size_word : word_at here 0 ≡ length body = sym (length-body_of here o.there) ∙ sym (ap length o.its_body) in
-    let ext : extent (word_at here 0) ≡ header_size + length body = omega arith in
     let body_is : drop header_size pod ≡ body =
-    ap (λ i. drop header_size (take i here)) ext ∙ drop-take header_size (length body) here
+    ap (λ i. drop header_size (take i here)) (omega arith) ∙ drop-take header_size (length body) here
     ∙ ap (λ i. take i (drop header_size here)) (sym size_word) ∙ sym o.its_body in
     record {
-      its = record { type = type; size = size; its = own; holds = w };
+      type = type;
+      size = size;
+      its = own;
+      holds = w;
       body_is = body_is;
       long = long;
       key = omega arith;
@@ -104,21 +97,14 @@ headed_pod inner here body link pods y c l q =
     let words = take key (drop header_size pod) in
     let head = link ++ take key (drop header_size here) in
     let all = head ++ pods in
-    let room = c.key in
-    let long = c.long in
-    let d = length-drop header_size pod in
-    let few : length words ≡ key = length-take-le key (drop header_size pod) (omega arith) in
     let same_words = ap length c.words in
-    let l0 = length-append link (take key (drop header_size here)) in
-    let l1 = length-append head pods in
-    let size : length all - (0 + header_size) ≡ key + length pods = omega arith in
     let inside : drop key body ≡ drop (header_size + key) pod = ap (drop key) (sym c.body_is) ∙ drop-drop key header_size pod in
-    let placed = inner_placed inner pod pods (IsBytes-take (extent (word_at here 0)) here y) c.its (subst (λ x. ArePlaced inner x pods) inside q) in
+    let placed = inner_placed inner pod pods c.type c.size (IsBytes-take (extent (word_at here 0)) here y) c.its c.holds (subst (λ x. ArePlaced inner x pods) inside q) in
     let behind : drop (0 + header_size) all ≡ words ++ pods =
     ap (drop 8) (append_assoc link (take key (drop header_size here)) pods) ∙ drop_at link (take key (drop header_size here) ++ pods) 8 l
     ∙ ap (λ x. x ++ pods) c.words in
     subst (IsPlaced pod)
-    (sym (ap (λ n. header_of inner n ++ drop (0 + header_size) all) size ∙ ap (λ x. header_of inner (key + length pods) ++ x) behind)) placed
+    (sym (ap (λ n. header_of inner n ++ drop (0 + header_size) all) (omega lengths) ∙ ap (λ x. header_of inner (key + length pods) ++ x) behind)) placed
 
 -- What is begun.
 
@@ -141,8 +127,6 @@ pub record Puts (All : List ℕ → Type 0) (begun : List Begun) (keyed : Bool) 
 fewer : (bs : List Begun) (written all more less : ℕ) → written ≤ more → less ≤ all → Fits bs written all → Fits bs more less
 fewer [] written all more less a b f = tt
 fewer (x ∷ bs) written all more less a b f =
-    let f0 = f.0 in
-    let f1 = f.1 in
     (omega arith, omega arith, fewer bs x.start (all + length x.pods) x.start (less + length x.pods) (omega arith) (omega arith) f.2)
 
 pub depth_room : (bs : List Begun) (written all : ℕ) → Fits bs written all → length bs ≤ written
@@ -163,10 +147,9 @@ pub puts_more : (All : List ℕ → Type 0) (bs : List Begun) (keyed : Bool) (le
     ((others : List ℕ) → ArePlaced keyed rest others → ArePlaced keyed left (added ++ others)) → length added + length rest ≤ length left →
     Puts All bs keyed left now → Puts All bs keyed rest (now ++ added)
 puts_more All bs keyed left rest now added e w p =
-    let l = length-append now added in
     record {
       awaits = goes_on All bs keyed left rest now added e p.awaits;
-      fits = fewer bs (length now) (length now + length left) (length (now ++ added)) (length (now ++ added) + length rest) (omega arith) (omega arith) p.fits;
+      fits = fewer bs (length now) (length now + length left) (length (now ++ added)) (length (now ++ added) + length rest) (omega lengths) (omega lengths) p.fits;
     }
 
 pub puts_inner : (All : List ℕ → Type 0) (bs : List Begun) (keyed inner : Bool) (left here body rest link now : List ℕ) (type size : ℕ) → IsBytes left →
@@ -182,21 +165,10 @@ puts_inner All bs keyed inner left here body rest link now type size y k o z w l
     let key = take before left in
     let head = link ++ take (key_size inner) (drop header_size here) in
     let added = key ++ head in
-    let big = h.0 in
-    let key_long : length key ≡ before = length-take-le before left big in
-    let room = c.key in
-    let front_long = c.long in
     let d = ap length o.its_rest ∙ length-drop (extent (word_at here 0)) here in
-    let whole = o.there.whole in
-    let pod_long = length-take-le (extent (word_at here 0)) here whole in
     let left_long = ap length h.1 ∙ length-drop before left in
-    let here_behind = length-drop header_size here in
     let words_long : length (take (key_size inner) (drop header_size here)) ≡ key_size inner =
-    length-take-le (key_size inner) (drop header_size here) (omega arith) in
-    let head_long = length-append link (take (key_size inner) (drop header_size here)) in
-    let added_long = length-append key head in
-    let now_long = length-append now added in
-    let inside_long = length-drop (key_size inner) body in
+    length-take-le (key_size inner) (drop header_size here) (omega lengths) in
     let fits = o.fits in
     record {
       awaits = λ x q.
@@ -206,7 +178,7 @@ puts_inner All bs keyed inner left here body rest link now type size y k o z w l
           ap (with_header inner start) (append_assoc now added x)
           ∙ header_behind inner now (added ++ x) (length now) start before refl refl
           ∙ ap (λ b. now ++ b) (ap (with_header inner before) (append_assoc key head x)
-          ∙ header_behind inner key (head ++ x) before before 0 (sym key_long) (let s : before ≡ before + 0 = omega arith in s)) in
+          ∙ header_behind inner key (head ++ x) before before 0 (sym (omega lengths)) (let s : before ≡ before + 0 = omega lengths in s)) in
           subst (Awaits All bs keyed rest) (sym e)
           (goes_on All bs keyed left rest now (key ++ pod)
           (λ others r. subst (ArePlaced keyed left) (sym (append_assoc key pod others))
@@ -214,10 +186,10 @@ puts_inner All bs keyed inner left here body rest link now type size y k o z w l
           (subst (λ b. IsPlaced b pod) (ap front_of h.1) (headed_pod inner here body link x bytes c l q))
           (subst (λ b. ArePlaced keyed b others) (o.its_rest ∙ ap rest_of h.1) r))) p.awaits);
       fits = (
-        omega arith,
-        omega arith,
+        omega lengths,
+        omega lengths,
         fewer bs (length now) (length now + length left) (length now + before) (length (now ++ added) + length (drop (key_size inner) body) + length rest)
-            (omega arith) (omega arith) p.fits,
+            (omega lengths) (omega lengths) p.fits,
       );
     }
 
@@ -225,7 +197,6 @@ pub puts_end : (All : List ℕ → Type 0) (bs : List Begun) (b : Begun) (keyed 
     Puts All (b ∷ bs) keyed left now → Puts All bs b.keyed b.pods (with_header keyed b.start now)
 puts_end All bs b keyed left now q p =
     let l = header_kept keyed b.start now p.fits.0 in
-    let room = p.fits.0 in
     record {
       awaits = subst (λ x. Awaits All bs b.keyed b.pods (with_header keyed b.start x)) (append-nil now) (p.awaits [] q);
       fits = fewer bs b.start (length now + length left + length b.pods) (length (with_header keyed b.start now))
@@ -263,7 +234,6 @@ pub linked_same : (bs : List Begun) (keyed : Bool) (end n all : ℕ) (now new po
 linked_same [] keyed end n all now new pods a b e f l = l
 linked_same (x ∷ bs) keyed end n all now new pods a b e f l =
     let s = x.start in
-    let f0 = f.0 in
     let first : take s new ≡ take s now = sym (take-take s n new (omega arith)) ∙ ap (take s) e ∙ take-take s n now (omega arith) in
     let word = λ (i : ℕ) (r : i + 4 ≤ n). sym (word_at-take n i new r) ∙ ap (λ y. word_at y i) e ∙ word_at-take n i now r in (
       l.0,

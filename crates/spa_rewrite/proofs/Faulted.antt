@@ -1,5 +1,5 @@
 -- Where a look stops, and which fault stands there.
-use Rattle.std.proofs.Common.{◌≡◌, ◌≢◌, ℕ, ◌+◌, ◌*◌, ◌/◌, ◌-◌, ◌<◌, ◌≤◌, ◌%◌, inl, inr, List, [], length, drop, refl, sym, ap, ◌∙◌, subst, arith, length-drop}
+use Rattle.std.proofs.Common.{◌≡◌, ◌≢◌, ℕ, ◌+◌, ◌*◌, ◌/◌, ◌-◌, ◌<◌, ◌≤◌, ◌%◌, inl, inr, List, [], length, drop, refl, sym, ap, ◌∙◌, subst, arith}
 use Rattle.std.specs.Prelude.{◌⊎◌, Bool, true, false}
 use Rattle.std.proofs.lemmas.Bool.{cases_eq, cases_lt}
 use Rattle.std.proofs.Math.Nat.{mul-mod_left}
@@ -10,7 +10,7 @@ use Rattle.spa_format.specs.Normal.{kept_flags}
 use Rattle.spa_format.specs.Pod.{IsBody, least_count}
 use Rattle.spa_format.specs.Front.{Begins, HasFront, IsRefused, rest_of}
 use Rattle.spa_format.specs.Typed.{IsBytes}
-use Rattle.spa_format.specs.Faults.{Fault, Short, Text, InvalidType, InvalidChoiceType, MissingChoiceValues, WrongSize, IsInvalidType, of_elements, IsWrongArray, IsWrongSize, of_fixed, of_choice, of_pointer, LacksValues, StandsAtFront, at_front, choice_header_size}
+use Rattle.spa_format.specs.Faults.{Fault, Short, IsInvalidType, of_elements, IsWrongArray, IsWrongSize, of_fixed, of_choice, of_pointer, LacksValues, StandsAtFront, at_front, choice_header_size}
 use Rattle.spa_format.specs.Opened.{OpensHeaderAlone, no_front, no_parts, short_object}
 use Rattle.spa_format.proofs.FixedKinds.{kind_of_content, size_fits}
 use Rattle.spa_format.proofs.Refused.{begun}
@@ -33,6 +33,7 @@ use Rattle.spa_rewrite.proofs.Looks.{Awaits, first_own, stands_first}
 use Rattle.spa_rewrite.proofs.Offsets.{key_long, offset_first}
 use Rattle.spa_rewrite.proofs.LeafBodies.{leaf_depth, never, some_key}
 use Rattle.spa_rewrite.proofs.SameLength.{array_same_length}
+use Rattle.spa_rewrite.proofs.Lengths.{lengths}
 
 -- no pod begins there, and not for what is inside it
 pub record IsFaulted (here : List ℕ) : Type 0 where
@@ -118,17 +119,12 @@ stops_first keyed left here k l f = record {
   room = (let e = key_long keyed left here k in omega arith);
   offset = λ c s.
       let e = key_long keyed left here k in
-      let same : key_size keyed + 0 ≡ length left - (length here + 0) = omega arith in
-      subst (λ m. StandsAt c (scope_of keyed) m left) same (offset_first keyed left here c 0 l k (at_pod here s));
+      subst (λ m. StandsAt c (scope_of keyed) m left) (omega arith) (offset_first keyed left here c 0 l k (at_pod here s));
 }
 
 only_short : (b : List ℕ) (k : Fault) → length b < header_size → StandsAtFront k b → k ≡ Short
 only_short b Short l s = refl
-only_short b Text l s = absurd (let h = s.0.header in omega arith)
-only_short b InvalidType l s = absurd (let h = s.0.header in omega arith)
-only_short b InvalidChoiceType l s = absurd (let h = s.0.header in omega arith)
-only_short b MissingChoiceValues l s = absurd (let h = s.0.header in omega arith)
-only_short b WrongSize l s = absurd (let h = s.0.header in omega arith)
+only_short b _ l s = absurd (let h = s.0.header in omega arith)
 
 pub stops_key : (keyed : Bool) (left : List ℕ) → keyed ≡ true → length left < header_size → 0 < length left → StopsAt keyed left left 0
 stops_key false left e l some = absurd (let t : false ≡ true = e in cc)
@@ -140,15 +136,12 @@ stops_key true left e l some =
       stands = λ c s. (no_properties, [], left, refl, refl, inl (only_short left c l s, refl, (λ n. let z = ap length n in omega arith), l));
       room = omega arith;
       offset = λ c s.
-          let same : 0 ≡ length left - (length left + 0) = omega arith in
-          subst (λ m. StandsAt c from_properties m left) same (at_key left (λ n. let z = ap length n in omega arith) l (only_short left c l s));
+          subst (λ m. StandsAt c from_properties m left) (omega arith) (at_key left (λ n. let z = ap length n in omega arith) l (only_short left c l s));
     }
 
 pub stops_in : (canonical all keyed : Bool) (pods left place : List ℕ) (Then : ℕ → Type 0) (waiting behind surplus : ℕ) →
     Awaits canonical all pods Then waiting keyed left behind surplus → Stops canonical keyed left place 0 → Stops canonical all pods place behind
 stops_in canonical all keyed pods left place Then waiting behind surplus w q =
-    let a = w.room in
-    let b = q.room in
     record {
       differs = λ t c. q.differs t (w.kept c);
       room = omega arith;
@@ -160,8 +153,7 @@ stops_in canonical all keyed pods left place Then waiting behind surplus w q =
             stands = λ k x. w.stands k place (s.stands k x);
             room = omega arith;
             offset = λ k x.
-                let e : length pods - (length left + behind) + (length left - (length place + 0)) ≡ length pods - (length place + behind) = omega arith in
-                subst (λ m. StandsAt k (scope_of all) m pods) e (w.offset k (length left - (length place + 0)) (s.offset k x));
+                subst (λ m. StandsAt k (scope_of all) m pods) (omega arith) (w.offset k (length left - (length place + 0)) (s.offset k x));
           };
     }
 
@@ -253,9 +245,8 @@ wrong_array body k h t n = record {
   wrong = elim (cases_eq (word_at body 0) (body_size k)) [
     | inr e ↦ inl e
     | inl e ↦ inr (λ many l.
-        let d = length-drop 8 body in
-        let w : AreWhole (body_size k) (drop 8 body) = record { many = many; count = omega arith } in
-        let s = array_same_length body (drop 8 body) (record { header = h; its = record { kind = k; its_number = t; whole = w }; child_size = e; behind = refl }) in
+        let w : AreWhole (body_size k) (drop 8 body) = record { many = many; count = omega lengths } in
+        let s = array_same_length body (drop 8 body) (record { header = h; kind = k; child_size = e; child_type = t; whole = w; behind = refl }) in
         n s.value s.its_type s.its_body)
   ];
 }
@@ -269,13 +260,12 @@ no_elements body number len e f l h = of_elements refl h (λ k t. let a = f k (e
 pub wrong_choice : (body : List ℕ) (k : Kind) → choice_header_size ≤ length body → word_at body 12 ≡ type_number k → 0 < body_size k →
     (word_at body 8 ≢ body_size k) ⊎ ((length body - 16) % body_size k ≢ 0) → IsWrongSize choice_type body
 wrong_choice body k h t some w =
-    let d = length-drop 8 body in
     of_choice k refl some (record {
-      header = omega arith;
+      header = omega lengths;
       child_type = word_at-drop 8 4 body ∙ t;
       wrong = elim w [
         | inl n ↦ inl (λ e. n (sym (word_at-drop 8 0 body) ∙ e))
-        | inr n ↦ inr (λ many l. n (no_remainder (length body - 16) many (body_size k) some (omega arith)))
+        | inr n ↦ inr (λ many l. n (no_remainder (length body - 16) many (body_size k) some (omega lengths)))
       ];
     })
   where
@@ -300,8 +290,7 @@ few_values body k h w c t some m n =
       few = elim (cases_lt (length body) (16 + least_count s.0 * body_size k)) [
         | inl l ↦ l
         | inr l ↦
-            let room : least_count s.0 * body_size k ≤ many * body_size k = omega arith in
-            let v = values_there s.0 k many body h s.1 c t some all (fewer (least_count s.0) many (body_size k) room some) in
+            let v = values_there s.0 k many body h s.1 c t some all (fewer (least_count s.0) many (body_size k) (omega arith) some) in
             absurd (n (choice v.shape (kept_flags v.shape (word_at body 4)) v.kind v.default v.values) refl v.its_choice)
       ];
     }

@@ -1,5 +1,5 @@
 -- Refusals of the pod at the front, and what memory is asked for.
-use Rattle.std.proofs.Common.{◌≡◌, ℕ, ◌<◌, List, [], ◌++◌, append-nil, length, sym, ap, ◌∙◌, subst, arith, append_assoc}
+use Rattle.std.proofs.Common.{◌≡◌, ℕ, ◌<◌, List, ◌++◌, length, sym, ap, subst, arith}
 use Rattle.std.specs.Borrow.{Bor}
 use Rattle.spa_format.specs.Faults.{Stands}
 use Rattle.spa_format.specs.Front.{Begins, HasFront}
@@ -19,14 +19,11 @@ use Rattle.spa_rewrite.proofs.Accepted.{fault_front}
 use Rattle.spa_rewrite.proofs.Refusals.{front_refused}
 
 -- a list that isn't empty begins with a pod
-pub begins_with : (vs : Trees) (input first rest : List ℕ) → input ≡ first ++ rest → AreMembers vs first → 0 < length first → (v : Tree) × Begins input v
-begins_with no_trees input first rest e m l = absurd (let z = ap length m in omega arith)
-begins_with (member v vs) input first rest e m l =
-    let f = front_of_whole input m.0 (m.1 ++ rest) (type_of v) (IsBody v) (e ∙ ap (λ x. x ++ rest) m.2 ∙ append_assoc m.0 m.1 rest) m.3 in
-    (v, record { there = f.0; pod = subst (λ b. IsPod b v) f.1 m.3 })
-
 pub begins_all : (vs : Trees) (input : List ℕ) → AreMembers vs input → 0 < length input → (v : Tree) × Begins input v
-begins_all vs input m l = begins_with vs input input [] (sym (append-nil input)) m l
+begins_all no_trees input m l = absurd (let z = ap length m in omega arith)
+begins_all (member v vs) input m l =
+    let f = front_of_whole input m.0 m.1 (type_of v) (IsBody v) m.2 m.3 in
+    (v, record { there = f.0; pod = subst (λ b. IsPod b v) f.1 m.3 })
 
 -- accepted pods behind canonical ones begin with a pod, where they are some
 pub first_begins : (input first others : List ℕ) (changed : ℕ) → input ≡ first ++ others → AreCanonical first → AreChanged others changed →
@@ -42,24 +39,13 @@ pub lacks : (input : List ℕ) (place : Bor (List ℕ)) (why : Refusal) → why 
 lacks input place why w h a =
     subst (λ x. IsRefusal input (error_of place x)) (sym w) (record { refused = front_refused input place refusal.OutOfMemory h; asks = a })
 
--- a fault stands
-pub is_fault : (input : List ℕ) (place : Bor (List ℕ)) (why : Refusal) → Says (λ k. Stands k place.now input) ⊥ why →
-    IsRefusal input (error_of place why)
-is_fault input place refusal.Short s = record { refused = fault_front input place refusal.Short s; asks = tt }
-is_fault input place refusal.Text s = record { refused = fault_front input place refusal.Text s; asks = tt }
-is_fault input place refusal.InvalidType s = record { refused = fault_front input place refusal.InvalidType s; asks = tt }
-is_fault input place refusal.InvalidChoiceType s = record { refused = fault_front input place refusal.InvalidChoiceType s; asks = tt }
-is_fault input place refusal.MissingChoiceValues s = record { refused = fault_front input place refusal.MissingChoiceValues s; asks = tt }
-is_fault input place refusal.WrongSize s = record { refused = fault_front input place refusal.WrongSize s; asks = tt }
-is_fault input place refusal.OutOfMemory s = absurd s
-
 -- not for want of memory
 pub fault_memory : (input : List ℕ) (place : Bor (List ℕ)) (why : Refusal) (A : Type 0) → Says (λ k. Stands k place.now input) ⊥ why →
     OnMemory A (error_of place why)
-fault_memory input place refusal.Short A s = tt
-fault_memory input place refusal.Text A s = tt
-fault_memory input place refusal.InvalidType A s = tt
-fault_memory input place refusal.InvalidChoiceType A s = tt
-fault_memory input place refusal.MissingChoiceValues A s = tt
-fault_memory input place refusal.WrongSize A s = tt
 fault_memory input place refusal.OutOfMemory A s = absurd s
+fault_memory input place _ A s = tt
+
+-- a fault stands
+pub is_fault : (input : List ℕ) (place : Bor (List ℕ)) (why : Refusal) → Says (λ k. Stands k place.now input) ⊥ why →
+    IsRefusal input (error_of place why)
+is_fault input place why s = record { refused = fault_front input place why s; asks = fault_memory input place why (FrontAsksMemory input) s }

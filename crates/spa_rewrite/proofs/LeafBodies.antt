@@ -3,7 +3,7 @@ use Rattle.std.proofs.Common.{◌≡◌, ◌≢◌, ℕ, ◌<◌, inl, inr, List
 use Rattle.std.specs.Prelude.{◌⊎◌, Bool, true, false}
 use Rattle.spa_format.specs.Words.{header_size}
 use Rattle.spa_format.specs.Kind.{Fixed, Kind}
-use Rattle.spa_format.specs.Tree.{Tree, fixed, string, bytes, bitmap, array, choice, pointer, struct, object, Properties, no_properties, property, array_type, object_type, pointer_type, string_type, struct_type, type_of}
+use Rattle.spa_format.specs.Tree.{Tree, struct, object, Properties, no_properties, property, array_type, object_type, pointer_type, string_type, struct_type, type_of}
 use Rattle.spa_format.specs.Pod.{AreProperties, IsArray, IsBody}
 use Rattle.spa_format.proofs.Shapes.{array_only, pointer_only, string_only}
 use Rattle.spa_scan.specs.Canonical.{AreCanonicalProperties, IsCanonicalText}
@@ -25,13 +25,7 @@ some_key left s l a = of_properties a.values a.properties
 pub leaf_depth : (v : Tree) (body : List ℕ) → type_of v ≢ struct_type → (type_of v ≡ object_type → length body < header_size) → IsBody v body → depth_of v ≡ 0
 leaf_depth (struct vs) body n s b = absurd (n refl)
 leaf_depth (object t i ps) body n s b = absurd (let l = s refl in let r = b.0 in omega arith)
-leaf_depth (fixed x) body n s b = refl
-leaf_depth (string x) body n s b = refl
-leaf_depth (bytes x) body n s b = refl
-leaf_depth (bitmap x) body n s b = refl
-leaf_depth (array k xs) body n s b = refl
-leaf_depth (choice c f k x xs) body n s b = refl
-leaf_depth (pointer t a) body n s b = refl
+leaf_depth _ body n s b = refl
 
 -- what the bodies of each type hold
 pub text_of_body : (body : List ℕ) → IsShorterBody string_type body 0 → IsCanonicalText body

@@ -1,6 +1,6 @@
 -- How deep the pods nest that a look doesn't look into.
-use Rattle.std.proofs.Common.{ℕ, suc, zero, ◌<◌, ◌≤◌, inl, inr, List, length, drop, take, ap, ◌∙◌, subst, arith, length-drop}
-use Rattle.std.specs.Prelude.{Bool, true, false}
+use Rattle.std.proofs.Common.{ℕ, suc, zero, ◌<◌, ◌≤◌, inl, inr, List, length, drop, take, subst, arith}
+use Rattle.std.specs.Prelude.{Bool}
 use Rattle.std.proofs.lemmas.Bool.{cases_lt}
 use Rattle.std.proofs.lemmas.List.{length-take-le}
 use Rattle.spa_format.specs.Front.{HasFront, rest_of}
@@ -14,6 +14,8 @@ use Rattle.spa_events.proofs.Firsts.{behind_is}
 use Rattle.spa_scan.specs.Depth.{IsDeepBody, NestsDeeper, NestsDeeperInside, SomeOf, levels_looked_into}
 use Rattle.spa_scan.proofs.Deeper.{container, deep_input, deeper_than_fewer, first_or_behind, inside_deeper_than_fewer}
 use Rattle.spa_rewrite.specs.Look.{OpensInside}
+use Rattle.spa_rewrite.proofs.Offsets.{body_long}
+use Rattle.spa_rewrite.proofs.Lengths.{lengths}
 
 -- one behind the first of them nests so
 pub deep_behind : (n : ℕ) (keyed : Bool) (left here : List ℕ) → IsBehindKey keyed left here → HasFront here →
@@ -60,43 +62,32 @@ record SomeWithin (P : List ℕ → Type 0) (all : List ℕ) : Type 0 where
   its : P pod
 
 some_within : (fuel k : ℕ) (left : List ℕ) (P : List ℕ → Type 0) → length left ≤ fuel → SomeOf P (walk_behind k left) → SomeWithin P left
-some_within zero k left P f s = absurd (subst (SomeOf P) (walk_behind-end k left (omega arith)) s)
+some_within zero k left P f s = absurd (subst (SomeOf P) (walk_behind-end k left (omega lengths)) s)
 some_within (suc less) k left P f s = elim (cases_lt (length left) (extent_behind k left)) [
   | inl l ↦ absurd (subst (SomeOf P) (walk_behind-end k left l) s)
   | inr l ↦ elim (subst (SomeOf P) (walk_behind-there k left l) s) [
-    | inl p ↦ record { pod = take (extent_behind k left) left; within = (let t = length-take-le (extent_behind k left) left l in omega arith); its = p }
+    | inl p ↦ record { pod = take (extent_behind k left) left; within = (let t = length-take-le (extent_behind k left) left l in omega lengths); its = p }
     | inr r ↦
-        let d = length-drop (extent_behind k left) left in
-        let w = some_within less k (drop (extent_behind k left) left) P (omega arith) r in
-        let n = w.within in
-        record { pod = w.pod; within = omega arith; its = w.its }
+        let w = some_within less k (drop (extent_behind k left) left) P (omega lengths) r in
+        record { pod = w.pod; within = omega lengths; its = w.its }
   ]
 ]
 
 -- each level takes a header
 nests_long : (n : ℕ) (b : List ℕ) → NestsDeeper n b → n < length b
 unfolding NestsDeeper
-nests_long zero b d = let h = d.0.header in omega arith
+nests_long zero b d = let h = d.0.header in omega lengths
 nests_long (suc n) b d =
     let keyed = d.1 in
     let inside = d.2 in
-    let w = some_within (length inside) (key_size keyed) inside (λ p. NestsDeeper n (drop (key_size keyed) p)) (omega arith) d.4 in
+    let w = some_within (length inside) (key_size keyed) inside (λ p. NestsDeeper n (drop (key_size keyed) p)) (omega lengths) d.4 in
     let l = nests_long n (drop (key_size keyed) w.pod) w.its in
-    let l0 = length-drop (key_size keyed) w.pod in
-    let l1 = w.within in
-    let l2 = inside_within keyed inside d.3 in
+    let l2 = body_long (word_at b 4) (body_of b) inside keyed d.3 in
     let l3 = length-body_of b d.0 in
-    let l4 = d.0.whole in
-    omega arith
-  where
-    inside_within : (keyed : Bool) (inside : List ℕ) → IsInside (word_at b 4) (body_of b) keyed inside → length inside ≤ length (body_of b)
-    inside_within true inside i = let e = ap length i.2 ∙ length-drop 8 (body_of b) in omega arith
-    inside_within false inside i = let e = ap length i.1 in omega arith
+    omega lengths
 
 pub nested_long : (n : ℕ) (keyed : Bool) (left : List ℕ) → NestsDeeperInside n keyed left → n < length left
 nested_long n keyed left d =
-    let w = some_within (length left) (key_size keyed) left (λ p. NestsDeeper n (drop (key_size keyed) p)) (omega arith) d in
+    let w = some_within (length left) (key_size keyed) left (λ p. NestsDeeper n (drop (key_size keyed) p)) (omega lengths) d in
     let l = nests_long n (drop (key_size keyed) w.pod) w.its in
-    let l0 = length-drop (key_size keyed) w.pod in
-    let l1 = w.within in
-    omega arith
+    omega lengths

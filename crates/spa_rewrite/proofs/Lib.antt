@@ -26,3 +26,4 @@ pub mod Moved
 pub mod Lacking
 pub mod Begun
 pub mod Emitted
+pub mod Lengths

@@ -1,5 +1,5 @@
 -- A look at pods: what is passed, what is opened, and what waits.
-use Rattle.std.proofs.Common.{◌≡◌, ◌≢◌, ℕ, suc, ◌+◌, ◌-◌, ◌<◌, ◌≤◌, ◌%◌, inl, inr, List, [], ◌∷◌, ◌++◌, length, take, drop, reverse, refl, sym, ap, ◌∙◌, subst, arith, append_assoc, length-append, length-drop}
+use Rattle.std.proofs.Common.{◌≡◌, ◌≢◌, ℕ, suc, ◌+◌, ◌-◌, ◌<◌, ◌≤◌, ◌%◌, inl, inr, List, [], ◌∷◌, ◌++◌, length, take, drop, reverse, refl, sym, ap, ◌∙◌, subst, arith, append_assoc, length-drop}
 use Rattle.std.specs.Prelude.{Bool, true, false, get_or, replicate, set}
 use Rattle.std.proofs.lemmas.List.{append-nil, drop_at, length-take-le, reverse-append, take-append-drop, take_more, take_more_set}
 use Rattle.spa_format.specs.Words.{body_of, extent, header_size, padded_size, word_at}
@@ -9,7 +9,6 @@ use Rattle.spa_format.specs.Front.{HasFront, front_of, rest_of}
 use Rattle.spa_format.specs.Faults.{Fault, Stands, in_member, in_key, in_property}
 use Rattle.spa_format.specs.Typed.{IsBytes}
 use Rattle.spa_format.proofs.Fronts.{length-body_of}
-use Rattle.spa_format.proofs.Short.{padded_above}
 use Rattle.spa_format.proofs.Sequences.{props_joined}
 use Rattle.spa_format.proofs.WordLemmas.{IsBytes-drop, word_at-append}
 use Rattle.spa_bytes.specs.Opening.{Opens}
@@ -30,6 +29,7 @@ use Rattle.spa_rewrite.proofs.Offsets.{body_long, key_long, offset_behind, offse
 use Rattle.spa_rewrite.proofs.ShorterLemmas.{shorter_inside, shorter_none, shorter_opened, shorter_room, shorter_step, whole_keyed, whole_list}
 use Rattle.spa_rewrite.proofs.Levels.{as_deep_inside, deep_behind, deep_inside}
 use Rattle.spa_rewrite.proofs.Rewritten.{parted}
+use Rattle.spa_rewrite.proofs.Lengths.{lengths}
 
 -- a canonical pod in front of others
 own_step : (keyed : Bool) (left here rest : List ℕ) → IsBytes left → IsBehindKey keyed left here → BeginsCanonical here rest →
@@ -65,11 +65,10 @@ first_property left here rest v k b =
     let long : length head ≡ 8 = length-take-le 8 left k.0 in
     let whole : left ≡ first ++ rest =
     sym (take-append-drop 8 left) ∙ ap (λ y. head ++ y) (sym k.1 ∙ parted here v rest b) ∙ sym (append_assoc head front rest) in
-    let size = length-append head front in
-    let w0 : word_at left 0 ≡ word_at first 0 = ap (λ y. word_at y 0) whole ∙ word_at-append first rest 0 (omega arith) in
-    let w4 : word_at left 4 ≡ word_at first 4 = ap (λ y. word_at y 4) whole ∙ word_at-append first rest 4 (omega arith) in
+    let w0 : word_at left 0 ≡ word_at first 0 = ap (λ y. word_at y 0) whole ∙ word_at-append first rest 0 (omega lengths) in
+    let w4 : word_at left 4 ≡ word_at first 4 = ap (λ y. word_at y 4) whole ∙ word_at-append first rest 4 (omega lengths) in
     let value : drop 8 first ≡ front ++ [] = drop_at head front 8 long ∙ sym (append-nil front) in
-    let enough : 8 ≤ length first = omega arith in
+    let enough : 8 ≤ length first = omega lengths in
     record { first = first; parts = whole; its = (enough, w0, w4, front, [], value, b.begins.pod, refl) }
 
 -- a fault behind an accepted pod
@@ -145,7 +144,7 @@ no_behind_key false left here e l k = let t : false ≡ true = e in cc
 -- none is passed
 pub passes_none : (keyed canonical : Bool) (left : List ℕ) → IsBytes left → Passes keyed canonical left left 0
 passes_none keyed canonical left h = record {
-  fits = λ m s. subst (Fits canonical keyed left) (let e : m ≡ 0 + m = omega arith in e) s;
+  fits = λ m s. subst (Fits canonical keyed left) (omega arith) s;
   kept = λ c. c;
   stands = λ k place s. s;
   offset = λ k m s. (let e : m ≡ length left - length left + m = omega arith in subst (λ m. StandsAt k (scope_of keyed) m left) e s);
@@ -158,15 +157,12 @@ passes_none keyed canonical left h = record {
 pub passes_more : (keyed canonical : Bool) (pods left rest : List ℕ) (n m : ℕ) → Passes keyed canonical pods left n → Passes keyed canonical left rest m →
     Passes keyed canonical pods rest (n + m)
 passes_more keyed canonical pods left rest n m p q =
-    let a = p.room in
-    let b = q.room in
     record {
-      fits = λ k s. subst (Fits canonical keyed pods) (let e : n + (m + k) ≡ n + m + k = omega arith in e) (p.fits (m + k) (q.fits k s));
+      fits = λ k s. subst (Fits canonical keyed pods) (omega arith) (p.fits (m + k) (q.fits k s));
       kept = λ c. q.kept (p.kept c);
       stands = λ k place s. p.stands k place (q.stands k place s);
       offset = λ k at s.
-          let e : length pods - length left + (length left - length rest + at) ≡ length pods - length rest + at = omega arith in
-          subst (λ m'. StandsAt k (scope_of keyed) m' pods) e (p.offset k (length left - length rest + at) (q.offset k at s));
+          subst (λ m'. StandsAt k (scope_of keyed) m' pods) (omega arith) (p.offset k (length left - length rest + at) (q.offset k at s));
       deep = λ n d. p.deep n (q.deep n d);
       bytes = q.bytes;
       room = omega arith;
@@ -227,12 +223,12 @@ AwaitsAll canonical all pods outer = Awaits canonical all pods (Onward canonical
 pub begins_look : (canonical all : Bool) (pods : List ℕ) → IsBytes pods → AwaitsAll canonical all pods [] all pods 0 0
 begins_look canonical all pods h = record {
   bytes = h;
-  ends = λ m s. subst (Fits canonical all pods) (let e : m ≡ 0 + m = omega arith in e) s;
+  ends = λ m s. subst (Fits canonical all pods) (omega arith) s;
   kept = λ c. c;
   stands = λ k place s. s;
   room = omega arith;
   offset = λ k n s. (let e : n ≡ length pods - (length pods + 0) + n = omega arith in subst (λ m. StandsAt k (scope_of all) m pods) e s);
-  deep = λ n d. subst (λ x. NestsDeeperInside x all pods) (let e : n ≡ n + 0 = omega arith in e) d;
+  deep = λ n d. subst (λ x. NestsDeeperInside x all pods) (omega arith) d;
 }
 
 -- pods are passed
@@ -241,15 +237,12 @@ pub goes_on : (canonical all keyed : Bool) (pods left rest : List ℕ) (Then : �
     Awaits canonical all pods Then waiting keyed rest behind (surplus + n)
 goes_on canonical all keyed pods left rest Then waiting behind surplus n w p = record {
   bytes = p.bytes;
-  ends = λ m s. subst Then (let e : surplus + (n + m) ≡ surplus + n + m = omega arith in e) (w.ends (n + m) (p.fits m s));
+  ends = λ m s. subst Then (omega arith) (w.ends (n + m) (p.fits m s));
   kept = λ c. p.kept (w.kept c);
   stands = λ k place s. w.stands k place (p.stands k place s);
   room = (let a = w.room in let b = p.room in omega arith);
   offset = λ k at s.
-      let a = w.room in
-      let b = p.room in
-      let e : length pods - (length left + behind) + (length left - length rest + at) ≡ length pods - (length rest + behind) + at = omega arith in
-      subst (λ m. StandsAt k (scope_of all) m pods) e (w.offset k (length left - length rest + at) (p.offset k at s));
+      subst (λ m. StandsAt k (scope_of all) m pods) (omega arith) (w.offset k (length left - length rest + at) (p.offset k at s));
   deep = λ m s. w.deep m (p.deep m s);
 }
 
@@ -262,7 +255,6 @@ body_whole : (type : ℕ) (body inside : List ℕ) (inner : Bool) → IsInside t
 body_whole type body inside true i c =
     let w = whole_keyed c.values inside c.properties in
     let e = ap length i.2 ∙ length-drop 8 body in
-    let l = i.1 in
     omega arith
 body_whole type body inside false i c = let w = whole_list c.values inside c.members in let e = ap length i.1 in omega arith
 
@@ -316,10 +308,8 @@ goes_inside canonical all keyed inner pods left inside rest Then waiting more be
       stands = λ f place s. w.stands f place (stands_first keyed left at f place x.its_key some (stands_opened x.type at x.body rest inside inner f place o i s));
       room = (let a = w.room in omega arith);
       offset = λ f n s.
-          let a = w.room in
           let head = header_size + (key_size inner + n) in
-          let e : length pods - (length left + behind) + (key_size keyed + head) ≡ length pods - (length inside + (behind + after)) + n = omega arith in
-          subst (λ m. StandsAt f (scope_of all) m pods) e
+          subst (λ m. StandsAt f (scope_of all) m pods) (omega arith)
           (w.offset f (key_size keyed + head) (offset_first keyed left at f head some x.its_key (offset_opened x.type at x.body rest inside inner f n o i s)));
       deep = deeper;
     }
@@ -330,7 +320,7 @@ pub goes_in : (canonical all keyed inner : Bool) (pods left inside rest : List �
     Awaits canonical all pods (Awaits canonical all pods Then waiting keyed rest behind) (suc waiting) inner inside (behind + after) surplus
 goes_in canonical all keyed inner pods left inside rest Then waiting behind after surplus w x long =
     goes_inside canonical all keyed inner pods left inside rest Then waiting (suc waiting) behind after surplus w x long (λ n d.
-    subst (λ m. NestsDeeperInside m all pods) (let e : suc n + waiting ≡ n + suc waiting = omega arith in e) (w.deep (suc n) (deep_inside n keyed inner left inside rest x d)))
+    subst (λ m. NestsDeeperInside m all pods) (omega arith) (w.deep (suc n) (deep_inside n keyed inner left inside rest x d)))
 
 pub none_own : (keyed : Bool) (left : List ℕ) → length left ≡ 0 → AreCanonicalInside keyed left
 none_own true left z = none_left_either left z
@@ -342,8 +332,7 @@ none_fits canonical keyed left z = record { shorter = shorter_none keyed left z;
 -- the innermost list has ended
 pub list_ends : (canonical all keyed : Bool) (pods left : List ℕ) (Then : ℕ → Type 0) (waiting behind surplus : ℕ) →
     Awaits canonical all pods Then waiting keyed left behind surplus → length left ≡ 0 → Then surplus
-list_ends canonical all keyed pods left Then waiting behind surplus w z =
-    subst Then (let e : surplus + 0 ≡ surplus = omega arith in e) (w.ends 0 (none_fits canonical keyed left z))
+list_ends canonical all keyed pods left Then waiting behind surplus w z = subst Then (omega arith) (w.ends 0 (none_fits canonical keyed left z))
 
 -- nothing follows the struct or object, and nothing more waits
 pub goes_in_last : (canonical all keyed inner : Bool) (pods left inside rest : List ℕ) (Then : ℕ → Type 0) (waiting behind after surplus : ℕ) →
@@ -388,7 +377,6 @@ opened_shorter keyed inner left inside rest x =
     let b = ap length o.its_body ∙ length-body_of at o.there in
     let c = behind_shorter keyed left at x.its_key in
     let d = inside_shorter inner x.its_inside in
-    let w = o.there.whole in
     omega arith
   where
     inside_shorter : (inner : Bool) → IsInside x.type x.body inner inside → length inside ≤ length x.body
@@ -406,22 +394,16 @@ pub surround : (keyed inner : Bool) (left at body rest inside : List ℕ) (type 
 surround keyed inner left at body rest inside type after k o i e =
     let a = key_long keyed left at k in
     let b = body_long type body inside inner i in
-    let c = ap length o.its_body ∙ length-body_of at o.there in
-    let d = padded_above (word_at at 0) in
-    let w = o.there.whole in
     omega arith
 
 -- first pods were passed, and nothing is left
 pub passed_all : (canonical keyed : Bool) (pods left : List ℕ) (n : ℕ) → Passes keyed canonical pods left n → length left ≡ 0 → Fits canonical keyed pods n
-passed_all canonical keyed pods left n p z =
-    subst (Fits canonical keyed pods) (let e : n + 0 ≡ n = omega arith in e) (p.fits 0 (none_fits canonical keyed left z))
+passed_all canonical keyed pods left n p z = subst (Fits canonical keyed pods) (omega arith) (p.fits 0 (none_fits canonical keyed left z))
 
 -- what is found behind these
 pub stops_behind : (canonical keyed : Bool) (pods left place : List ℕ) (behind n : ℕ) → Passes keyed canonical pods left n →
     Stops canonical keyed left place behind → Stops canonical keyed pods place behind
 stops_behind canonical keyed pods left place behind n p w =
-    let a = p.room in
-    let b = w.room in
     record {
       differs = λ t c. w.differs t (p.kept c);
       room = omega arith;
@@ -433,7 +415,6 @@ stops_behind canonical keyed pods left place behind n p w =
             stands = λ k x. p.stands k place (s.stands k x);
             room = omega arith;
             offset = λ k x.
-                let e : length pods - length left + (length left - (length place + behind)) ≡ length pods - (length place + behind) = omega arith in
-                subst (λ m. StandsAt k (scope_of keyed) m pods) e (p.offset k (length left - (length place + behind)) (s.offset k x));
+                subst (λ m. StandsAt k (scope_of keyed) m pods) (omega arith) (p.offset k (length left - (length place + behind)) (s.offset k x));
           };
     }

@@ -1,14 +1,15 @@
 -- Pods that are replaced by their encodings, and canonical ones behind them, which are moved.
-use Rattle.std.proofs.Common.{◌≡◌, ◌≤◌, ℕ, ◌+◌, ◌-◌, List, [], ◌++◌, length, take, drop, sym, ap, ◌∙◌, subst, arith, length-drop}
+use Rattle.std.proofs.Common.{false, ◌≡◌, ◌≤◌, ℕ, ◌+◌, ◌-◌, List, [], ◌++◌, length, take, drop, sym, ap, ◌∙◌, subst, arith, length-drop}
 use Rattle.std.proofs.lemmas.List.{drop_at, length-take-le, take-append-drop, take-append-le, take_all, take_at}
-use Rattle.spa_rewrite.specs.Emit.{EncodesAll}
+use Rattle.spa_rewrite.specs.Emit.{ArePlaced, Encodes}
 use Rattle.spa_rewrite.specs.Look.{AreChanged}
 use Rattle.spa_rewrite.specs.Rewriting.{AreRewritten}
 use Rattle.spa_rewrite.proofs.Stretches.{both_rewritten, canonical_rewritten}
 use Rattle.spa_rewrite.proofs.Written.{take_past}
+use Rattle.spa_rewrite.proofs.Lengths.{lengths}
 
 -- the canonical pods behind those that are replaced are moved down to the encodings of these
-pub others_replaced : (pods sub new : List ℕ) (changed len : ℕ) → AreChanged pods changed → EncodesAll (take changed pods) sub len →
+pub others_replaced : (pods sub new : List ℕ) (changed len : ℕ) → AreChanged pods changed → Encodes (ArePlaced false) (take changed pods) sub len →
     take (len + (length pods - changed)) new ≡ take len sub ++ drop changed pods → AreRewritten pods [] (take (len + (length pods - changed)) new)
 others_replaced pods sub new changed len h e n =
     let first = take changed pods in
@@ -22,8 +23,7 @@ pub last_moved : (pods sub now new : List ℕ) (k len m : ℕ) → k ≤ length 
     m ≡ length pods - k → now ≡ sub ++ drop k pods → new ≡ take len now ++ (take m (drop k now) ++ drop (len + m) now) →
     take (len + (length pods - k)) new ≡ take len sub ++ drop k pods
 last_moved pods sub now new k len m w y b me e n =
-    let first_long = length-take-le k pods w in
-    let last : drop k now ≡ drop k pods = ap (drop k) e ∙ drop_at sub (drop k pods) k (y ∙ first_long) in
+    let last : drop k now ≡ drop k pods = ap (drop k) e ∙ drop_at sub (drop k pods) k (y ∙ (omega lengths)) in
     let front : take len now ≡ take len sub = ap (take len) e ∙ take-append-le len sub (drop k pods) (omega arith) in
     let many : length (take len now) ≡ len = ap length front ∙ length-take-le len sub (omega arith) in
     let rest = length-drop k pods in

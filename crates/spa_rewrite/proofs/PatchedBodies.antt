@@ -1,5 +1,5 @@
 -- Pods without members that become their rewritings where they lie.
-use Rattle.std.proofs.Common.{◌≡◌, ◌≢◌, ℕ, ◌+◌, ◌-◌, ◌*◌, ◌%◌, ◌<◌, ◌≤◌, inl, inr, List, [], ◌∷◌, ◌++◌, length, drop, take, refl, sym, ap, ◌∙◌, subst, arith, append_assoc, length-append, length-drop}
+use Rattle.std.proofs.Common.{◌≡◌, ◌≢◌, ℕ, ◌+◌, ◌-◌, ◌%◌, ◌<◌, ◌≤◌, inl, inr, List, [], ◌∷◌, ◌++◌, length, drop, take, refl, sym, ap, ◌∙◌, subst, arith, append_assoc, length-append, length-drop}
 use Rattle.std.specs.Prelude.{Bool, replicate}
 use Rattle.std.proofs.Math.Seq.{take-add}
 use Rattle.std.proofs.lemmas.Bool.{cases_lt}
@@ -15,19 +15,18 @@ use Rattle.spa_format.specs.Encoding.{array_body, encoded_body, encoding_of, fix
 use Rattle.spa_format.specs.Typed.{IsBytes}
 use Rattle.spa_format.proofs.Choices.{same_pointer}
 use Rattle.spa_format.proofs.Elements.{array_length, length_of_elements, same_elements}
-use Rattle.spa_format.proofs.Encodings.{length-word_bytes, pointer_encoding}
+use Rattle.spa_format.proofs.Encodings.{pointer_encoding}
 use Rattle.spa_format.proofs.FixedKinds.{fixed_length, same_kind}
 use Rattle.spa_format.proofs.Shapes.{array_only, choice_only, fixed_only, pointer_only}
-use Rattle.spa_format.proofs.Short.{padded_above}
 use Rattle.spa_format.proofs.WordLemmas.{IsBytes-drop, IsBytes-take, wide_at-drop, word_at-drop, word_at-take}
 use Rattle.spa_scan.proofs.Words.{content_kept}
 use Rattle.spa_scan.specs.Canonical.{AreCanonicalElements, bytes_taken}
 use Rattle.spa_scan.proofs.Parts.{no_elements, whole_elements}
 use Rattle.spa_rewrite.specs.Elements.{AreTruths}
-use Rattle.spa_rewrite.specs.Patched.{IsPatched, IsPodOf, TurnsWritten}
-use Rattle.spa_rewrite.specs.Placed.{TakesValues}
+use Rattle.spa_rewrite.specs.Emit.{IsPatched, IsPodOf, TakesValues, TurnsWritten}
 use Rattle.spa_rewrite.proofs.Bodies.{choice_parts, enough_bytes, taken_elements}
-use Rattle.spa_rewrite.proofs.Patches.{behind_bytes, pod_again, front_bytes, length_put, says_body, two_words_of}
+use Rattle.spa_rewrite.proofs.Patches.{behind_bytes, pod_again, front_bytes, says_body, two_words_of}
+use Rattle.spa_rewrite.proofs.Lengths.{lengths}
 
 -- types whose bodies are written as they lie
 pub record IsUnpatchedType (type : ℕ) : Type 0 where
@@ -39,8 +38,7 @@ pub record IsUnpatchedType (type : ℕ) : Type 0 where
   pub no_choice : type ≢ choice_type
 
 as_it_lies : (v : Tree) (b : List ℕ) → IsBytes b → IsBody v b → IsUnpatchedType (type_of v) → b ≡ encoded_body v
-as_it_lies (fixed x) b h w p =
-    content_kept (kind_of x) b h w.whole (λ e. absurd (p.no_bool (ap type_number e))) ∙ ap fixed_body (sym w.says)
+as_it_lies (fixed x) b h w p = content_kept (kind_of x) b h w.whole (λ e. absurd (p.no_bool (ap type_number e))) ∙ ap fixed_body (sym w.says)
 as_it_lies (string s) b h w p = w.1
 as_it_lies (bytes s) b h w p = w
 as_it_lies (bitmap s) b h w p = w
@@ -54,19 +52,15 @@ as_it_lies (object t i ps) b h w p = absurd (p.no_object refl)
 cleared : (pod : List ℕ) (type size : ℕ) → IsPodOf pod type size →
     take (8 + size) pod ++ replicate (length pod - (8 + size)) 0 ≡ take 8 pod ++ (take size (drop 8 pod) ++ padding size)
 cleared pod type size p =
-    let l = p.long in
-    let n : length pod - (8 + size) ≡ padded_size size - size = omega arith in
     ap (λ x. x ++ replicate (length pod - (8 + size)) 0) (take-add 8 size pod)
     ∙ append_assoc (take 8 pod) (take size (drop 8 pod)) (replicate (length pod - (8 + size)) 0)
-    ∙ ap (λ m. take 8 pod ++ (take size (drop 8 pod) ++ replicate m 0)) n
+    ∙ ap (λ m. take 8 pod ++ (take size (drop 8 pod) ++ replicate m 0)) (omega arith)
 
 pub unpatched_body : (pod new : List ℕ) (type size : ℕ) → IsBytes new → IsPodOf pod type size → IsUnpatchedType type →
     new ≡ take (8 + size) pod ++ replicate (length pod - (8 + size)) 0 → IsPatched pod new
 unpatched_body pod new type size h p k e = λ v w long.
     let b = says_body pod type size v p w in
     let body = take size (drop 8 pod) in
-    let l = p.long in
-    let u = padded_above size in
     let front : IsBytes (take (8 + size) pod) =
     subst IsBytes (ap (take (8 + size)) e ∙ take_at (take (8 + size) pod) (replicate (length pod - (8 + size)) 0) (8 + size) (length-take-le (8 + size) pod (omega arith)))
     (IsBytes-take (8 + size) new h) in
@@ -89,7 +83,6 @@ bool_patched pod y word t size k h p four w c a d eight = λ v pd long.
     let pad : replicate 4 0 ≡ padding size = ap padding (sym four) in
     let bytes : y ≡ fixed_body (bool t) ++ padding size =
     sym (take-append-drop 4 y) ∙ ap (λ x. x ++ drop 4 y) a ∙ ap (λ x. fixed_body (bool t) ++ x) (d ∙ pad) in
-    let l = p.long in
     let none : drop k (drop 8 pod) ≡ [] = nil_from_length _ (length-drop k (drop 8 pod) ∙ (let e = length-drop 8 pod in omega arith)) in
     let front : IsBytes (take 8 pod) =
     subst IsBytes (take-put_mid_below 8 k pod y 8 (omega arith) (omega arith)) (IsBytes-take 8 (put_mid 8 k pod y) h) in
@@ -111,17 +104,10 @@ pointer_patched pod first last body t a size k n p z b i f e l eight = λ v w lo
     let its : IsPointer o.0 o.1 (take size (drop 8 pod)) = subst (λ x. IsBody x (take size (drop 8 pod))) o.2 s.its_body in
     let here : body ≡ take size (drop 8 pod) = b ∙ ap (λ m. take m (drop 8 pod)) z in
     let is : pointer t a ≡ v = same_pointer t o.0 a o.1 body i (subst (IsPointer o.0 o.1) (sym here) its) ∙ sym o.2 in
-    let l0 = length-append (word_bytes 16) (word_bytes pointer_type) in
-    let l1 = length-append (word_bytes t) (word_bytes 0) in
     let l2 = ap length f ∙ length-append (word_bytes 16 ++ word_bytes pointer_type) (word_bytes t ++ word_bytes 0) in
-    let l3 = length-word_bytes 16 in
-    let l4 = length-word_bytes pointer_type in
-    let l5 = length-word_bytes t in
-    let l6 = length-word_bytes 0 in
-    let many : length first ≡ 16 = omega arith in
-    let front : take 16 (first ++ drop 16 pod) ≡ first = take_at first (drop 16 pod) 16 many in
+    let front : take 16 (first ++ drop 16 pod) ≡ first = take_at first (drop 16 pod) 16 (omega lengths) in
     let none : drop n (drop 16 (first ++ drop 16 pod)) ≡ [] =
-    ap (drop n) (drop_at first (drop 16 pod) 16 many) ∙ nil_from_length _ (length-drop n (drop 16 pod) ∙ (let d = length-drop 16 pod in omega arith)) in
+    ap (drop n) (drop_at first (drop 16 pod) 16 (omega lengths)) ∙ nil_from_length _ (length-drop n (drop 16 pod) ∙ (let d = length-drop 16 pod in omega lengths)) in
     let words = word_bytes 16 ++ word_bytes pointer_type in
     ap (λ x. x ++ (last ++ drop n (drop 16 (first ++ drop 16 pod)))) (front ∙ f)
     ∙ ap (λ x. (words ++ (word_bytes t ++ word_bytes 0)) ++ (last ++ x)) none
@@ -131,13 +117,10 @@ pointer_patched pod first last body t a size k n p z b i f e l eight = λ v w lo
 pub pointer_pod : (pod body : List ℕ) (t a size k : ℕ) → IsPodOf pod pointer_type size → k ≡ size → body ≡ take k (drop 8 pod) →
     IsPointer t a body → length pod ≡ 24
 pointer_pod pod body t a size k p z b i =
-    let l = p.long in
-    let u = padded_above size in
-    let d = length-drop 8 pod in
-    let n = ap length b ∙ length-take-le k (drop 8 pod) (omega arith) in
+    let n = ap length b ∙ length-take-le k (drop 8 pod) (omega lengths) in
     elim i.1 [
-      | inl x ↦ (let y = x.0 in omega arith)
-      | inr x ↦ (let y = x.0 in omega arith)
+      | inl x ↦ (let y = x.0 in omega lengths)
+      | inr x ↦ (let y = x.0 in omega lengths)
     ]
 
 -- elements
@@ -172,22 +155,17 @@ array_patched pod els new number size k h p big z w t len e = λ v pd long.
     let o = array_only v b.its_type in
     let body = take size (drop 8 pod) in
     let its : IsArray o.0 o.1 body = subst (λ x. IsBody x body) o.2 b.its_body in
-    let g = p.long in
-    let u = padded_above size in
-    let n : size ≡ 8 + k = omega arith in
-    let d16 = length-drop 16 pod in
-    let l : length els ≡ k = len ∙ length-take-le k (drop 16 pod) (omega arith) in
-    let same = length_put 16 k pod els (omega arith) l in
+    let l : length els ≡ k = len ∙ length-take-le k (drop 16 pod) (omega lengths) in
     let inside : drop 8 body ≡ take k (drop 16 pod) =
-    ap (λ m. drop 8 (take m (drop 8 pod))) n ∙ drop-take 8 k (drop 8 pod) ∙ ap (take k) (drop-drop 8 8 pod) in
+    ap (λ m. drop 8 (take m (drop 8 pod))) (omega lengths) ∙ drop-take 8 k (drop 8 pod) ∙ ap (take k) (drop-drop 8 8 pod) in
     let type : number ≡ type_number o.0 =
-    w ∙ sym (word_at-drop 8 4 pod) ∙ sym (word_at-take size 4 (drop 8 pod) (omega arith)) ∙ its.child_type in
+    w ∙ sym (word_at-drop 8 4 pod) ∙ sym (word_at-take size 4 (drop 8 pod) (omega lengths)) ∙ its.child_type in
     let written : els ≡ fixed_bodies o.1 = t o.0 o.1 type (subst (AreElements o.0 o.1) inside its.elements) in
-    let kept : take (8 + size) (put_mid 16 k pod els) ≡ take 16 pod ++ els = take-put_mid 16 k pod els (8 + size) (omega arith) (omega arith) in
+    let kept : take (8 + size) (put_mid 16 k pod els) ≡ take 16 pod ++ els = take-put_mid 16 k pod els (8 + size) (omega lengths) (omega lengths) in
     let rest : List ℕ = replicate (length (put_mid 16 k pod els) - (8 + size)) 0 in
     let first : take 16 new ≡ take 16 pod =
     ap (take 16) (e ∙ ap (λ x. x ++ rest) kept ∙ append_assoc (take 16 pod) els rest)
-    ∙ take_at (take 16 pod) (els ++ rest) 16 (length-take-le 16 pod (omega arith)) in
+    ∙ take_at (take 16 pod) (els ++ rest) 16 (length-take-le 16 pod (omega lengths)) in
     let sixteen : IsBytes (take 16 pod) = subst IsBytes first (IsBytes-take 16 new h) in
     let inner : take 8 (drop 8 pod) ≡ take 8 body = sym (take-take 8 size (drop 8 pod) big) in
     let bytes : IsBytes (take 8 body) = subst IsBytes inner (behind_bytes 8 8 16 pod refl sixteen) in
@@ -197,11 +175,9 @@ array_patched pod els new number size k h p big z w t len e = λ v pd long.
     let front : take 16 pod ≡ take 8 pod ++ take 8 body =
     take-add 8 8 pod ∙ ap (λ x. take 8 pod ++ x) inner in
     let zeros : replicate (length (put_mid 16 k pod els) - (8 + size)) 0 ≡ padding size =
-    ap (λ m. replicate m 0) (let m : length (put_mid 16 k pod els) - (8 + size) ≡ padded_size size - size = omega arith in m) in
+    ap (λ m. replicate m 0) (omega lengths) in
     let x = array_body o.0 o.1 in
-    let y = array_length o.0 o.1 in
     let m = ap length written in
-    let size_is : length x ≡ size = omega arith in
     let all : take 8 body ++ els ≡ x =
     ap (λ q. q ++ els) words ∙ append_assoc (word_bytes (body_size o.0)) (word_bytes (type_number o.0)) els
     ∙ ap (λ q. word_bytes (body_size o.0) ++ (word_bytes (type_number o.0) ++ q)) written in
@@ -209,7 +185,7 @@ array_patched pod els new number size k h p big z w t len e = λ v pd long.
     ∙ ap (λ q. ((take 8 pod ++ take 8 body) ++ els) ++ q) zeros
     ∙ array_parts (take 8 pod) (take 8 body) els (padding size)
     ∙ ap (λ q. take 8 pod ++ (q ++ padding size)) all
-    ∙ pod_again pod x array_type size (front_bytes 8 16 pod (omega arith) sixteen) p size_is ∙ ap encoding_of (sym o.2)
+    ∙ pod_again pod x array_type size (front_bytes 8 16 pod (omega lengths) sixteen) p (omega lengths) ∙ ap encoding_of (sym o.2)
   where
     array_parts : (a b c d : List ℕ) → ((a ++ b) ++ c) ++ d ≡ a ++ ((b ++ c) ++ d)
     array_parts a b c d = simp append_assoc
@@ -231,26 +207,21 @@ values_placed old first els new number n k shape flags h w20 kept fe kn t len e 
     let j = o.2 in
     let its : IsChoice s o.1 j o.3 o.4 body = subst (λ x. IsBody x body) o.5 b.its_body in
     let inside : drop 8 body ≡ take (size - 8) (drop 16 pod) =
-    ap (λ m. drop 8 (take m (drop 8 pod))) (let m : size ≡ 8 + (size - 8) = omega arith in m) ∙ drop-take 8 (size - 8) (drop 8 pod)
+    ap (λ m. drop 8 (take m (drop 8 pod))) (omega lengths) ∙ drop-take 8 (size - 8) (drop 8 pod)
     ∙ ap (take (size - 8)) (drop-drop 8 8 pod) in
     let values : drop 8 (drop 8 body) ≡ take (size - 16) (drop 24 pod) =
-    ap (drop 8) inside ∙ ap (λ m. drop 8 (take m (drop 16 pod))) (let m : size - 8 ≡ 8 + (size - 16) = omega arith in m)
+    ap (drop 8) inside ∙ ap (λ m. drop 8 (take m (drop 16 pod))) (omega lengths)
     ∙ drop-take 8 (size - 16) (drop 16 pod) ∙ ap (take (size - 16)) (drop-drop 8 16 pod) in
-    let g = p.long in
-    let u = padded_above size in
-    let u' = padded_above (16 + n) in
-    let lo = ap length is ∙ length-take-le end pod (omega arith) in
+    let lo = ap length is ∙ length-take-le end pod (omega lengths) in
     let low = λ (i : ℕ) (r : i + 4 ≤ end). ap (λ x. word_at x i) is ∙ word_at-take end i pod r in
     let at = λ (i : ℕ) (r : i + 4 ≤ size). word_at-take size i (drop 8 pod) r ∙ word_at-drop 8 i pod in
     let inner = λ (i : ℕ) (r : i + 4 ≤ size - 8). ap (λ x. word_at x i) inside ∙ word_at-take (size - 8) i (drop 16 pod) r ∙ word_at-drop 16 i pod in
-    let shape_is : shape ≡ shape_number s = w8 ∙ sym (at 0 (omega arith)) ∙ its.shape in
-    let flags_is : flags ≡ o.1 = kept s shape_is ∙ ap (kept_flags s) (low 12 (omega arith) ∙ sym (at 4 (omega arith))) ∙ sym its.flags in
-    let child_is : word_at pod 16 ≡ body_size j = sym (inner 0 (omega arith)) ∙ its.values.child_size in
-    let number_is : number ≡ type_number j = w20 ∙ low 20 (omega arith) ∙ sym (inner 4 (omega arith)) ∙ its.values.child_type in
-    let d24 = length-drop 24 pod in
-    let d16 = length-drop 16 old in
+    let shape_is : shape ≡ shape_number s = w8 ∙ sym (at 0 (omega lengths)) ∙ its.shape in
+    let flags_is : flags ≡ o.1 = kept s shape_is ∙ ap (kept_flags s) (low 12 (omega lengths) ∙ sym (at 4 (omega lengths))) ∙ sym its.flags in
+    let child_is : word_at pod 16 ≡ body_size j = sym (inner 0 (omega lengths)) ∙ its.values.child_size in
+    let number_is : number ≡ type_number j = w20 ∙ low 20 (omega lengths) ∙ sym (inner 4 (omega lengths)) ∙ its.values.child_type in
     let c = take (size - 16) (drop 24 pod) in
-    let many : length c ≡ size - 16 = length-take-le (size - 16) (drop 24 pod) (omega arith) in
+    let many : length c ≡ size - 16 = length-take-le (size - 16) (drop 24 pod) (omega lengths) in
     let n_is : n ≡ bytes_taken s (body_size j) (length c) =
     taken s shape_is ∙ ap (λ m. bytes_taken s m (size - 16)) child_is ∙ ap (bytes_taken s (body_size j)) (sym many) in
     let xs = o.3 ∷ o.4 in
@@ -258,53 +229,38 @@ values_placed old first els new number n k shape flags h w20 kept fe kn t len e 
     subst (λ m. AreElements j xs (take m c)) (sym n_is)
     (subst (λ y. AreElements j (o.3 ∷ y) (take (bytes_taken s (body_size j) (length c)) c)) (sym its.first)
     (taken_elements s j o.3 its.all c (subst (AreElements j (o.3 ∷ its.all)) values its.values.elements))) in
-    let m0 = length-append (word_bytes (16 + n)) (word_bytes choice_type) in
-    let m1 = length-append (word_bytes shape) (word_bytes flags) in
     let m2 = ap length fe ∙ length-append (word_bytes (16 + n) ++ word_bytes choice_type) (word_bytes shape ++ word_bytes flags) in
-    let m3 = length-word_bytes (16 + n) in
-    let m4 = length-word_bytes choice_type in
-    let m5 = length-word_bytes shape in
-    let m6 = length-word_bytes flags in
-    let sixteen : length first ≡ 16 = omega arith in
+    let sixteen : length first ≡ 16 = omega lengths in
     let part = first ++ drop 16 old in
     let behind : drop 24 part ≡ take (end - 24) (drop 24 pod) =
     sym (drop-drop 8 16 part) ∙ ap (drop 8) (drop_at first (drop 16 old) 16 sixteen) ∙ drop-drop 8 16 old
-    ∙ ap (drop 24) (is ∙ ap (λ m. take m pod) (let m : end ≡ 24 + (end - 24) = omega arith in m)) ∙ drop-take 24 (end - 24) pod in
+    ∙ ap (drop 24) (is ∙ ap (λ m. take m pod) (omega lengths)) ∙ drop-take 24 (end - 24) pod in
     let there : take k (drop 24 part) ≡ take n c =
-    ap (take k) behind ∙ take-take k (end - 24) (drop 24 pod) (omega arith) ∙ ap (λ m. take m (drop 24 pod)) kn
-    ∙ sym (take-take n (size - 16) (drop 24 pod) (omega arith)) in
+    ap (take k) behind ∙ take-take k (end - 24) (drop 24 pod) (omega lengths) ∙ ap (λ m. take m (drop 24 pod)) kn
+    ∙ sym (take-take n (size - 16) (drop 24 pod) (omega lengths)) in
     let written : els ≡ fixed_bodies xs = t j xs number_is (subst (AreElements j xs) (sym there) all) in
-    let count : length (take n c) ≡ n = length-take-le n c (omega arith) in
-    let l : length els ≡ k = len ∙ ap length there ∙ count ∙ sym kn in
-    let lp = length-append first (drop 16 old) in
+    let l : length els ≡ k = len ∙ ap length there ∙ (omega lengths) ∙ sym kn in
     let whole = put_mid 24 k part els in
-    let same = length_put 24 k part els (omega arith) l in
     let front : take 24 part ≡ first ++ take 8 (drop 16 old) =
     take-add 16 8 part ∙ ap (λ y. y ++ take 8 (drop 16 part)) (take_at first (drop 16 old) 16 sixteen)
     ∙ ap (λ y. first ++ take 8 y) (drop_at first (drop 16 old) 16 sixteen) in
-    let start : take (8 + (16 + n)) whole ≡ take 24 part ++ els = take-put_mid 24 k part els (8 + (16 + n)) (omega arith) (omega arith) in
+    let start : take (8 + (16 + n)) whole ≡ take 24 part ++ els = take-put_mid 24 k part els (8 + (16 + n)) (omega lengths) (omega lengths) in
     let rest : List ℕ = replicate (length whole - (8 + (16 + n))) 0 in
     let w = take 8 (drop 16 old) in
-    let eight : length w ≡ 8 = length-take-le 8 (drop 16 old) (omega arith) in
     let new_is : new ≡ first ++ (w ++ (els ++ rest)) =
     e ∙ ap (λ y. y ++ rest) (start ∙ ap (λ y. y ++ els) front) ∙ four_parts first w els rest in
     let bytes : IsBytes w =
-    subst IsBytes (ap (λ y. take 8 (drop 16 y)) new_is ∙ ap (take 8) (drop_at first (w ++ (els ++ rest)) 16 sixteen) ∙ take_at w (els ++ rest) 8 eight)
+    subst IsBytes (ap (λ y. take 8 (drop 16 y)) new_is ∙ ap (take 8) (drop_at first (w ++ (els ++ rest)) 16 sixteen) ∙ take_at w (els ++ rest) 8 (omega lengths))
     (IsBytes-take 8 (drop 16 new) (IsBytes-drop 16 new h)) in
     let words : take 8 (drop 16 old) ≡ word_bytes (body_size j) ++ word_bytes (type_number j) =
-    two_words_of (drop 16 old) bytes (omega arith)
-    ∙ ap (λ m. word_bytes m ++ word_bytes (word_at (drop 16 old) 4)) (word_at-drop 16 0 old ∙ low 16 (omega arith) ∙ child_is)
+    two_words_of (drop 16 old) bytes (omega lengths)
+    ∙ ap (λ m. word_bytes m ++ word_bytes (word_at (drop 16 old) 4)) (word_at-drop 16 0 old ∙ low 16 (omega lengths) ∙ child_is)
     ∙ ap (λ m. word_bytes (body_size j) ++ word_bytes m) (word_at-drop 16 4 old ∙ sym w20 ∙ number_is) in
     let body_is = word_bytes (shape_number s) ++ (word_bytes o.1 ++ array_body j xs) in
-    let a0 = length-append (word_bytes (shape_number s)) (word_bytes o.1 ++ array_body j xs) in
-    let a1 = length-append (word_bytes o.1) (array_body j xs) in
-    let a2 = length-word_bytes (shape_number s) in
-    let a3 = length-word_bytes o.1 in
     let a4 = array_length j xs in
     let a5 = ap length written in
-    let size_is : length body_is ≡ 16 + n = omega arith in
     let zeros : replicate (length whole - (8 + (16 + n))) 0 ≡ padding (16 + n) =
-    ap (λ m. replicate m 0) (let m : length whole - (8 + (16 + n)) ≡ padded_size (16 + n) - (16 + n) = omega arith in m) in
+    ap (λ m. replicate m 0) (let m : length whole - (8 + (16 + n)) ≡ padded_size (16 + n) - (16 + n) = omega lengths in m) in
     let first_is : first ≡ (word_bytes (16 + n) ++ word_bytes choice_type) ++ (word_bytes (shape_number s) ++ word_bytes o.1) =
     fe ∙ ap (λ y. (word_bytes (16 + n) ++ word_bytes choice_type) ++ (word_bytes y ++ word_bytes flags)) shape_is
     ∙ ap (λ y. (word_bytes (16 + n) ++ word_bytes choice_type) ++ (word_bytes (shape_number s) ++ word_bytes y)) flags_is in
@@ -316,7 +272,7 @@ values_placed old first els new number n k shape flags h w20 kept fe kn t len e 
     ∙ four_parts head (word_bytes (body_size j) ++ word_bytes (type_number j)) (fixed_bodies xs) (padding (16 + n))
     ∙ choice_parts (word_bytes (16 + n)) (word_bytes choice_type) (word_bytes (shape_number s)) (word_bytes o.1)
     (word_bytes (body_size j)) (word_bytes (type_number j)) (fixed_bodies xs) (padding (16 + n))
-    ∙ ap (λ m. word_bytes m ++ (word_bytes choice_type ++ (body_is ++ padding m))) (sym size_is)
+    ∙ ap (λ m. word_bytes m ++ (word_bytes choice_type ++ (body_is ++ padding m))) (sym (omega lengths))
     ∙ ap encoding_of (sym o.5)
   where
     four_parts : (a b c d : List ℕ) → ((a ++ b) ++ c) ++ d ≡ a ++ (b ++ (c ++ d))
@@ -345,8 +301,6 @@ no_array pod size p n = λ v pd long.
     let b = says_body pod array_type size v p pd in
     let o = array_only v b.its_type in
     let its : IsArray o.0 o.1 (take size (drop 8 pod)) = subst (λ x. IsBody x (take size (drop 8 pod))) o.2 b.its_body in
-    let h = its.header in
-    let l = b.long in
     absurd (omega arith)
 
 pub no_short_choice : (pod : List ℕ) (size : ℕ) → IsPodOf pod choice_type size → size < 16 → (v : Tree) → ¬ (IsPod pod v)
@@ -354,10 +308,7 @@ no_short_choice pod size p n v pd =
     let b = says_body pod choice_type size v p pd in
     let o = choice_only v b.its_type in
     let its : IsChoice o.0 o.1 o.2 o.3 o.4 (take size (drop 8 pod)) = subst (λ x. IsBody x (take size (drop 8 pod))) o.5 b.its_body in
-    let h = its.values.header in
-    let d = length-drop 8 (take size (drop 8 pod)) in
-    let l = b.long in
-    absurd (omega arith)
+    absurd (omega lengths)
 
 pub no_few_values : (pod : List ℕ) (size n shape child : ℕ) → IsPodOf pod choice_type size → 16 ≤ size → shape ≡ word_at pod 8 →
     child ≡ word_at pod 16 → ((s : Shape) → shape ≡ shape_number s → n ≡ bytes_taken s child (size - 16)) → size - 16 < n → (v : Tree) → ¬ (IsPod pod v)
@@ -367,25 +318,20 @@ no_few_values pod size n shape child p big w8 w16 taken less v pd =
     let body = take size (drop 8 pod) in
     let its : IsChoice o.0 o.1 o.2 o.3 o.4 body = subst (λ x. IsBody x body) o.5 b.its_body in
     let inside : drop 8 body ≡ take (size - 8) (drop 16 pod) =
-    ap (λ m. drop 8 (take m (drop 8 pod))) (let m : size ≡ 8 + (size - 8) = omega arith in m) ∙ drop-take 8 (size - 8) (drop 8 pod)
+    ap (λ m. drop 8 (take m (drop 8 pod))) (omega lengths) ∙ drop-take 8 (size - 8) (drop 8 pod)
     ∙ ap (take (size - 8)) (drop-drop 8 8 pod) in
-    let shape_is : shape ≡ shape_number o.0 = w8 ∙ sym (word_at-take size 0 (drop 8 pod) (omega arith) ∙ word_at-drop 8 0 pod) ∙ its.shape in
+    let shape_is : shape ≡ shape_number o.0 = w8 ∙ sym (word_at-take size 0 (drop 8 pod) (omega lengths) ∙ word_at-drop 8 0 pod) ∙ its.shape in
     let child_is : child ≡ body_size o.2 =
-    w16 ∙ sym (ap (λ x. word_at x 0) inside ∙ word_at-take (size - 8) 0 (drop 16 pod) (omega arith) ∙ word_at-drop 16 0 pod) ∙ its.values.child_size in
+    w16 ∙ sym (ap (λ x. word_at x 0) inside ∙ word_at-take (size - 8) 0 (drop 16 pod) (omega lengths) ∙ word_at-drop 16 0 pod) ∙ its.values.child_size in
     let count = length_of_elements o.2 (o.3 ∷ its.all) (drop 8 (drop 8 body)) its.values.elements in
-    let d = length-drop 8 (drop 8 body) in
-    let d2 = length-drop 8 body in
-    let l = b.long in
-    let room : length (o.3 ∷ its.all) * body_size o.2 ≡ size - 16 = omega arith in
     let n_is = taken o.0 shape_is ∙ ap (λ c. bytes_taken o.0 c (size - 16)) child_is in
-    let enough = (enough_bytes o.0 (body_size o.2) (length (o.3 ∷ its.all)) (size - 16) (sym room) its.values.elements.0 its.enough).1 in
-    absurd (omega arith)
+    let enough = (enough_bytes o.0 (body_size o.2) (length (o.3 ∷ its.all)) (size - 16) (sym (omega lengths)) its.values.elements.0 its.enough).1 in
+    absurd (omega lengths)
 
 -- what a pod says of an address
 pub short_address : (pod : List ℕ) (a size : ℕ) → IsPodOf pod pointer_type size → size ≡ 12 → a ≡ word_at pod 16 →
     IsPointer (word_at pod 8) a (take size (drop 8 pod))
 short_address pod a size p z e =
-    let l = p.long in
     let d = length-drop 8 pod in (
       sym (word_at-take size 0 (drop 8 pod) (omega arith) ∙ word_at-drop 8 0 pod),
       inl (length-take-le size (drop 8 pod) (omega arith) ∙ z, e ∙ sym (word_at-take size 8 (drop 8 pod) (omega arith) ∙ word_at-drop 8 8 pod)),
@@ -394,9 +340,7 @@ short_address pod a size p z e =
 pub long_address : (pod : List ℕ) (a size : ℕ) → IsPodOf pod pointer_type size → size ≡ 16 → a ≡ wide_at pod 16 →
     IsPointer (word_at pod 8) a (take size (drop 8 pod))
 long_address pod a size p z e =
-    let l = p.long in
-    let d = length-drop 8 pod in
-    let all : take size (drop 8 pod) ≡ drop 8 pod = take_all size (drop 8 pod) (omega arith) in (
-      sym (word_at-take size 0 (drop 8 pod) (omega arith) ∙ word_at-drop 8 0 pod),
-      inr (length-take-le size (drop 8 pod) (omega arith) ∙ z, e ∙ sym (ap (λ x. wide_at x 8) all ∙ wide_at-drop 8 8 pod)),
+    let all : take size (drop 8 pod) ≡ drop 8 pod = take_all size (drop 8 pod) (omega lengths) in (
+      sym (word_at-take size 0 (drop 8 pod) (omega lengths) ∙ word_at-drop 8 0 pod),
+      inr (length-take-le size (drop 8 pod) (omega lengths) ∙ z, e ∙ sym (ap (λ x. wide_at x 8) all ∙ wide_at-drop 8 8 pod)),
     )

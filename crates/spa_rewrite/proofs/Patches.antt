@@ -1,5 +1,5 @@
 -- Pods that become their rewritings where they lie.
-use Rattle.std.proofs.Common.{◌≡◌, ℕ, ◌+◌, ◌≤◌, List, ◌++◌, length, drop, take, sym, ap, ◌∙◌, subst, arith, append_assoc, length-append, length-drop}
+use Rattle.std.proofs.Common.{◌≡◌, ℕ, ◌+◌, ◌≤◌, List, ◌++◌, length, drop, take, sym, ap, ◌∙◌, subst, arith, append_assoc}
 use Rattle.std.proofs.lemmas.List.{drop-take, length-take-le, take-take}
 use borrow.Rule.Slice.PartMut.{put_mid}
 use Rattle.spa_format.specs.Words.{padding, word_at, word_bytes}
@@ -7,10 +7,10 @@ use Rattle.spa_format.specs.Tree.{Tree, type_of}
 use Rattle.spa_format.specs.Pod.{IsBody, IsPod}
 use Rattle.spa_format.specs.Encoding.{encoded_pod}
 use Rattle.spa_format.specs.Typed.{IsBytes}
-use Rattle.spa_format.proofs.Short.{padded_above}
 use Rattle.spa_format.proofs.WordLemmas.{IsBytes-drop, IsBytes-take, word_at-take}
 use Rattle.spa_scan.proofs.Words.{two_words_back}
-use Rattle.spa_rewrite.specs.Patched.{IsPodOf}
+use Rattle.spa_rewrite.specs.Emit.{IsPodOf}
+use Rattle.spa_rewrite.proofs.Lengths.{lengths}
 
 -- the two words at the front
 pub two_words_of : (b : List ℕ) → IsBytes (take 8 b) → 8 ≤ length b → take 8 b ≡ word_bytes (word_at b 0) ++ word_bytes (word_at b 4)
@@ -22,7 +22,6 @@ two_words_of b h l =
 pub pod_again : (pod x : List ℕ) (type size : ℕ) → IsBytes (take 8 pod) → IsPodOf pod type size → length x ≡ size →
     take 8 pod ++ (x ++ padding size) ≡ encoded_pod type x
 pod_again pod x type size h p e =
-    let l = p.long in
     let words : take 8 pod ≡ word_bytes size ++ word_bytes type =
     two_words_of pod h (omega arith) ∙ ap (λ n. word_bytes n ++ word_bytes (word_at pod 4)) p.its_size
     ∙ ap (λ n. word_bytes size ++ word_bytes n) p.its_type in
@@ -37,13 +36,7 @@ pub behind_bytes : (m n k : ℕ) (b : List ℕ) → k ≡ m + n → IsBytes (tak
 behind_bytes m n k b e h = subst IsBytes (ap (λ i. drop m (take i b)) e ∙ drop-take m n b) (IsBytes-drop m (take k b) h)
 
 pub length_put : (a k : ℕ) (xs ys : List ℕ) → a + k ≤ length xs → length ys ≡ k → length (put_mid a k xs ys) ≡ length xs
-length_put a k xs ys l e =
-    let e0 = length-append (take a xs) (ys ++ drop k (drop a xs)) in
-    let e1 = length-append ys (drop k (drop a xs)) in
-    let e2 = length-take-le a xs (omega arith) in
-    let e3 = length-drop a xs in
-    let e4 = length-drop k (drop a xs) in
-    omega arith
+length_put a k xs ys l e = omega lengths
 
 -- what a pod says of its body
 pub record SaysBody (pod : List ℕ) (type size : ℕ) (v : Tree) : Type 0 where
@@ -53,11 +46,8 @@ pub record SaysBody (pod : List ℕ) (type size : ℕ) (v : Tree) : Type 0 where
 
 pub says_body : (pod : List ℕ) (type size : ℕ) (v : Tree) → IsPodOf pod type size → IsPod pod v → SaysBody pod type size v
 says_body pod type size v p w =
-    let l = p.long in
-    let u = padded_above size in
-    let d = length-drop 8 pod in
     record {
       its_type = sym w.its_type ∙ p.its_type;
       its_body = subst (λ n. IsBody v (take n (drop 8 pod))) p.its_size w.content;
-      long = length-take-le size (drop 8 pod) (omega arith);
+      long = length-take-le size (drop 8 pod) (omega lengths);
     }

@@ -1,5 +1,5 @@
 -- Pods whose rewritings come to stand at the front of where they lay.
-use Rattle.std.proofs.Common.{◌≡◌, ℕ, ◌+◌, ◌-◌, ◌%◌, ◌<◌, List, [], ◌++◌, length, drop, take, refl, sym, ap, ◌∙◌, subst, arith, append_assoc, length-append, length-drop}
+use Rattle.std.proofs.Common.{◌≡◌, ℕ, ◌+◌, ◌%◌, ◌<◌, List, [], ◌++◌, length, drop, take, refl, sym, ap, ◌∙◌, subst, arith, append_assoc, length-drop}
 use Rattle.std.specs.Prelude.{Bool, true, false}
 use Rattle.std.proofs.lemmas.List.{append-nil, drop-drop, nil_from_length, take_all}
 use Rattle.spa_format.specs.Words.{padded_size, padding, word_at, word_bytes}
@@ -8,26 +8,23 @@ use Rattle.spa_format.specs.Pod.{AreMembers, AreProperties, IsBody, IsPod}
 use Rattle.spa_format.specs.Encoding.{encoded_body, encoding_of, member_encodings, property_encodings}
 use Rattle.spa_format.specs.Front.{HasFront, front_of, rest_of}
 use Rattle.spa_format.specs.Typed.{IsBytes}
-use Rattle.spa_format.proofs.Encodings.{length-padding, length-word_bytes, whole_members, whole_properties}
+use Rattle.spa_format.proofs.Encodings.{length-padding, whole_members, whole_properties}
 use Rattle.spa_format.proofs.Fronts.{front_of_whole}
 use Rattle.spa_format.proofs.Shapes.{object_only, struct_only}
 use Rattle.spa_format.proofs.WordLemmas.{IsBytes-drop, IsBytes-take}
-use Rattle.spa_rewrite.specs.Placed.{ArePlaced, HoldsWhole, IsInner, IsPlaced, type_inside}
 use Rattle.spa_events.specs.Inside.{key_size}
-use Rattle.spa_rewrite.specs.Patched.{IsPodOf}
+use Rattle.spa_rewrite.specs.Emit.{ArePlaced, HoldsWhole, IsPlaced, IsPodOf, type_inside}
 use Rattle.spa_rewrite.proofs.Patches.{says_body, two_words_of}
 use Rattle.spa_rewrite.proofs.ShorterLemmas.{whole_keyed, whole_list}
+use Rattle.spa_rewrite.proofs.Lengths.{lengths}
 
 -- no padding is behind bodies of pods
 no_padding : (n : ℕ) → padded_size n ≡ n → padding n ≡ []
-no_padding n e = nil_from_length (padding n) (length-padding n ∙ (let z : padded_size n - n ≡ 0 = omega arith in z))
+no_padding n e = nil_from_length (padding n) (length-padding n ∙ (omega arith))
 
 -- the body of a pod whose size is a multiple of 8
 whole_body : (pod : List ℕ) (type size : ℕ) → IsPodOf pod type size → size % 8 ≡ 0 → take size (drop 8 pod) ≡ drop 8 pod
-whole_body pod type size p z =
-    let l = p.long in
-    let d = length-drop 8 pod in
-    take_all size (drop 8 pod) (omega arith)
+whole_body pod type size p z = take_all size (drop 8 pod) (omega lengths)
 
 -- a struct whose members became their rewritings
 struct_placed : (pod inner : List ℕ) (size : ℕ) → IsPodOf pod struct_type size → size % 8 ≡ 0 → ArePlaced false (drop 8 pod) inner →
@@ -60,27 +57,21 @@ object_placed pod inner size h p z q = λ v w.
     two_words_of (drop 8 pod) (IsBytes-take 8 (drop 8 pod) (IsBytes-drop 8 pod h)) m.0
     ∙ ap (λ n. word_bytes n ++ word_bytes (word_at (drop 8 pod) 4)) (sym m.1) ∙ ap (λ n. word_bytes t ++ word_bytes n) (sym m.2) in
     let x = encoded_body (object t i ps) in
-    let e0 = length-append (word_bytes t) (word_bytes i ++ e) in
-    let e1 = length-append (word_bytes i) e in
-    let e2 = length-word_bytes t in
-    let e3 = length-word_bytes i in
     let w = whole_properties ps in
-    let long : 8 + length e ≡ length x = omega arith in
-    let whole : padded_size (length x) ≡ length x = omega arith in
     append_assoc (word_bytes (8 + length inner)) (word_bytes object_type) (take 8 (drop 8 pod) ++ inner)
     ∙ ap (λ y. word_bytes (8 + length y) ++ (word_bytes object_type ++ (take 8 (drop 8 pod) ++ y))) is
-    ∙ ap (λ n. word_bytes n ++ (word_bytes object_type ++ (take 8 (drop 8 pod) ++ e))) long
+    ∙ ap (λ n. word_bytes n ++ (word_bytes object_type ++ (take 8 (drop 8 pod) ++ e))) (omega lengths)
     ∙ ap (λ y. word_bytes (length x) ++ (word_bytes object_type ++ y))
-    (ap (λ y. y ++ e) words ∙ append_assoc (word_bytes t) (word_bytes i) e ∙ sym (append-nil x) ∙ ap (λ y. x ++ y) (sym (no_padding (length x) whole)))
+    (ap (λ y. y ++ e) words ∙ append_assoc (word_bytes t) (word_bytes i) e ∙ sym (append-nil x) ∙ ap (λ y. x ++ y) (sym (no_padding (length x) (omega lengths))))
     ∙ ap encoding_of (sym o.3)
 
-pub inner_placed : (keyed : Bool) (pod inner : List ℕ) → IsBytes pod → IsInner pod keyed → ArePlaced keyed (drop (8 + key_size keyed) pod) inner →
+pub inner_placed : (keyed : Bool) (pod inner : List ℕ) (type size : ℕ) → IsBytes pod → IsPodOf pod type size → HoldsWhole type size keyed →
+    ArePlaced keyed (drop (8 + key_size keyed) pod) inner →
     IsPlaced pod ((word_bytes (key_size keyed + length inner) ++ word_bytes (type_inside keyed)) ++ (take (key_size keyed) (drop 8 pod) ++ inner))
-inner_placed false pod inner h i q =
-    subst (λ n. IsPlaced pod ((word_bytes n ++ word_bytes struct_type) ++ inner)) (let z : length inner ≡ 0 + length inner = omega arith in z)
-    (struct_placed pod inner i.size (subst (λ t. IsPodOf pod t i.size) i.holds.holds i.its) i.holds.whole q)
-inner_placed true pod inner h i q =
-    object_placed pod inner i.size h (subst (λ t. IsPodOf pod t i.size) i.holds.holds.0 i.its) i.holds.whole q
+inner_placed false pod inner type size h p w q =
+    subst (λ n. IsPlaced pod ((word_bytes n ++ word_bytes struct_type) ++ inner)) (omega arith)
+    (struct_placed pod inner size (subst (λ t. IsPodOf pod t size) w.holds p) w.whole q)
+inner_placed true pod inner type size h p w q = object_placed pod inner size h (subst (λ t. IsPodOf pod t size) w.holds.0 p) w.whole q
 
 -- the first pod of some, and the others
 members_placed : (b pod others : List ℕ) → HasFront b → IsPlaced (front_of b) pod → ArePlaced false (rest_of b) others →
@@ -95,8 +86,7 @@ members_placed b pod others f p q (member v vs) m =
 properties_placed : (b pod others : List ℕ) → IsBytes b → HasFront (drop 8 b) → IsPlaced (front_of (drop 8 b)) pod →
     ArePlaced true (rest_of (drop 8 b)) others → (ps : Properties) → AreProperties ps b →
     take 8 b ++ (pod ++ others) ≡ property_encodings ps
-properties_placed b pod others h f p q no_properties m =
-    absurd (let l = ap length m in let g = f.header in let d = length-drop 8 b in omega arith)
+properties_placed b pod others h f p q no_properties m = absurd (let l = ap length m in let g = f.header in let d = length-drop 8 b in omega arith)
 properties_placed b pod others h f p q (property key flags v ps) m =
     let here = drop 8 b in
     let w = front_of_whole here m.3 m.4 (type_of v) (IsBody v) m.5 m.6 in
@@ -121,8 +111,7 @@ no_member b n (member v vs) m = absurd (n (front_of_whole b m.0 m.1 (type_of v) 
 
 no_property : (b : List ℕ) → ¬ (HasFront (drop 8 b)) → (ps : Properties) → AreProperties ps b → [] ≡ property_encodings ps
 no_property b n no_properties m = refl
-no_property b n (property key flags v ps) m =
-    absurd (n (front_of_whole (drop 8 b) m.3 m.4 (type_of v) (IsBody v) m.5 m.6).0)
+no_property b n (property key flags v ps) m = absurd (n (front_of_whole (drop 8 b) m.3 m.4 (type_of v) (IsBody v) m.5 m.6).0)
 
 pub none_placed : (keyed : Bool) (b : List ℕ) → ¬ (HasFront (drop (key_size keyed) b)) → ArePlaced keyed b []
 none_placed false b n = λ vs m. no_member b n vs m
@@ -138,7 +127,6 @@ no_struct pod size p n = λ v w.
     let o = struct_only v b.its_type in
     let m : AreMembers o.0 (take size (drop 8 pod)) = subst (λ x. IsBody x (take size (drop 8 pod))) o.1 b.its_body in
     let z = whole_list o.0 (take size (drop 8 pod)) m in
-    let l = b.long in
     absurd (n false (record { holds = refl; whole = omega arith }))
 
 pub no_object : (pod : List ℕ) (size : ℕ) → IsPodOf pod object_type size → ((keyed : Bool) → ¬ (HoldsWhole object_type size keyed)) → IsPlaced pod []
@@ -148,7 +136,4 @@ no_object pod size p n = λ v w.
     let body = take size (drop 8 pod) in
     let m : IsBody (object o.0 o.1 o.2) body = subst (λ x. IsBody x body) o.3 b.its_body in
     let z = whole_keyed o.2 (drop 8 body) m.3 in
-    let l = b.long in
-    let big = m.0 in
-    let d = length-drop 8 body in
-    absurd (n true (record { holds = (refl, omega arith); whole = omega arith }))
+    absurd (n true (record { holds = (refl, omega lengths); whole = omega lengths }))

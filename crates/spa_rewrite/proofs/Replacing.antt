@@ -6,21 +6,20 @@ use Rattle.std.proofs.lemmas.List.{drop-drop, drop_at, length-take-le, take-appe
 use Rattle.std.proofs.lemmas.Slice.{drop-put_mid}
 use borrow.Rule.Slice.PartMut.{put_mid}
 use Rattle.spa_format.specs.Words.{body_of, extent, word_at}
-use Rattle.spa_format.specs.Kind.{Kind, none_kind, bool_kind, id_kind, int_kind, long_kind, float_kind, double_kind, rectangle_kind, fraction_kind, fd_kind, body_size, type_number}
+use Rattle.spa_format.specs.Kind.{Kind, bool_kind, id_kind, int_kind, float_kind, body_size, type_number}
 use Rattle.spa_format.specs.Front.{HasFront, front_of, rest_of}
 use Rattle.spa_format.specs.Typed.{IsBytes}
 use Rattle.spa_format.proofs.Fronts.{length-body_of, size_of_front, type_of_front}
 use Rattle.spa_format.proofs.WordLemmas.{IsBytes-drop, IsBytes-take}
 use Rattle.spa_bytes.specs.Opening.{Opens}
 use Rattle.spa_events.specs.Inside.{IsBehindKey, key_size}
-use Rattle.spa_rewrite.specs.Emit.{EncodesFirst, EncodesPod, OpensWhole}
-use Rattle.spa_rewrite.specs.Patched.{BeginsWord, IsPodOf}
-use Rattle.spa_rewrite.specs.Placed.{ArePlaced, HoldsWhole, IsPlaced}
+use Rattle.spa_rewrite.specs.Emit.{ArePlaced, BeginsWord, Encodes, EncodesFirst, HoldsWhole, IsPlaced, IsPodOf, OpensWhole}
 use Rattle.spa_rewrite.proofs.PatchedBodies.{IsUnpatchedType, unpatched_body}
 use Rattle.spa_rewrite.proofs.Patches.{length_put}
 use Rattle.spa_rewrite.proofs.PlacedBodies.{leaf_long}
 use Rattle.spa_rewrite.proofs.Places.{few_placed, none_placed, pods_placed}
 use Rattle.spa_rewrite.proofs.Written.{further_behind, take_past}
+use Rattle.spa_rewrite.proofs.Lengths.{lengths}
 
 pub key_whole : (keyed : Bool) → key_size keyed % 8 ≡ 0
 key_whole true = refl
@@ -41,9 +40,7 @@ pub opened_at : (b body rest : List ℕ) (type size : ℕ) → Opens b type body
 opened_at b body rest type size o z =
     let n : size ≡ word_at b 0 = z ∙ ap length o.its_body ∙ length-body_of b o.there in
     let r = ap length o.its_rest ∙ length-drop (extent (word_at b 0)) b in
-    let w = o.there.whole in
     let front : front_of b ≡ take (extent size) b = ap (λ m. take (extent m) b) (sym n) in
-    let x = ap extent n in
     record {
       whole = omega arith;
       front = front;
@@ -65,25 +62,19 @@ encodes_more keyed old now sub body rest at here next type size k len kept e y h
     let b = drop at now in
     let c = drop here now in
     let is = opened_at c body rest type size o z in
-    let d = length-drop here now in
     let whole = is.whole in
-    let n : k ≡ extent size = omega arith in
-    let to : here + k ≡ next = omega arith in
-    let l : length sub ≡ k = long ∙ length-take-le k c (omega arith) in
+    let l : length sub ≡ k = long ∙ length-take-le k c (omega lengths) in
     let there : c ≡ drop (key_size keyed) b = ap (λ i. drop i now) h ∙ behind at (key_size keyed) now in
-    let one : IsPlaced (front_of c) (take len sub) = subst (λ x. IsPlaced x (take len sub)) (ap (λ m. take m c) n ∙ sym is.front) p in
+    let one : IsPlaced (front_of c) (take len sub) = subst (λ x. IsPlaced x (take len sub)) (ap (λ m. take m c) (omega lengths) ∙ sym is.front) p in
     let start : take here now ≡ take at now ++ take (key_size keyed) b = ap (λ i. take i now) h ∙ take-add at (key_size keyed) now in
-    let first = length-take-le here now r in
     let T = drop k c in
     let front : take kept (put_mid here k now sub) ≡ take at now ++ (take (key_size keyed) b ++ take len sub) =
-    ap (λ i. take i (put_mid here k now sub)) t ∙ take_past (take here now) (sub ++ T) here len first
-    ∙ ap (λ x. take here now ++ x) (take-append-le len sub T (omega arith)) ∙ ap (λ x. x ++ take len sub) start
+    ap (λ i. take i (put_mid here k now sub)) t ∙ take_past (take here now) (sub ++ T) here len (omega lengths)
+    ∙ ap (λ x. take here now ++ x) (take-append-le len sub T (omega lengths)) ∙ ap (λ x. x ++ take len sub) start
     ∙ append_assoc (take at now) (take (key_size keyed) b) (take len sub) in
-    let follows : drop next now ≡ rest_of c = ap (λ i. drop i now) (sym to) ∙ behind here k now ∙ ap (λ m. drop m c) n ∙ sym is.follows in
-    let before : drop next old ≡ drop next now = sym (further_behind now old at next (omega arith) e.behind) in
-    let put_long = length_put here k now sub (omega arith) l in
-    let same = e.long in
-    let at8 = e.whole in
+    let follows : drop next now ≡ rest_of c = ap (λ i. drop i now) (sym (omega lengths)) ∙ behind here k now ∙ ap (λ m. drop m c) (omega lengths) ∙ sym is.follows in
+    let before : drop next old ≡ drop next now = sym (further_behind now old at next (omega lengths) e.behind) in
+    let put_long = length_put here k now sub (omega lengths) l in
     let key8 = key_whole keyed in
     record {
       ends = λ others q.
@@ -95,11 +86,11 @@ encodes_more keyed old now sub body rest at here next type size k len kept e y h
           (pods_placed keyed b (take len sub) others (IsBytes-drop at now y) (subst HasFront there o.there)
           (subst (λ x. IsPlaced (front_of x) (take len sub)) there one)
           (subst (λ x. ArePlaced keyed (rest_of x) others) there (subst (λ x. ArePlaced keyed x others) (before ∙ follows) q)))));
-      behind = drop-put_mid here k now sub next (omega arith) r l ∙ sym before;
+      behind = drop-put_mid here k now sub next (omega lengths) r l ∙ sym before;
       long = put_long ∙ e.long;
-      order = omega arith;
-      within = omega arith;
-      whole = omega arith;
+      order = omega lengths;
+      within = omega lengths;
+      whole = omega lengths;
     }
 
 -- a word becomes its rewriting
@@ -114,32 +105,24 @@ word_number n m l = record {
 }
 
 pub word_kind : (k : Kind) → body_size k ≡ 4 → k ≢ bool_kind → IsUnpatchedType (type_number k)
-word_kind none_kind s n = absurd (omega (arith, s))
 word_kind bool_kind s n = absurd (n refl)
 word_kind id_kind s n = word_number 3 (λ e. omega (arith, e)) (omega arith)
 word_kind int_kind s n = word_number 4 (λ e. omega (arith, e)) (omega arith)
-word_kind long_kind s n = absurd (omega (arith, s))
 word_kind float_kind s n = word_number 6 (λ e. omega (arith, e)) (omega arith)
-word_kind double_kind s n = absurd (omega (arith, s))
-word_kind rectangle_kind s n = absurd (omega (arith, s))
-word_kind fraction_kind s n = absurd (omega (arith, s))
-word_kind fd_kind s n = absurd (omega (arith, s))
+word_kind _ s n = absurd (omega (arith, s))
 
 word_opens : (input : List ℕ) → BeginsWord input → Opens input (word_at input 4) (body_of input) (drop 16 input)
 word_opens input w =
-    let l = w.long in
     let n = w.its_size in
-    let whole : extent (word_at input 0) ≡ 16 = omega arith in
-    let there : HasFront input = record { header = omega arith; whole = omega arith } in
-    let long : length (body_of input) ≡ 4 = length-body_of input there ∙ n in
-    let d = length-drop 16 input in
+    let whole : extent (word_at input 0) ≡ 16 = omega lengths in
+    let there : HasFront input = record { header = omega lengths; whole = omega lengths } in
     record {
       there = there;
       its_type = refl;
       its_body = refl;
       its_rest = ap (λ m. drop m input) (sym whole);
-      shorter = omega arith;
-      fits = omega arith;
+      shorter = omega lengths;
+      fits = omega lengths;
     }
 
 word_placed : (c pod : List ℕ) (k : ℕ) → BeginsWord c → k ≡ 16 → pod ≡ take (8 + 4) (take k c) ++ replicate (length (take k c) - (8 + 4)) 0 → IsBytes pod →
@@ -147,7 +130,6 @@ word_placed : (c pod : List ℕ) (k : ℕ) → BeginsWord c → k ≡ 16 → pod
 word_placed c pod k w x p y = λ v q.
     let o = word_opens c w in
     let four : length (body_of c) ≡ 4 = length-body_of c o.there ∙ w.its_size in
-    let l = w.long in
     let t = w.its_type in
     let kept : IsUnpatchedType (word_at c 4) = subst IsUnpatchedType (sym t.1) (word_kind t.0 (sym t.2) (λ e. w.other (t.1 ∙ ap type_number e))) in
     let is = opened_at c (body_of c) (drop 16 c) (word_at c 4) 4 o (sym four) in
@@ -167,24 +149,18 @@ pub word_replaced : (keyed : Bool) (old now pod : List ℕ) (at key k : ℕ) →
     EncodesFirst keyed old (put_mid (at + key) k now pod) (at + key + 16) (at + key + 16)
 word_replaced keyed old now pod at key k e y h r begins z p long b =
     let here = at + key in
-    let small = key_small keyed in
-    let l : here ≤ length now = omega arith in
     let c = drop here now in
     let w : BeginsWord c = subst BeginsWord (take_rest now here) begins in
-    let s = w.long in
-    let d = length-drop here now in
     let o = word_opens c w in
     let four : length (body_of c) ≡ 4 = length-body_of c o.there ∙ w.its_size in
-    let d16 = length-drop 16 c in
-    let count : length pod ≡ k = long ∙ length-take-le k c (omega arith) in
     let others = drop k c in
-    let back : drop here (put_mid here k now pod) ≡ pod ++ others = drop_at (take here now) (pod ++ others) here (length-take-le here now l) in
+    let back : drop here (put_mid here k now pod) ≡ pod ++ others = drop_at (take here now) (pod ++ others) here (length-take-le here now (omega lengths)) in
     let bytes : IsBytes pod =
     subst IsBytes (ap (take (length pod)) back ∙ take_at pod others (length pod) refl)
     (IsBytes-take (length pod) (drop here (put_mid here k now pod)) (IsBytes-drop here (put_mid here k now pod) b)) in
-    let placed : IsPlaced (take k c) (take k pod) = subst (IsPlaced (take k c)) (sym (take_all k pod (omega arith))) (word_placed c pod k w z p bytes) in
-    encodes_more keyed old now pod (body_of c) (drop 16 c) at here (here + 16) (word_at c 4) 4 k k (here + 16) e y (omega arith) l o (sym four)
-    (omega arith) (omega arith) placed (omega arith) long (omega arith)
+    let placed : IsPlaced (take k c) (take k pod) = subst (IsPlaced (take k c)) (sym (take_all k pod (omega lengths))) (word_placed c pod k w z p bytes) in
+    encodes_more keyed old now pod (body_of c) (drop 16 c) at here (here + 16) (word_at c 4) 4 k k (here + 16) e y (omega lengths) (omega lengths) o (sym four)
+    (omega lengths) (omega lengths) placed (omega lengths) long (omega lengths)
 
 -- What follows.
 
@@ -220,33 +196,24 @@ opens_at keyed now body rest at key type l k o =
 pub long_at : (keyed : Bool) (now body rest : List ℕ) (at here type : ℕ) → OpensAt keyed now body rest at here type → here + 8 ≤ length now - length rest
 long_at keyed now body rest at here type o =
     let whole = (opened_at (drop here now) body rest type (length body) o.opens refl).whole in
-    let d = length-drop here now in
-    let w = o.within in
-    omega arith
+    omega lengths
 
 pub pod_at : (keyed : Bool) (now body rest : List ℕ) (at here type : ℕ) → OpensAt keyed now body rest at here type →
     IsPodOf (take (length now - length rest - here) (drop here now)) type (length body)
 pod_at keyed now body rest at here type o =
     let is = opened_at (drop here now) body rest type (length body) o.opens refl in
-    let whole = is.whole in
-    let d = length-drop here now in
-    let w = o.within in
-    let n : extent (length body) ≡ length now - length rest - here = omega arith in
-    subst (λ m. IsPodOf (take m (drop here now)) type (length body)) n is.its
+    subst (λ m. IsPodOf (take m (drop here now)) type (length body)) (omega lengths) is.its
 
 pub container_follows : (keyed inner : Bool) (old now body rest : List ℕ) (at here type : ℕ) → EncodesFirst keyed old now at at →
     OpensAt keyed now body rest at here type → HoldsWhole type (length body) inner → OpensWhole keyed (drop at old) inner (length body)
 container_follows keyed inner old now body rest at here type e o w =
-    let s = e.long in
-    let d = length-drop at old in
     let k = o.key in
-    let l = o.within in
     record {
       here = drop here now;
       type = type;
       body = body;
       rest = rest;
-      its_key = key_there keyed (drop at old) (drop here now) (omega arith) (here_left keyed old now at here e k);
+      its_key = key_there keyed (drop at old) (drop here now) (omega lengths) (here_left keyed old now at here e k);
       opens = o.opens;
       its_size = refl;
       holds = w;
@@ -254,27 +221,19 @@ container_follows keyed inner old now body rest at here type e o w =
 
 -- A pod that holds no others is replaced.
 pub leaf_replaced : (keyed : Bool) (old now sub body rest : List ℕ) (at here type len kept : ℕ) → EncodesFirst keyed old now at at → IsBytes now →
-    OpensAt keyed now body rest at here type → EncodesPod (take (length now - length rest - here) (drop here now)) sub len →
+    OpensAt keyed now body rest at here type → Encodes IsPlaced (take (length now - length rest - here) (drop here now)) sub len →
     length sub ≡ length (take (length now - length rest - here) (drop here now)) → kept ≡ here + len →
     EncodesFirst keyed old (put_mid here (length now - length rest - here) now sub) kept (length now - length rest)
 leaf_replaced keyed old now sub body rest at here type len kept e y o p long t =
     let k = length now - length rest - here in
-    let n = long_at keyed now body rest at here type o in
-    let d = length-drop here now in
-    let c = length-take-le k (drop here now) (omega arith) in
-    let w = p.within in
     encodes_more keyed old now sub body rest at here (length now - length rest) type (length body) k len kept e y o.key o.within o.opens refl refl refl
-    p.placed (omega arith) long t
+    p.placed (omega lengths) long t
 
 -- by one as long
 pub leaf_kept : (keyed : Bool) (old now sub body rest : List ℕ) (at here type len : ℕ) → EncodesFirst keyed old now at at → IsBytes now →
-    OpensAt keyed now body rest at here type → EncodesPod (take (length now - length rest - here) (drop here now)) sub len →
+    OpensAt keyed now body rest at here type → Encodes IsPlaced (take (length now - length rest - here) (drop here now)) sub len →
     length sub ≡ length (take (length now - length rest - here) (drop here now)) → length now - length rest ≤ here + len →
     EncodesFirst keyed old (put_mid here (length now - length rest - here) now sub) (length now - length rest) (length now - length rest)
 leaf_kept keyed old now sub body rest at here type len e y o p long t =
-    let k = length now - length rest - here in
     let n = long_at keyed now body rest at here type o in
-    let d = length-drop here now in
-    let c = length-take-le k (drop here now) (omega arith) in
-    let w = p.within in
-    leaf_replaced keyed old now sub body rest at here type len (length now - length rest) e y o p long (omega arith)
+    leaf_replaced keyed old now sub body rest at here type len (length now - length rest) e y o p long (omega lengths)

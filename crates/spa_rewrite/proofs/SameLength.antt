@@ -1,22 +1,22 @@
 -- Bodies without members whose rewritings are as long as they are.
-use Rattle.std.proofs.Common.{◌≡◌, ℕ, ◌+◌, inl, inr, List, [], ◌++◌, length, refl, sym, ap, ◌∙◌, subst, arith, length-append}
+use Rattle.std.proofs.Common.{◌≡◌, ℕ, ◌+◌, inl, inr, List, [], length, refl, sym, ap, ◌∙◌, subst, arith}
 use Rattle.std.specs.Prelude.{◌⊎◌, ◌∷◌}
 use Rattle.std.proofs.lemmas.Bool.{cases_lt}
 use Rattle.std.proofs.lemmas.List.{nil_from_length}
-use Rattle.spa_format.specs.Words.{padded_size, word_at, word_bytes, wide_at}
+use Rattle.spa_format.specs.Words.{padded_size, word_at, wide_at}
 use Rattle.spa_format.specs.Kind.{Kind, Fixed, IsFixedBody, body_size, content, type_number}
-use Rattle.spa_format.specs.Tree.{Shape, shape_number, array, array_type, bitmap, bitmap_type, bytes, bytes_type, choice, fixed, pointer, pointer_type, string, string_type}
+use Rattle.spa_format.specs.Tree.{Shape, array, array_type, bitmap, bitmap_type, bytes, bytes_type, choice, fixed, pointer, pointer_type, string, string_type}
 use Rattle.spa_format.specs.Normal.{kept_flags}
 use Rattle.spa_format.specs.Pod.{AreElements, IsArray}
-use Rattle.spa_format.specs.Encoding.{array_body, encoded_body, fixed_bodies}
-use Rattle.spa_format.proofs.Elements.{array_length, elements_length, same_array_length}
+use Rattle.spa_format.specs.Encoding.{encoded_body, fixed_bodies}
+use Rattle.spa_format.proofs.Elements.{elements_length, same_array_length}
 use Rattle.spa_format.proofs.Choices.{pointer_length}
-use Rattle.spa_format.proofs.Encodings.{length-word_bytes}
 use Rattle.spa_format.proofs.FixedKinds.{fixed_length, kind_of_content}
 use Rattle.spa_scan.specs.Canonical.{IsCanonicalText, IsFixedLen}
 use Rattle.spa_rewrite.specs.Elements.{HasElements, HasValues}
 use Rattle.spa_rewrite.specs.Shorter.{IsShorterBody}
 use Rattle.spa_rewrite.proofs.Bodies.{listed}
+use Rattle.spa_rewrite.proofs.Lengths.{lengths}
 
 pub as_long : (a b : ℕ) → a ≡ b → 0 + a ≡ b
 as_long a b e = omega arith
@@ -46,14 +46,14 @@ fixed_same_length type len body f l =
 
 pub array_same_length : (body elements : List ℕ) → HasElements body elements → IsShorterBody array_type body 0
 array_same_length body elements h =
-    let k = h.its.kind in
-    let many = h.its.whole.many in
-    let count = h.its.whole.count in
+    let k = h.kind in
+    let many = h.whole.many in
+    let count = h.whole.count in
     let of_values = λ (xs : List Fixed) (a : AreElements k xs elements).
     let is : IsArray k xs body = record {
       header = h.header;
       child_size = h.child_size;
-      child_type = h.its.its_number;
+      child_type = h.child_type;
       elements = subst (AreElements k xs) h.behind a;
     } in
     let whole : IsShorterBody array_type body 0 = record {
@@ -70,13 +70,7 @@ array_same_length body elements h =
 
 pub choice_length : (s : Shape) (f : ℕ) (k : Kind) (x : Fixed) (xs : List Fixed) →
     length (encoded_body (choice s f k x xs)) ≡ 16 + length (fixed_bodies (x ∷ xs))
-choice_length s f k x xs =
-    let l0 = length-append (word_bytes (shape_number s)) (word_bytes f ++ array_body k (x ∷ xs)) in
-    let l1 = length-append (word_bytes f) (array_body k (x ∷ xs)) in
-    let l2 = length-word_bytes (shape_number s) in
-    let l3 = length-word_bytes f in
-    let l4 = array_length k (x ∷ xs) in
-    omega arith
+choice_length s f k x xs = omega lengths
 
 -- the encoding of the choice that takes these values
 pub kept_length : (body kept : List ℕ) (h : HasValues body kept) →

@@ -1,54 +1,51 @@
 -- Pods whose rewritings may be shorter than they are.
-use Rattle.std.proofs.Common.{◌≡◌, ◌≢◌, ℕ, ◌+◌, ◌*◌, ◌/◌, ◌-◌, ◌<◌, ◌≤◌, inl, inr, List, ◌++◌, length, drop, refl, sym, ap, ◌∙◌, subst, arith, append_assoc, length-append, length-drop, ◌%◌}
+use Rattle.std.proofs.Common.{◌≡◌, ◌≢◌, ℕ, ◌+◌, ◌*◌, ◌/◌, ◌-◌, ◌<◌, ◌≤◌, inl, inr, List, ◌++◌, length, drop, refl, sym, ap, ◌∙◌, subst, arith, append_assoc, length-append, ◌%◌}
 use Rattle.std.specs.Prelude.{Bool, true, false, max}
-use Rattle.std.proofs.lemmas.List.{length-take-le, nil_from_length}
-use Rattle.spa_format.specs.Words.{body_of, extent, header_size, padded_size, word_at, word_bytes}
+use Rattle.std.proofs.lemmas.List.{append-nil, nil_from_length}
+use Rattle.spa_format.specs.Words.{body_of, extent, padded_size, word_at}
 use Rattle.spa_format.specs.Kind.{kind_of}
 use Rattle.spa_format.specs.Tree.{Tree, fixed, string, bytes, bitmap, array, choice, pointer, struct, object, Trees, no_trees, member, Properties, no_properties, property, join_members, choice_type, type_of}
 use Rattle.spa_format.specs.Normal.{kept_flags}
 use Rattle.spa_format.specs.Pod.{AreMembers, AreProperties, IsBody, IsPod}
-use Rattle.spa_format.specs.Encoding.{encoded_body, encoding_of, member_encodings, property_encodings}
+use Rattle.spa_format.specs.Encoding.{encoded_body, encoding_of, property_encodings}
 use Rattle.spa_format.specs.Front.{HasFront, front_of, rest_of}
 use Rattle.spa_format.proofs.Choices.{pointer_length}
 use Rattle.spa_format.proofs.Elements.{same_array_length}
-use Rattle.spa_format.proofs.Encodings.{length-property_encoding, length-word_bytes, whole_members, whole_properties}
+use Rattle.spa_format.proofs.Encodings.{length-property_encoding, whole_members, whole_properties}
 use Rattle.spa_format.proofs.FixedKinds.{fixed_length}
 use Rattle.spa_format.proofs.Fronts.{front_of_whole, length-body_of}
 use Rattle.spa_format.proofs.Short.{length-encoded_pod}
 use Rattle.spa_bytes.specs.Opening.{Opens}
 use Rattle.spa_bodies.proofs.Steps.{pod_read}
 use Rattle.spa_scan.specs.Canonical.{AreCanonical, IsFixedLen}
-use Rattle.spa_scan.specs.Depth.{depth_of, member_depth, property_depth}
+use Rattle.spa_scan.specs.Depth.{depth_of, member_depth}
 use Rattle.spa_rewrite.specs.Elements.{HasValues}
-use Rattle.spa_rewrite.specs.Shorter.{AreInsideWithin, ArePodsWithin, ArePropertiesWithin, AreShorter, AreShorterInside, BeginsShorter, IsShorterBody}
+use Rattle.spa_rewrite.specs.Shorter.{ArePodsWithin, AreShorter, AreShorterInside, BeginsShorter, IsShorterBody}
 use Rattle.spa_events.specs.Inside.{IsBehindKey, IsInside}
 use Rattle.spa_format.proofs.Sequences.{members_joined}
 use Rattle.spa_rewrite.proofs.Stretches.{member_encodings-join}
 use Rattle.spa_rewrite.proofs.SameLength.{as_long, kept_length, fixed_same_length}
-use Rattle.spa_rewrite.proofs.Rewritten.{parted}
+use Rattle.spa_rewrite.proofs.Rewritten.{alone, parted}
+use Rattle.spa_rewrite.proofs.Lengths.{lengths}
 
 -- lists of pods are as long as a multiple of 8
 pub whole_list : (vs : Trees) (b : List ℕ) → AreMembers vs b → length b % 8 ≡ 0
 whole_list no_trees b m = let l = ap length m in omega arith
 whole_list (member v vs) b m =
     let l = ap length m.2 ∙ length-append m.0 m.1 in
-    let w = m.3.whole in
     let r = whole_list vs m.1 m.4 in
     omega arith
 
 pub whole_keyed : (ps : Properties) (b : List ℕ) → AreProperties ps b → length b % 8 ≡ 0
-whole_keyed no_properties b m = let l = ap length m in omega arith
+whole_keyed no_properties b m = let l = ap length m in omega lengths
 whole_keyed (property key flags v ps) b m =
     let l = ap length m.5 ∙ length-append m.3 m.4 in
-    let d = length-drop 8 b in
-    let w = m.6.whole in
-    let big = m.0 in
     let r = whole_keyed ps m.4 m.7 in
-    omega arith
+    omega lengths
 
 -- none is left
 pub shorter_none : (keyed : Bool) (left : List ℕ) → length left ≡ 0 → AreShorterInside keyed left 0
-shorter_none true left z = record { values = no_properties; properties = nil_from_length left z; long = sym z }
+shorter_none true left z = (no_properties, nil_from_length left z, sym z)
 shorter_none false left z = record { values = no_trees; members = nil_from_length left z; long = sym z }
 
 -- a pod that is opened
@@ -57,10 +54,7 @@ shorter_opened input body rest type n o s =
     let v = s.value in
     let size : length body ≡ word_at input 0 = ap length o.its_body ∙ length-body_of input o.there in
     let a = length-encoded_pod (type_of v) (encoded_body v) in
-    let b = length-take-le (extent (word_at input 0)) input o.there.whole in
-    let c = ap padded_size size in
-    let l = s.long in
-    record { value = v; begins = pod_read input body rest type v o s.its_type s.its_body; long = omega arith }
+    record { value = v; begins = pod_read input body rest type v o s.its_type s.its_body; long = omega lengths }
 
 -- a pod of one or two words
 pub shorter_short : (input rest : List ℕ) (size number len : ℕ) → 16 ≤ length input → size ≡ word_at input 0 → number ≡ word_at input 4 →
@@ -86,101 +80,63 @@ pub shorter_room : (input rest : List ℕ) (n : ℕ) → BeginsShorter input res
 shorter_room input rest n c =
     let p = parted input c.value rest c.begins in
     let d = ap length p ∙ length-append (front_of input) rest in
-    let l = c.long in
     omega arith
 
--- one more
-shorter_member : (left rest : List ℕ) (n m : ℕ) → BeginsShorter left rest n → AreShorter rest m → AreShorter left (n + m)
-shorter_member left rest n m c r =
-    let v = c.value in
-    let p = parted left v rest c.begins in
-    let e = length-append (encoding_of v) (member_encodings r.values) in
-    let d = ap length p ∙ length-append (front_of left) rest in
-    let a = c.long in
-    let b = r.long in
+-- one pod
+pub front_shorter : (input rest : List ℕ) (n : ℕ) → BeginsShorter input rest n → AreShorter (front_of input) n
+front_shorter input rest n c =
+    let e = ap length (append-nil (encoding_of c.value)) in
+    record { values = member c.value no_trees; members = alone (front_of input) c.value c.begins.begins.pod; long = omega arith }
+
+-- canonical pods don't get shorter
+pub canonical_shorter : (pods : List ℕ) → AreCanonical pods → AreShorter pods 0
+canonical_shorter pods k = let own = ap length k.same in record { values = k.values; members = k.members; long = omega arith }
+
+-- first pods and those behind them
+pub shorter_joined : (pods first rest : List ℕ) (m n : ℕ) → pods ≡ first ++ rest → AreShorter first m → AreShorter rest n → AreShorter pods (m + n)
+shorter_joined pods first rest m n e s t =
+    let vs = join_members s.values t.values in
+    let l2 = ap length (member_encodings-join s.values t.values) in
+    let l3 = ap length e in
     record {
-      values = member v r.values;
-      members = (front_of left, rest, p, c.begins.begins.pod, r.members);
-      long = omega arith;
+      values = vs;
+      members = subst (AreMembers vs) (sym e) (members_joined s.values t.values first rest s.members t.members);
+      long = omega lengths;
     }
 
+-- one more
 pub shorter_step : (keyed : Bool) (left here rest : List ℕ) (n m : ℕ) → IsBehindKey keyed left here → BeginsShorter here rest n →
     AreShorterInside keyed rest m → AreShorterInside keyed left (n + m)
-shorter_step false left here rest n m k c r = subst (λ x. AreShorter x (n + m)) k (shorter_member here rest n m c r)
+shorter_step false left here rest n m k c r =
+    shorter_joined left (front_of here) rest n m (sym k ∙ parted here c.value rest c.begins) (front_shorter here rest n c) r
 shorter_step true left here rest n m k c r =
     let v = c.value in
+    let ps = property (word_at left 0) (word_at left 4) v r.0 in
     let p = parted here v rest c.begins in
-    let e = length-property_encoding (word_at left 0) (word_at left 4) v r.values in
-    let d = ap length p ∙ length-append (front_of here) rest in
-    let l = k.0 in
-    let h = ap length k.1 ∙ length-drop 8 left in
-    let a = c.long in
-    let b = r.long in
-    record {
-      values = property (word_at left 0) (word_at left 4) v r.values;
-      properties = (k.0, refl, refl, front_of here, rest, sym k.1 ∙ p, c.begins.begins.pod, r.properties);
-      long = omega arith;
-    }
+    let e = length-property_encoding (word_at left 0) (word_at left 4) v r.0 in
+    let d = ap length p in
+    let h = ap length k.1 in
+    let long : n + m + length (property_encodings ps) ≡ length left = omega lengths in
+    (ps, (k.0, refl, refl, front_of here, rest, sym k.1 ∙ p, c.begins.begins.pod, r.1), long)
 
--- so much is counted, and these are left: with what they are shorter, all are
-pub record CountsOn (keyed : Bool) (levels : ℕ) (pods left : List ℕ) (surplus : ℕ) : Type 0 where
-  pub ends : (n : ℕ) → AreShorterInside keyed left n → AreShorterInside keyed pods (surplus + n)
-  pub room : surplus + length left ≤ length pods
-  pub within : AreInsideWithin levels keyed pods → AreInsideWithin levels keyed left
-
-pub counts_none : (keyed : Bool) (levels : ℕ) (pods : List ℕ) → CountsOn keyed levels pods pods 0
-counts_none keyed levels pods = record {
-  ends = λ n s. subst (AreShorterInside keyed pods) (let e : n ≡ 0 + n = omega arith in e) s;
-  room = omega arith;
-  within = λ w. w;
-}
-
--- the first of such pods, behind its key and flags where it has any, and the others
-pub record FirstWithin (levels : ℕ) (keyed : Bool) (here : List ℕ) : Type 0 where
-  pub there : HasFront here
+-- the first of such pods, and the others
+pub record FirstWithin (levels : ℕ) (left : List ℕ) : Type 0 where
+  pub there : HasFront left
   pub value : Tree
-  pub pod : IsPod (front_of here) value
+  pub pod : IsPod (front_of left) value
   pub shallow : depth_of value ≤ levels
-  pub others : AreInsideWithin levels keyed (rest_of here)
+  pub others : ArePodsWithin levels (rest_of left)
 
-pub first_within : (levels : ℕ) (keyed : Bool) (left here : List ℕ) → IsBehindKey keyed left here → 0 < length left →
-    AreInsideWithin levels keyed left → FirstWithin levels keyed here
-first_within levels false left here k l s = subst (FirstWithin levels false) (sym k) (of_members s.values s.members s.shallow)
+pub first_within : (levels : ℕ) (left : List ℕ) → 0 < length left → ArePodsWithin levels left → FirstWithin levels left
+first_within levels left l s = of_members s.values s.members s.shallow
   where
-    of_members : (vs : Trees) → AreMembers vs left → member_depth vs ≤ levels → FirstWithin levels false left
+    of_members : (vs : Trees) → AreMembers vs left → member_depth vs ≤ levels → FirstWithin levels left
     of_members no_trees m d = absurd (let z = ap length m in omega arith)
     of_members (member v vs) m d =
         let f = front_of_whole left m.0 m.1 (type_of v) (IsBody v) m.2 m.3 in
         let n : max (depth_of v) (member_depth vs) ≤ levels = d in
         let behind : ArePodsWithin levels (rest_of left) = record { values = vs; members = subst (AreMembers vs) f.2 m.4; shallow = omega arith } in
         record { there = f.0; value = v; pod = subst (λ b. IsPod b v) f.1 m.3; shallow = omega arith; others = behind }
-first_within levels true left here k l s = subst (FirstWithin levels true) (sym k.1) (of_properties s.values s.properties s.shallow)
-  where
-    of_properties : (ps : Properties) → AreProperties ps left → property_depth ps ≤ levels → FirstWithin levels true (drop header_size left)
-    of_properties no_properties m d = absurd (let z = ap length m in omega arith)
-    of_properties (property key flags v ps) m d =
-        let behind = drop header_size left in
-        let f = front_of_whole behind m.3 m.4 (type_of v) (IsBody v) m.5 m.6 in
-        let n : max (depth_of v) (property_depth ps) ≤ levels = d in
-        let others : ArePropertiesWithin levels (rest_of behind) = record { values = ps; properties = subst (AreProperties ps) f.2 m.7; shallow = omega arith } in
-        record { there = f.0; value = v; pod = subst (λ b. IsPod b v) f.1 m.6; shallow = omega arith; others = others }
-
-pub counts_more : (keyed : Bool) (levels : ℕ) (pods left here rest : List ℕ) (surplus n : ℕ) → CountsOn keyed levels pods left surplus →
-    0 < length left → IsBehindKey keyed left here → rest ≡ rest_of here → BeginsShorter here rest n → CountsOn keyed levels pods rest (surplus + n)
-counts_more keyed levels pods left here rest surplus n w l k e c =
-    let r = w.room in
-    let h = shorter_room here rest n c in
-    let b = behind_shorter keyed left here k in
-    record {
-      ends = λ m s. subst (AreShorterInside keyed pods) (let z : surplus + (n + m) ≡ surplus + n + m = omega arith in z)
-          (w.ends (n + m) (shorter_step keyed left here rest n m k c s));
-      room = omega arith;
-      within = λ s. subst (AreInsideWithin levels keyed) (sym e) (first_within levels keyed left here k l (w.within s)).others;
-    }
-  where
-    behind_shorter : (keyed : Bool) (left here : List ℕ) → IsBehindKey keyed left here → length here ≤ length left
-    behind_shorter false left here k = let z = ap length k in omega arith
-    behind_shorter true left here k = let z = ap length k.1 ∙ length-drop 8 left in omega arith
 
 -- what is behind other pods
 pub within_behind : (vs : Trees) (first rest : List ℕ) (levels : ℕ) → AreMembers vs first → ArePodsWithin levels (first ++ rest) → ArePodsWithin levels rest
@@ -189,21 +145,11 @@ within_behind (member v vs) first rest levels m s =
     let all = first ++ rest in
     let e : all ≡ m.0 ++ (m.1 ++ rest) = ap (λ x. x ++ rest) m.2 ∙ append_assoc m.0 m.1 rest in
     let f = front_of_whole all m.0 (m.1 ++ rest) (type_of v) (IsBody v) e m.3 in
-    let h = f.0.header in
-    let behind = (first_within levels false all all refl (omega arith) s).others in
+    let behind = (first_within levels all (omega arith) s).others in
     within_behind vs m.1 rest levels m.4 (subst (ArePodsWithin levels) (sym f.2) behind)
 
 pub shorter_behind : (input first rest : List ℕ) (n : ℕ) → input ≡ first ++ rest → AreCanonical first → AreShorter rest n → AreShorter input n
-shorter_behind input first rest n e c s =
-    let l = ap length (member_encodings-join c.values s.values) ∙ length-append (member_encodings c.values) (member_encodings s.values) in
-    let m = ap length c.same in
-    let a = ap length e ∙ length-append first rest in
-    let b = s.long in
-    record {
-      values = join_members c.values s.values;
-      members = subst (AreMembers (join_members c.values s.values)) (sym e) (members_joined c.values s.values first rest c.members s.members);
-      long = omega arith;
-    }
+shorter_behind input first rest n e c s = subst (AreShorter input) (omega arith) (shorter_joined input first rest 0 n e (canonical_shorter first c) s)
 
 -- the body of a struct or of an object
 pub shorter_inside : (type : ℕ) (body inside : List ℕ) (keyed : Bool) (n : ℕ) → IsInside type body keyed inside → AreShorterInside keyed inside n →
@@ -212,24 +158,17 @@ shorter_inside type body inside false n i s =
     let m = subst (AreMembers s.values) i.1 s.members in
     let w = whole_members s.values in
     let z = whole_list s.values body m in
-    let l = s.long in
     let d = ap length i.1 in
-    record { value = struct s.values; its_type = sym i.0; its_body = m; long = omega arith }
+    record { value = struct s.values; its_type = sym i.0; its_body = m; long = omega lengths }
 shorter_inside type body inside true n i s =
     let t = word_at body 0 in
     let k = word_at body 4 in
-    let p = subst (AreProperties s.values) i.2 s.properties in
-    let e0 = length-append (word_bytes t) (word_bytes k ++ property_encodings s.values) in
-    let e1 = length-append (word_bytes k) (property_encodings s.values) in
-    let e2 = length-word_bytes t in
-    let e3 = length-word_bytes k in
-    let w = whole_properties s.values in
-    let z = whole_keyed s.values (drop 8 body) p in
-    let l = s.long in
+    let p = subst (AreProperties s.0) i.2 s.1 in
+    let w = whole_properties s.0 in
+    let z = whole_keyed s.0 (drop 8 body) p in
+    let l = s.2 in
     let d = ap length i.2 in
-    let g = length-drop 8 body in
-    let h = i.1 in
-    record { value = object t k s.values; its_type = sym i.0; its_body = (i.1, refl, refl, p); long = omega arith }
+    record { value = object t k s.0; its_type = sym i.0; its_body = (i.1, refl, refl, p); long = omega lengths }
 
 -- no other encoding of a value without members is shorter than a body of it, choices aside
 pub same_padded : (v : Tree) (b : List ℕ) → IsBody v b → depth_of v ≡ 0 → type_of v ≢ choice_type → padded_size (length (encoded_body v)) ≡ padded_size (length b)
@@ -260,6 +199,4 @@ shorter_choice body kept n h e =
     let s = h.shape in
     let f = kept_flags s (word_at body 4) in
     let size : length (encoded_body (choice s f k h.default h.values)) ≡ 16 + length kept = kept_length body kept h in
-    let p = ap padded_size size in
-    let l = h.shorter in
     record { value = choice s f k h.default h.values; its_type = refl; its_body = h.its_choice; long = omega arith }

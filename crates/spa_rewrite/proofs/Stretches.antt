@@ -9,6 +9,7 @@ use Rattle.spa_format.proofs.Sequences.{members_joined}
 use Rattle.spa_fixed_sized.specs.declared.fault.DeserializeError.{DeserializeError}
 use Rattle.spa_scan.specs.Canonical.{AreCanonical}
 use Rattle.spa_rewrite.specs.Rewriting.{AreRewritten, IsLeft, RefusesFront, RefusesList}
+use Rattle.spa_rewrite.proofs.FirstPods.{left_behind_pods}
 use Rattle.spa_rewrite.proofs.Rewritten.{no_members}
 
 pub member_encodings-join : (vs ws : Trees) →
@@ -23,8 +24,7 @@ canonical_rewritten pods k = (k.values, k.members, k.same)
 
 -- nothing is left behind canonical pods
 pub all_canonical : (input first others : List ℕ) → input ≡ first ++ others → length others ≡ 0 → AreCanonical first → AreCanonical input
-all_canonical input first others parts z c =
-    subst AreCanonical (sym (parts ∙ ap (λ o. first ++ o) (nil_from_length others z) ∙ append-nil first)) c
+all_canonical input first others parts z c = subst AreCanonical (sym (parts ∙ ap (λ o. first ++ o) (nil_from_length others z) ∙ append-nil first)) c
 
 pub both_rewritten : (input first rest before out : List ℕ) → input ≡ first ++ rest → AreRewritten first [] before →
     AreRewritten rest [] out → AreRewritten input [] (before ++ out)
@@ -39,20 +39,11 @@ both_rewritten input first rest before out e f r =
 -- what is left behind canonical pods, and others
 pub left_behind : (input first rest left : List ℕ) → input ≡ first ++ rest → AreCanonical first →
     IsLeft rest left → IsLeft input left
-left_behind input first rest left e k l =
-    let parts : input ≡ (first ++ l.1) ++ left =
-    e ∙ ap (λ x. first ++ x) l.2 ∙ sym (append_assoc first l.1 left) in (
-      join_members k.values l.0,
-      first ++ l.1,
-      parts,
-      members_joined k.values l.0 first l.1 k.members l.3,
-      l.4,
-    )
+left_behind input first rest left e k l = left_behind_pods input first rest left k.values e k.members l
 
 pub list_refused : (input left : List ℕ) (e : DeserializeError (Bor (List ℕ))) →
     IsLeft input left → RefusesFront left e → RefusesList input left e
-list_refused input left e l r =
-    record { behind = l; refused = no_members input left l e r.refused; front = r }
+list_refused input left e l r = record { behind = l; refused = no_members input left l e r.refused; front = r }
 
 -- some first pods, and this is left
 pub record FirstMembers (input left : List ℕ) : Type 0 where

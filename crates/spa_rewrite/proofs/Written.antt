@@ -9,7 +9,7 @@ use Rattle.spa_format.proofs.Fronts.{length-body_of}
 use Rattle.spa_format.proofs.WordLemmas.{word_at-take}
 use Rattle.spa_bytes.specs.Opening.{Opens}
 use Rattle.spa_events.specs.Inside.{IsBehindKey, key_size}
-use Rattle.spa_rewrite.specs.Patched.{IsPodOf}
+use Rattle.spa_rewrite.specs.Emit.{IsPodOf}
 
 -- what is behind the key
 pub here_is : (keyed : Bool) (left here : List ℕ) → IsBehindKey keyed left here → (key_size keyed ≤ length left) × (here ≡ drop (key_size keyed) left)
@@ -46,8 +46,7 @@ opened_here here body rest pod type size o z n =
 
 -- one pod more
 pub take_past : (a b : List ℕ) (r m : ℕ) → length a ≡ r → take (r + m) (a ++ b) ≡ a ++ take m b
-take_past a b r m l =
-    take-add r m (a ++ b) ∙ ap (λ x. x ++ take m (drop r (a ++ b))) (take_at a b r l) ∙ ap (λ x. a ++ take m x) (drop_at a b r l)
+take_past a b r m l = take-add r m (a ++ b) ∙ ap (λ x. x ++ take m (drop r (a ++ b))) (take_at a b r l) ∙ ap (λ x. a ++ take m x) (drop_at a b r l)
 
 pub drop_past : (a b : List ℕ) (r m : ℕ) → length a ≡ r → drop (r + m) (a ++ b) ≡ drop m b
 drop_past a b r m l = sym (drop-drop m r (a ++ b)) ∙ ap (drop m) (drop_at a b r l)

@@ -9,17 +9,13 @@ use Rattle.spa_format.specs.Pod.{AreElements, IsChoice}
 use Rattle.spa_format.specs.Encoding.{fixed_bodies}
 use Rattle.spa_format.specs.Faults.{choice_header_size}
 
--- whole bodies of the kind that has this type number
-pub record AreOfNumber (number : ℕ) (elements : List ℕ) : Type 0 where
-  pub kind : Kind
-  pub its_number : number ≡ type_number kind
-  pub whole : AreWhole (body_size kind) elements
-
 -- the body of an array whose sizes are right, and the bodies of its elements
 pub record HasElements (body elements : List ℕ) : Type 0 where
   pub header : header_size ≤ length body
-  pub its : AreOfNumber (word_at body 4) elements
-  pub child_size : word_at body 0 ≡ body_size its.kind
+  pub kind : Kind
+  pub child_size : word_at body 0 ≡ body_size kind
+  pub child_type : word_at body 4 ≡ type_number kind
+  pub whole : AreWhole (body_size kind) elements
   pub behind : elements ≡ drop header_size body
 
 -- the body of a choice, and the bodies of its default and of the further values that it takes

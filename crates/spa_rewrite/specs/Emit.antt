@@ -1,22 +1,69 @@
--- Pods that are replaced by their encodings where they are: docs/FORMAT.md, "The encoding of a value".
-use Rattle.std.specs.Prelude.{◌≡◌, ◌%◌, ◌*◌, ◌/◌, ◌+◌, ◌-◌, ◌<◌, ◌≤◌, ◌++◌, ℕ, List, [], length, drop, take, Bool, true, false, Decides}
-use Rattle.spa_format.specs.Words.{header_size, size_limit, word_at, word_bytes}
+-- Pods that become their encodings, or are replaced by these where they are: docs/FORMAT.md, "The encoding of a value".
+use Rattle.std.specs.Prelude.{◌≡◌, ◌≢◌, ◌%◌, ◌+◌, ◌-◌, ◌<◌, ◌≤◌, ℕ, List, Bool, length, take, true, false, ◌*◌, ◌/◌, ◌++◌, [], drop, Decides}
+use Rattle.spa_format.specs.Words.{extent, header_size, size_limit, word_at, word_bytes}
+use Rattle.spa_format.specs.Tree.{Shape, Tree, Trees, Properties, choice_type, object_type, shape_number, struct_type}
+use Rattle.spa_format.specs.Kind.{Fixed, Kind, bool_kind, type_number}
+use Rattle.spa_format.specs.Pod.{AreElements, AreMembers, AreProperties, IsPod}
+use Rattle.spa_format.specs.Encoding.{encoding_of, fixed_bodies, member_encodings, property_encodings}
+use Rattle.spa_events.specs.Inside.{HoldsPods, IsBehindKey, key_size}
+use Rattle.spa_scan.specs.Canonical.{IsFixedLen, bytes_taken}
 use Rattle.spa_bytes.specs.Opening.{Opens}
-use Rattle.spa_events.specs.Inside.{IsBehindKey, key_size}
-use Rattle.spa_rewrite.specs.Placed.{ArePlaced, HoldsWhole, IsPlaced}
-use Rattle.spa_rewrite.specs.declared.emitting.After.{After}
 use Rattle.spa_rewrite.specs.declared.emitting.After.TheVariants as after
+use Rattle.spa_rewrite.specs.declared.emitting.After.{After}
 use Rattle.spa_rewrite.specs.declared.emitting.OpenList.{OpenList}
 use Rattle.spa_rewrite.specs.declared.emitting.Run.{Run}
 
--- the encoding of a pod is at its front, so long
-pub record EncodesPod (old new : List ℕ) (len : ℕ) : Type 0 where
-  pub placed : IsPlaced old (take len new)
-  pub within : len ≤ length old
+-- a pod became its rewriting, if that is as long
+abbrev pub IsPatched : List ℕ → List ℕ → Type 0
+IsPatched old new = (v : Tree) → IsPod old v → length (encoding_of v) ≡ length old → new ≡ encoding_of v
 
--- the encodings of pods one after another are at their front, so long
-pub record EncodesAll (old new : List ℕ) (len : ℕ) : Type 0 where
-  pub placed : ArePlaced false old (take len new)
+-- the pod at the front has a body of one word, and isn't a Bool
+pub record BeginsWord (input : List ℕ) : Type 0 where
+  pub long : header_size + 8 ≤ length input
+  pub its_size : word_at input 0 ≡ 4
+  pub its_type : IsFixedLen (word_at input 4) 4
+  pub other : word_at input 4 ≢ type_number bool_kind
+
+-- all bytes of a pod of this type and size
+pub record IsPodOf (pod : List ℕ) (type size : ℕ) : Type 0 where
+  pub long : length pod ≡ extent size
+  pub fits : size < size_limit
+  pub its_size : word_at pod 0 ≡ size
+  pub its_type : word_at pod 4 ≡ type
+
+-- whole bodies of the kind that has this type number became these as they are written
+abbrev pub TurnsWritten : ℕ → List ℕ → List ℕ → Type 0
+TurnsWritten number old new =
+    (k : Kind) (xs : List Fixed) → number ≡ type_number k → AreElements k xs old → new ≡ fixed_bodies xs
+
+-- this is the rewriting of a pod
+abbrev pub IsPlaced : List ℕ → List ℕ → Type 0
+IsPlaced pod new = (v : Tree) → IsPod pod v → new ≡ encoding_of v
+
+-- these are the rewritings of pods one after another; of properties, or members
+abbrev pub ArePlaced : Bool → List ℕ → List ℕ → Type 0
+ArePlaced true pods new = (ps : Properties) → AreProperties ps pods → new ≡ property_encodings ps
+ArePlaced false pods new = (vs : Trees) → AreMembers vs pods → new ≡ member_encodings vs
+
+-- a struct or an object whose pods can end where it does
+pub record HoldsWhole (type size : ℕ) (keyed : Bool) : Type 0 where
+  pub holds : HoldsPods type size keyed
+  pub whole : size % 8 ≡ 0
+
+-- the number of the type of an object, or of a struct
+abbrev pub type_inside : Bool → ℕ
+type_inside true = object_type
+type_inside false = struct_type
+
+-- The first bytes of a choice that takes so many bytes of values became its rewriting.
+abbrev pub TakesValues : ℕ → ℕ → List ℕ → List ℕ → Type 0
+TakesValues shape n old new =
+    (pod : List ℕ) (size : ℕ) → IsPodOf pod choice_type size → old ≡ take (extent (16 + n)) pod → 16 + n ≤ size → shape ≡ word_at pod 8 →
+    ((s : Shape) → shape ≡ shape_number s → n ≡ bytes_taken s (word_at pod 16) (size - 16)) → IsPlaced pod new
+
+-- encodings are at the front, so long
+pub record Encodes (Placed : List ℕ → List ℕ → Type 0) (old new : List ℕ) (len : ℕ) : Type 0 where
+  pub placed : Placed old (take len new)
   pub within : len ≤ length old
 
 -- The encodings of the first of them, which ended there, are at the front, so many bytes, and the others stay: with the encodings of these behind them they

@@ -6,7 +6,7 @@ use Rattle.spa_format.specs.Pod.{AreMembers, AreProperties, IsBody}
 use Rattle.spa_format.specs.Encoding.{encoded_body, encoding_of, member_encodings, property_encodings}
 use Rattle.spa_format.specs.Front.{front_of}
 use Rattle.spa_bodies.specs.Reading.{BeginsWith}
-use Rattle.spa_scan.specs.Depth.{depth_of, member_depth, property_depth}
+use Rattle.spa_scan.specs.Depth.{member_depth}
 
 -- pods one after another whose rewritings are together so many bytes shorter
 pub record AreShorter (body : List ℕ) (surplus : ℕ) : Type 0 where
@@ -14,15 +14,9 @@ pub record AreShorter (body : List ℕ) (surplus : ℕ) : Type 0 where
   pub members : AreMembers values body
   pub long : surplus + length (member_encodings values) ≡ length body
 
--- properties one after another whose rewritings are together so many bytes shorter: pods with key and flags before each
-pub record AreShorterProperties (body : List ℕ) (surplus : ℕ) : Type 0 where
-  pub values : Properties
-  pub properties : AreProperties values body
-  pub long : surplus + length (property_encodings values) ≡ length body
-
--- properties, or members
+-- properties, which are pods with key and flags before each, or members
 abbrev pub AreShorterInside : Bool → List ℕ → ℕ → Type 0
-AreShorterInside true body surplus = AreShorterProperties body surplus
+AreShorterInside true body surplus = (ps : Properties) × AreProperties ps body × (surplus + length (property_encodings ps) ≡ length body)
 AreShorterInside false body surplus = AreShorter body surplus
 
 -- the input begins with a pod whose rewriting is so many bytes shorter, and this follows it
@@ -43,24 +37,6 @@ pub record ArePodsWithin (levels : ℕ) (body : List ℕ) : Type 0 where
   pub values : Trees
   pub members : AreMembers values body
   pub shallow : member_depth values ≤ levels
-
--- properties one after another that nest in so many levels at most
-pub record ArePropertiesWithin (levels : ℕ) (body : List ℕ) : Type 0 where
-  pub values : Properties
-  pub properties : AreProperties values body
-  pub shallow : property_depth values ≤ levels
-
--- properties, or members, that nest in so many levels at most
-abbrev pub AreInsideWithin : ℕ → Bool → List ℕ → Type 0
-AreInsideWithin levels true body = ArePropertiesWithin levels body
-AreInsideWithin levels false body = ArePodsWithin levels body
-
--- a body of this type of a pod that nests in so many levels at most
-pub record IsBodyWithin (levels type : ℕ) (body : List ℕ) : Type 0 where
-  pub value : Tree
-  pub its_type : type_of value ≡ type
-  pub its_body : IsBody value body
-  pub shallow : depth_of value ≤ levels
 
 -- pods one after another whose rewritings take so many bytes
 pub record AreRewrittenAs (input : List ℕ) (len : ℕ) : Type 0 where

@@ -1,10 +1,9 @@
 //! Pods are replaced by their encodings where they are. It takes no memory and calls itself nowhere: the header of a container whose encoding is begun
 //! holds, until that is complete, where the container around it begins, and how much of that is left.
-ghost use Rattle.std.specs.Prelude.{[], ◌≡◌, ◌+◌, ◌-◌, ◌<◌, ◌≤◌, ◌++◌, Bool, IfNone, IfSome, drop, length, take};
+ghost use Rattle.std.specs.Prelude.{[], ◌≡◌, ◌+◌, ◌-◌, ◌<◌, ◌≤◌, ◌++◌, Bool, IfNone, IfSome, drop, false, length, take};
 ghost use Rattle.spa_format.specs.Words.{header_size, size_limit, word_at, word_bytes};
 ghost use Rattle.spa_events.specs.Inside.{key_size};
-ghost use Rattle.spa_rewrite.specs.Emit.{Begins, EncodesAll, EncodesFirst, IsAround, IsLink, IsRun, last_bit};
-ghost use Rattle.spa_rewrite.specs.Placed.{HoldsWhole, type_inside};
+ghost use Rattle.spa_rewrite.specs.Emit.{ArePlaced, Begins, Encodes, EncodesFirst, HoldsWhole, IsAround, IsLink, IsRun, last_bit, type_inside};
 ghost use Rattle.spa_rewrite.specs.Look.{AreChanged};
 ghost use Rattle.spa_rewrite.specs.Rewriting.{AreRewritten};
 
@@ -62,7 +61,7 @@ pub fn encode_pods(changed: usize, pods: &mut [u8]) -> usize
 /// Replaces pods one after another by their encodings, which are put at the front, and returns how many bytes these take. Of bytes that aren't such pods it
 /// promises nothing.
 fn emit(bytes: &mut [u8]) -> usize
-    ensures { EncodesAll bytes.old bytes.new result }
+    ensures { Encodes (ArePlaced false) bytes.old bytes.new result }
 {
     let mut list = OpenList {
         keyed: false,

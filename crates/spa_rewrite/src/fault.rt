@@ -53,6 +53,7 @@ fn body_fault(type_: u32, body: &[u8]) -> Refusal
 }
 
 /// The fault of an array's body.
+#[tactic(auto, using(crate::proofs::Faulted::no_elements))]
 fn array_fault(body: &[u8]) -> Refusal
     requires { (v : Tree) → type_of v ≡ array_type → ¬ (IsBody v body.now) }
     ensures { Says (StandsInBody array_type body.now) ⊥ result }

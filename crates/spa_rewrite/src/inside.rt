@@ -66,6 +66,7 @@ pub(crate) fn none_waiting(pods: &[u8]) -> Waiting<'_> {
 
 /// Looks inside a struct or an object: at its first pods that hold no others, which need no array, and at what follows them.
 #[inline(always)]
+#[tactic(auto, using(crate::proofs::Looks::stops_behind))]
 pub(crate) fn look_into<'a>(
     canonical: bool,
     keyed: bool,
@@ -160,6 +161,7 @@ pub(crate) fn look_inside<'a>(
 
 /// The struct or object that stands first in pods.
 #[inline(always)]
+#[tactic(auto, using(crate::proofs::Looks::opens_inside, crate::proofs::Looks::surround))]
 fn meet(keyed: bool, left: &[u8]) -> Met<'_>
     requires { 0 < length left.now }
     ensures { IsMet keyed left.now result }
@@ -197,6 +199,7 @@ fn behind_leaves(canonical: bool, keyed: bool, pods: &[u8]) -> (&[u8], usize)
 
 /// Whether a struct or an object is first.
 #[inline(always)]
+#[tactic(auto, using(crate::proofs::Faulted::container_stops, crate::proofs::Faulted::first_type))]
 fn is_inside_first(keyed: bool, pods: &[u8]) -> bool
     ensures { result ≡ true → (canonical : Bool) → StopsBefore keyed canonical pods.now }
 {
@@ -208,6 +211,7 @@ fn is_inside_first(keyed: bool, pods: &[u8]) -> bool
 
 /// Does what `behind_leaves` does, where a struct or an object is met most often.
 #[inline(always)]
+#[tactic(auto, using(crate::proofs::Looks::passes_none))]
 fn behind_first(canonical: bool, keyed: bool, pods: &[u8]) -> (&[u8], usize)
     ensures passed { Passes keyed canonical pods.now result.0.now result.1 }
     ensures last { StopsBefore keyed canonical result.0.now }
@@ -250,7 +254,7 @@ fn behind_each(canonical: bool, keyed: bool, pods: &[u8]) -> (&[u8], usize)
     }
 }
 
-/// What follows the first of those pods that are of fixed size, often many.
+/// What follows the first pods of fixed size that are canonical, or accepted.
 #[inline(always)]
 fn behind_short(canonical: bool, keyed: bool, pods: &[u8]) -> &[u8]
     ensures passed { Passes keyed canonical pods.now result.now 0 }
@@ -266,7 +270,7 @@ fn behind_short(canonical: bool, keyed: bool, pods: &[u8]) -> &[u8]
 /// The length in bytes of a key, flags and a pod whose body is one or two words.
 const KEYED_LEN: usize = 24;
 
-/// What follows the first of those pods, where it is of fixed size.
+/// What follows the first pod, where it is of fixed size, and canonical, or accepted.
 #[inline(always)]
 fn behind_one(canonical: bool, keyed: bool, pods: &[u8]) -> Option<&[u8]>
     ensures passed { IfSome result (λ rest. Passes keyed canonical pods.now rest.now 0) }

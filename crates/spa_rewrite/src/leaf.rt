@@ -38,6 +38,7 @@ pub(crate) fn leaf(canonical: bool, input: &[u8]) -> Option<(&[u8], usize)>
 
 /// Does what `leaf` does, where `short_leaf` doesn't pass the pod.
 #[inline(always)]
+#[tactic(auto, using(crate::proofs::LeafBodies::never, crate::proofs::Looks::asked_own, crate::proofs::ShorterLemmas::shorter_opened))]
 pub(crate) fn long_leaf(canonical: bool, input: &[u8]) -> Option<(&[u8], usize)>
     requires { canonical ≡ true → MissesOnly input.now (λ v. ¬ (IsSized v)) }
     ensures there { IfSome result (λ leaf. BeginsAsked canonical input.now leaf.0.now leaf.1) }
@@ -132,6 +133,7 @@ fn choice_surplus(body: &[u8]) -> Option<usize>
 
 /// Whether a body of this type is that of a value without members, and not a choice. The encoding of such a value is as long as the pod.
 #[inline(always)]
+#[tactic(auto, using(crate::proofs::LeafBodies::pointer_sizes, crate::proofs::LeafBodies::text_of_body, crate::proofs::SameLength::bitmap_same_length, crate::proofs::SameLength::bytes_same_length, crate::proofs::SameLength::pointer_same_length, crate::proofs::SameLength::text_same_length))]
 fn is_leaf_body(type_: u32, body: &[u8]) -> bool
     ensures same_length { result ≡ true → IsShorterBody type_ body.now 0 }
     ensures found { type_ ≢ choice_type → (s : IsShorterBody type_ body.now 0) → depth_of s.value ≡ 0 → result ≡ true }
@@ -147,6 +149,7 @@ fn is_leaf_body(type_: u32, body: &[u8]) -> bool
 }
 
 /// Whether this is the body of a value of fixed size.
+#[tactic(auto, using(crate::proofs::SameLength::fixed_same_length))]
 fn is_fixed_body(type_: u32, body: &[u8]) -> bool
     ensures same_length { result ≡ true → IsShorterBody type_ body.now 0 }
     ensures found { (k : Kind) → type_ ≡ type_number k → length body.now ≡ body_size k → result ≡ true }
@@ -156,6 +159,7 @@ fn is_fixed_body(type_: u32, body: &[u8]) -> bool
 }
 
 /// Whether this is the body of an array: these are as long as their encodings.
+#[tactic(auto, using(crate::proofs::LeafBodies::array_of_body, crate::proofs::SameLength::array_same_length))]
 fn is_array_body(body: &[u8]) -> bool
     ensures same_length { result ≡ true → IsShorterBody array_type body.now 0 }
     ensures found { IsShorterBody array_type body.now 0 → result ≡ true }

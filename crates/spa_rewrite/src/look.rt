@@ -62,6 +62,7 @@ enum FrontLook<'a> {
 /// Looks at the pod at the front of the input.
 ///
 /// It takes no memory. Any pod is accepted in which at most 1000 structs and objects stand in one another.
+#[tactic(auto, using(crate::proofs::Accepted::rejected_value, crate::proofs::LeafBodies::never, spa_scan::proofs::Depths::deep_begun))]
 pub fn look_at_pod(input: &[u8]) -> Result<AcceptedPod<'_>, Rejected<'_>>
     ensures accepted { IfOk result (IsAccepted input.now) }
     ensures rejected { IfErr result (IsRejected input.now) }
@@ -142,6 +143,7 @@ pub fn changed_pods(alloc: Global, input: &[u8]) -> Result<usize, (&[u8], Reject
 }
 
 /// Looks at all pods that the input consists of as `changed_pods` does.
+#[tactic(auto, using(crate::proofs::Changed::changed_members))]
 pub fn find_fault(alloc: Global, input: &[u8]) -> Result<(), (&[u8], Rejected<'_>)>
     ensures accepted { OnOk result ((vs : Trees) × AreMembers vs input.now) }
     ensures left { IfErr result (λ refusal. IsLeft input.now refusal.0.now) }
@@ -170,6 +172,7 @@ pub fn canonical_front(input: &[u8]) -> Option<&[u8]>
 
 /// The first pods, as many as `canonical_front` finds to be canonical, and what follows them.
 #[inline(never)]
+#[tactic(auto, using(std::proofs::lemmas::List::drop_all, spa_scan::proofs::Frames::stretch_front, spa_scan::proofs::Frames::stretch_parts))]
 pub fn canonical_stretch(input: &[u8]) -> (&[u8], &[u8])
     ensures parts { input.now ≡ result.0.now ++ result.1.now }
     ensures canonical { AreCanonical result.0.now }
@@ -196,6 +199,7 @@ fn behind_canonical_pods<'a>(pods: &'a [u8], frames: &mut [Waiting<'a>]) -> &'a 
 
 /// What follows the pod at the front as `canonical_front` says it, with an array in which lists can wait.
 #[inline(always)]
+#[tactic(auto, using(spa_scan::proofs::Depths::deep_begun, crate::proofs::Accepted::less_left))]
 fn next_canonical<'a>(input: &'a [u8], frames: &mut [Waiting<'a>]) -> Option<&'a [u8]>
     ensures taken { IfSome result (λ rest. BeginsCanonical input.now rest.now) }
     ensures shorter { IfSome result (λ rest. length rest.now + 8 ≤ length input.now) }

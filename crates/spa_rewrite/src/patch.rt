@@ -7,9 +7,7 @@ ghost use Rattle.spa_format.specs.Kind.{bool_kind, type_number};
 ghost use Rattle.spa_rewrite.specs.Elements.{AreTruths};
 ghost use Rattle.spa_format.specs.Typed.{IsBytes};
 ghost use Rattle.spa_format.specs.Words.{header_size, size_limit, word_at};
-ghost use Rattle.spa_rewrite.specs.Emit.{EncodesPod};
-ghost use Rattle.spa_rewrite.specs.Patched.{BeginsWord, IsPatched, IsPodOf, TurnsWritten};
-ghost use Rattle.spa_rewrite.specs.Placed.{HoldsWhole, TakesValues};
+ghost use Rattle.spa_rewrite.specs.Emit.{BeginsWord, Encodes, HoldsWhole, IsPatched, IsPlaced, IsPodOf, TakesValues, TurnsWritten};
 
 use spa_bytes::{
     HEADER_LEN, POINTER_LEN, SECOND_WORD, SHORT_POINTER_LEN, extent_of, joined, two_words, u32_at,
@@ -32,7 +30,7 @@ const VALUES_AT: usize = 24;
 /// The length in bytes of a whole pointer.
 const POINTER_POD: usize = 24;
 
-/// Whether the pod at the front is there, and a word that is no truth value.
+/// Whether the pod at the front has a body of one word, and isn't a Bool. `false` promises nothing.
 #[inline(always)]
 pub(crate) fn begins_word(input: &[u8]) -> bool
     ensures { result ≡ true → BeginsWord input.now }
@@ -52,7 +50,7 @@ pub(crate) fn begins_word(input: &[u8]) -> bool
 pub(crate) fn encode_leaf(type_: u32, size: usize, pod: &mut [u8]) -> usize
     requires pod { IsPodOf pod.old type_ size }
     requires no_inner { (keyed : Bool) → ¬ (HoldsWhole type_ size keyed) }
-    ensures { EncodesPod pod.old pod.new result }
+    ensures { Encodes IsPlaced pod.old pod.new result }
 {
     match SpaTypes(type_) {
         SpaTypes::Struct => 0,
@@ -70,7 +68,7 @@ pub(crate) fn encode_leaf(type_: u32, size: usize, pod: &mut [u8]) -> usize
 #[inline(always)]
 fn encode_choice(size: usize, pod: &mut [u8]) -> usize
     requires { IsPodOf pod.old choice_type size }
-    ensures { EncodesPod pod.old pod.new result }
+    ensures { Encodes IsPlaced pod.old pod.new result }
 {
     if size < SECOND_HEADER {
         return 0;
@@ -172,6 +170,7 @@ fn patch_values(shape: u32, len: usize, pod: &mut [u8])
 }
 
 /// Makes the bodies of elements of this type those that are written.
+#[tactic(auto, using(crate::proofs::Bodies::whole_of, crate::proofs::PatchedBodies::no_whole_truths, crate::proofs::PatchedBodies::others_written))]
 fn patch_elements(type_: u32, elements: &mut [u8])
     ensures { TurnsWritten type_ elements.old elements.new }
 {

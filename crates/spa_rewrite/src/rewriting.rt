@@ -129,6 +129,7 @@ struct Refused<'a> {
 }
 
 /// The refusal of a pod that isn't accepted: for its fault, or for want of memory where it nests too deep.
+#[tactic(auto, using(spa_scan::proofs::Deeper::its_front, crate::proofs::Lacking::fault_memory, crate::proofs::Lacking::is_fault, crate::proofs::Lacking::lacks))]
 fn refusal_of<'a>(pod: &'a [u8], rejected: Rejected<'a>) -> Refused<'a>
     requires { IsRejected pod.now rejected }
     ensures refused { IsRefusal pod.now (error_of result.place result.why) }
@@ -186,6 +187,7 @@ fn accept_any(alloc: Global, input: &[u8]) -> Result<&[u8], Rejected<'_>>
 }
 
 /// Appends the encoding of the pod at the front of the input, and answers what follows that pod.
+#[tactic(auto, using(crate::proofs::Appending::front_copied, crate::proofs::Appending::none_canonical, crate::proofs::Lacking::lacks))]
 fn append_front<'a>(input: &'a [u8], out: &mut Vec<u8>) -> Result<&'a [u8], Refused<'a>>
     ensures appended { IfOk result (λ rest. AppendsFront input.now rest.now out.old.items out.new.items) }
     ensures unchanged { OnErr result (out.new.items ≡ out.old.items) }

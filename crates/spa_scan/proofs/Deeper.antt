@@ -37,60 +37,36 @@ front_there b h =
     record { header = omega arith; whole = omega arith }
 
 pub deep_input : (n : ℕ) (input body rest : List ℕ) (type : ℕ) → Opens input type body rest → IsDeepBody n type body → NestsDeeper n input
-deep_input n input body rest type o d =
-    of_body n input o.there
-    (subst (λ c. IsDeepBody n (word_at input 4) c) o.its_body (subst (λ t. IsDeepBody n t body) o.its_type d))
+deep_input n input body rest type o d = of_body n input o.there (rw (o.its_type, o.its_body) at d)
 
 pub input_deep : (n : ℕ) (input body rest : List ℕ) (type : ℕ) → Opens input type body rest → NestsDeeper n input → IsDeepBody n type body
-input_deep n input body rest type o d =
-    subst (λ t. IsDeepBody n t body) (sym o.its_type) (subst (λ c. IsDeepBody n (word_at input 4) c) (sym o.its_body) (to_body n input d))
+input_deep n input body rest type o d = rw (o.its_type, o.its_body) (to_body n input d)
 
 -- an input nests as its front does
 pub of_front : (n : ℕ) (b : List ℕ) → HasFront b → NestsDeeper n (front_of b) → NestsDeeper n b
-of_front n b h d =
-    of_body n b h
-    (subst (λ t. IsDeepBody n t (body_of b)) (type_of_front b)
-    (subst (λ c. IsDeepBody n (word_at (front_of b) 4) c) (body_of_front b) (to_body n (front_of b) d)))
+of_front n b h d = of_body n b h (rw (type_of_front b, body_of_front b) at (to_body n (front_of b) d))
 
 to_front : (n : ℕ) (b : List ℕ) → NestsDeeper n b → NestsDeeper n (front_of b)
-to_front n b d =
-    of_body n (front_of b) (front_there b (its_front n b d))
-    (subst (λ c. IsDeepBody n (word_at (front_of b) 4) c) (sym (body_of_front b))
-    (subst (λ t. IsDeepBody n t (body_of b)) (sym (type_of_front b)) (to_body n b d)))
+to_front n b d = of_body n (front_of b) (front_there b (its_front n b d)) (rw (type_of_front b, body_of_front b) (to_body n b d))
 
 -- one of the pods inside a container is the first, or one behind it
 pub first_or_behind : (n k : ℕ) (left : List ℕ) → k ≤ length left → HasFront (drop k left) →
     SomeOf (λ p. NestsDeeper n (drop k p)) (walk_behind k left)
     ↔ (NestsDeeper n (drop k left) ⊎ SomeOf (λ p. NestsDeeper n (drop k p)) (walk_behind k (rest_of (drop k left))))
 first_or_behind n k left l h =
-    let P : List ℕ → Type 0 = λ p. NestsDeeper n (drop k p) in
-    let w = walk_first k left l h in
-    let e = pod_behind k left in (
-      λ s. elim (subst (SomeOf P) w s) [
-        | inl d ↦ inl (of_front n (drop k left) h (subst (NestsDeeper n) e d))
-        | inr r ↦ inr r
-      ],
-      λ s. subst (SomeOf P) (sym w)
-          (elim s [
-            | inl d ↦ inl (subst (NestsDeeper n) (sym e) (to_front n (drop k left) d))
-            | inr r ↦ inr r
-          ]),
+    rw (walk_first k left l h, pod_behind k left) (
+      λ s. elim s [ inl d ↦ inl (of_front n (drop k left) h d) | inr r ↦ inr r ],
+      λ s. elim s [ inl d ↦ inl (to_front n (drop k left) d) | inr r ↦ inr r ],
     )
 
 pub opened_first : (n : ℕ) (keyed : Bool) (left : List ℕ) (type : ℕ) (body rest : List ℕ) → OpensFirst keyed left type body rest →
     NestsDeeperInside n keyed left ↔ (IsDeepBody n type body ⊎ NestsDeeperInside n keyed rest)
 opened_first n keyed left type body rest o =
     let f = first_or_behind n (key_size keyed) left o.key o.opens.there in
-    let here = drop (key_size keyed) left in (
-      λ s. elim (f.0 s) [
-        | inl d ↦ inl (input_deep n here body rest type o.opens d)
-        | inr r ↦ inr (subst (NestsDeeperInside n keyed) (sym o.opens.its_rest) r)
-      ],
-      λ s. f.1
-          (elim s [
-            | inl d ↦ inl (deep_input n here body rest type o.opens d)
-            | inr r ↦ inr (subst (NestsDeeperInside n keyed) o.opens.its_rest r)
-          ]),
+    let here = drop (key_size keyed) left in
+    rw o.opens.its_rest (
+      λ s. elim (f.0 s) [ inl d ↦ inl (input_deep n here body rest type o.opens d) | inr r ↦ inr r ],
+      λ s. f.1 (elim s [ inl d ↦ inl (deep_input n here body rest type o.opens d) | inr r ↦ inr r ]),
     )
 
 pub none_inside : (n : ℕ) (keyed : Bool) (left : List ℕ) → length left < extent_behind (key_size keyed) left → ¬ (NestsDeeperInside n keyed left)
@@ -159,19 +135,11 @@ its_container (suc n) b d = container (word_at b 4) (body_of b) d.2 d.1 d.3
 
 pub deeper_than_fewer : (m n : ℕ) (b : List ℕ) → m ≤ n → NestsDeeper n b → NestsDeeper m b
 unfolding NestsDeeper
-deeper_than_fewer zero zero b l d = d
-deeper_than_fewer zero (suc n) b l d = (d.0, container (word_at b 4) (body_of b) d.2 d.1 d.3)
+deeper_than_fewer zero n b l d = (its_front n b d, its_container n b d)
 deeper_than_fewer (suc m) zero b l d = absurd (omega arith)
-deeper_than_fewer (suc m) (suc n) b l d = (
-  d.0,
-  d.1,
-  d.2,
-  d.3,
-  some_weaker (λ p. NestsDeeper n (drop (key_size d.1) p)) (λ p. NestsDeeper m (drop (key_size d.1) p))
-      (λ p. deeper_than_fewer m n (drop (key_size d.1) p) (omega arith)) (walk_behind (key_size d.1) d.2) d.4,
-)
+deeper_than_fewer (suc m) (suc n) b l d =
+    (d.0, d.1, d.2, d.3, some_weaker _ _ (λ (p : List ℕ). deeper_than_fewer m n (drop (key_size d.1) p) (omega arith)) (walk_behind (key_size d.1) d.2) d.4)
 
 pub inside_deeper_than_fewer : (m n : ℕ) (keyed : Bool) (inside : List ℕ) → m ≤ n → NestsDeeperInside n keyed inside → NestsDeeperInside m keyed inside
 inside_deeper_than_fewer m n keyed inside l d =
-    some_weaker (λ p. NestsDeeper n (drop (key_size keyed) p)) (λ p. NestsDeeper m (drop (key_size keyed) p))
-    (λ p. deeper_than_fewer m n (drop (key_size keyed) p) l) (walk_behind (key_size keyed) inside) d
+    some_weaker _ _ (λ (p : List ℕ). deeper_than_fewer m n (drop (key_size keyed) p) l) (walk_behind (key_size keyed) inside) d

@@ -1,11 +1,11 @@
 -- The front with zeros as its padding is an encoded pod.
-use Rattle.std.proofs.Common.{List, [], ap, append_assoc, arith, drop, inr, length, length-append, length-drop, refl, subst, sym, take, ℕ, ◌++◌, ◌+◌, ◌-◌, ◌<◌, ◌∙◌, ◌≡◌, ◌≤◌}
+use Rattle.std.proofs.Common.{append-nil, List, [], ap, append_assoc, arith, drop, inr, length, length-append, length-drop, refl, subst, sym, take, ℕ, ◌++◌, ◌+◌, ◌-◌, ◌<◌, ◌∙◌, ◌≡◌, ◌≤◌}
 use Rattle.std.proofs.Math.Seq.{take-add}
-use Rattle.std.proofs.lemmas.List.{length-take-le, take_at, nil_from_length, take-append-drop}
+use Rattle.std.proofs.lemmas.List.{drop_at, length-take-le, take_at, nil_from_length, take-append-drop}
 use Rattle.spa_format.specs.Words.{body_of, extent, header_size, padded_size, padding, wide_at, wide_bytes, word_at, word_bytes}
 use Rattle.spa_format.specs.Tree.{Tree, Trees, fixed, member, no_properties, no_trees, object, object_type, pointer, pointer_type, property, type_of}
 use Rattle.spa_format.specs.Pod.{AreMembers, AreProperties, IsBody}
-use Rattle.spa_format.specs.Encoding.{encoded_pod, encoded_body, property_encodings}
+use Rattle.spa_format.specs.Encoding.{encoded_pod, encoded_body, encoding_of, property_encodings}
 use Rattle.spa_format.specs.Typed.{IsBytes}
 use Rattle.spa_format.specs.Front.{HasFront, front_of}
 use Rattle.spa_format.proofs.Fronts.{front_of_whole, length-body_of, front_and_rest}
@@ -13,29 +13,23 @@ use Rattle.spa_format.proofs.Short.{padded_above}
 use Rattle.spa_bytes.specs.Opening.{Opens}
 use Rattle.spa_bodies.specs.Reading.{BeginsWith}
 use Rattle.spa_bodies.proofs.Steps.{pod_read}
-use Rattle.spa_scan.specs.Canonical.{AreCanonical, AreCanonicalProperties, BeginsCanonical, HasZeros, IsCanonicalBody, IsStretch}
-use Rattle.spa_format.proofs.WordLemmas.{IsBytes-drop, IsBytes-take, wide_at-drop, word_at-drop, word_at-take}
+use Rattle.spa_scan.specs.Canonical.{AreCanonical, AreCanonicalProperties, BeginsCanonical, BeginsCanonicalProperty, HasZeros, IsCanonicalBody, IsPropertyStretch, IsStretch}
+use Rattle.spa_format.proofs.WordLemmas.{IsBytes-drop, IsBytes-take, wide_at-drop, word_at-append, word_at-drop, word_at-take}
 use Rattle.spa_format.specs.Kind.{none, Kind, bool_kind, IsFixedBody, type_number, body_size, content}
 use Rattle.spa_format.proofs.FixedKinds.{kind_of_content}
-use Rattle.spa_scan.proofs.Words.{content_kept, two_words_back, wide_back, word_there}
+use Rattle.spa_scan.proofs.Words.{content_kept, two_words, two_words_then, wide_back}
 
 pub pod_front : (b : List ℕ) → IsBytes b → HasFront b → HasZeros (drop 8 b) (word_at b 0) → front_of b ≡ encoded_pod (word_at b 4) (body_of b)
 pod_front b h f z =
     let n = word_at b 0 in
     let t = word_at b 4 in
     let p = padded_size n in
-    let behind = drop 8 b in
-    let body = take n behind in
-    let long = f.header in
-    let parts : take (8 + p) b ≡ take 8 b ++ take p behind = take-add 8 p b in
-    let head : take 8 b ≡ word_bytes n ++ word_bytes t =
-    take-add 4 4 b ∙ ap (λ x. x ++ take 4 (drop 4 b)) (sym (word_there b 0 h (omega arith))) ∙ ap (λ x. word_bytes n ++ x) (sym (word_there b 4 h (omega arith))) in
+    let body = body_of b in
     let more : n + (p - n) ≡ p = let g = padded_above n in omega arith in
-    let tail : take p behind ≡ body ++ padding n = ap (λ m. take m behind) (sym more) ∙ take-add n (p - n) behind ∙ ap (λ x. body ++ x) z in
-    let size : length body ≡ n = length-body_of b f in
-    parts ∙ ap (λ x. x ++ take p behind) head ∙ ap (λ x. (word_bytes n ++ word_bytes t) ++ x) tail
+    let tail : take p (drop 8 b) ≡ body ++ padding n = ap (λ m. take m (drop 8 b)) (sym more) ∙ take-add n (p - n) (drop 8 b) ∙ ap (λ x. body ++ x) z in
+    take-add 8 p b ∙ ap (λ x. x ++ take p (drop 8 b)) (two_words b h f.header) ∙ ap (λ x. (word_bytes n ++ word_bytes t) ++ x) tail
     ∙ append_assoc (word_bytes n) (word_bytes t) (body ++ padding n)
-    ∙ ap (λ m. word_bytes m ++ (word_bytes t ++ (body ++ padding m))) (sym size)
+    ∙ ap (λ m. word_bytes m ++ (word_bytes t ++ (body ++ padding m))) (sym (length-body_of b f))
 
 -- a canonical body, and zeros behind it
 pub canonical_front : (input behind body rest : List ℕ) (type : ℕ) → IsBytes input → Opens input type body rest → behind ≡ drop 8 input →
@@ -59,31 +53,6 @@ no_properties_left = record { values = no_properties; properties = refl; same = 
 
 pub parted : (input : List ℕ) (v : Tree) (rest : List ℕ) → BeginsWith input v rest → input ≡ front_of input ++ rest
 parted input v rest r = front_and_rest input ∙ ap (λ l. front_of input ++ l) (sym r.follows)
-
-pub one_more : (input rest : List ℕ) → BeginsCanonical input rest → AreCanonical rest → AreCanonical input
-one_more input rest c r =
-    let v = c.value in
-    let p = parted input v rest c.begins in
-    record {
-      values = member v r.values;
-      members = (front_of input, rest, p, c.begins.begins.pod, r.members);
-      same = p ∙ ap (λ x. x ++ rest) c.same ∙ ap (λ x. encoded_pod (type_of v) (encoded_body v) ++ x) r.same;
-    }
-
-pub one_more_property : (input behind rest : List ℕ) → IsBytes input → header_size ≤ length input → behind ≡ drop header_size input → BeginsCanonical behind rest → AreCanonicalProperties rest → AreCanonicalProperties input
-one_more_property input behind rest h l d c r =
-    let v = c.value in
-    let p = parted behind v rest c.begins in
-    let head : take 8 input ≡ word_bytes (word_at input 0) ++ word_bytes (word_at input 4) =
-    take-add 4 4 input ∙ ap (λ x. x ++ take 4 (drop 4 input)) (sym (word_there input 0 h (omega arith))) ∙ ap (λ x. word_bytes (word_at input 0) ++ x) (sym (word_there input 4 h (omega arith))) in
-    let encoding = encoded_pod (type_of v) (encoded_body v) in
-    let all : behind ≡ encoding ++ property_encodings r.values = p ∙ ap (λ x. x ++ rest) c.same ∙ ap (λ x. encoding ++ x) r.same in
-    record {
-      values = property (word_at input 0) (word_at input 4) v r.values;
-      properties = (l, refl, refl, front_of behind, rest, sym d ∙ p, c.begins.begins.pod, r.properties);
-      same = sym (take-append-drop 8 input) ∙ ap (λ x. take 8 input ++ x) (sym d ∙ all) ∙ ap (λ x. x ++ (encoding ++ property_encodings r.values)) head
-          ∙ append_assoc (word_bytes (word_at input 0)) (word_bytes (word_at input 4)) (encoding ++ property_encodings r.values);
-    }
 
 pub rest_shorter : (input body rest : List ℕ) (type : ℕ) → Opens input type body rest → length rest + 8 ≤ length input
 rest_shorter input body rest type o =
@@ -131,38 +100,22 @@ pub rest_bytes : (behind rest : List ℕ) → IsBytes behind → BeginsCanonical
 rest_bytes behind rest h c = subst IsBytes (sym c.begins.follows) (IsBytes-drop (extent (word_at behind 0)) behind h)
 
 pub object_of : (body behind : List ℕ) (type : ℕ) → IsBytes body → 8 ≤ length body → behind ≡ drop 8 body → type ≡ object_type → AreCanonicalProperties behind → IsCanonicalBody type body
-object_of body behind type h l d k c =
-    let t = word_at body 0 in
-    let i = word_at body 4 in
-    let long : length (take 8 body) ≡ 8 = length-take-le 8 body l in
-    let head = two_words_back (take 8 body) (IsBytes-take 8 body h) long in
-    let w0 : word_at (take 8 body) 0 ≡ t = word_at-take 8 0 body (omega arith) in
-    let w4 : word_at (take 8 body) 4 ≡ i = word_at-take 8 4 body (omega arith) in
-    record {
-      value = object t i c.values;
-      its_type = sym k;
-      its_body = (l, refl, refl, subst (AreProperties c.values) d c.properties);
-      same = sym (take-append-drop 8 body) ∙ ap (λ y. y ++ drop 8 body) (head ∙ ap (λ y. word_bytes y ++ word_bytes (word_at (take 8 body) 4)) w0 ∙ ap (λ y. word_bytes t ++ word_bytes y) w4)
-          ∙ append_assoc (word_bytes t) (word_bytes i) (drop 8 body)
-          ∙ ap (λ y. word_bytes t ++ (word_bytes i ++ y)) (sym d ∙ c.same);
-    }
+object_of body behind type h l d k c = record {
+  value = object (word_at body 0) (word_at body 4) c.values;
+  its_type = sym k;
+  its_body = (l, refl, refl, subst (AreProperties c.values) d c.properties);
+  same = two_words_then body _ _ _ h l refl refl (sym d ∙ c.same);
+}
 
 pub pointer_of : (body : List ℕ) (type : ℕ) → IsBytes body → length body ≡ 16 → type ≡ pointer_type → word_at body 4 ≡ 0 → IsCanonicalBody type body
 pointer_of body type h l k z =
-    let t = word_at body 0 in
-    let long : length (take 8 body) ≡ 8 = length-take-le 8 body (omega arith) in
     let rest : length (drop 8 body) ≡ 8 = let d = length-drop 8 body in omega arith in
-    let head = two_words_back (take 8 body) (IsBytes-take 8 body h) long in
-    let w0 : word_at (take 8 body) 0 ≡ t = word_at-take 8 0 body (omega arith) in
-    let w4 : word_at (take 8 body) 4 ≡ 0 = word_at-take 8 4 body (omega arith) ∙ z in
     let wide : drop 8 body ≡ wide_bytes (wide_at body 8) = sym (wide_back (drop 8 body) (IsBytes-drop 8 body h) rest) ∙ ap wide_bytes (wide_at-drop 8 0 body) in
     record {
-      value = pointer t (wide_at body 8);
+      value = pointer (word_at body 0) (wide_at body 8);
       its_type = sym k;
       its_body = (refl, inr (l, refl));
-      same = sym (take-append-drop 8 body) ∙ ap (λ y. y ++ drop 8 body) (head ∙ ap (λ y. word_bytes y ++ word_bytes (word_at (take 8 body) 4)) w0 ∙ ap (λ y. word_bytes t ++ word_bytes y) w4)
-          ∙ append_assoc (word_bytes t) (word_bytes 0) (drop 8 body)
-          ∙ ap (λ y. word_bytes t ++ (word_bytes 0 ++ y)) wide;
+      same = two_words_then body _ _ _ h (omega arith) refl z wide;
     }
 
 pub none_of : (body : List ℕ) (type : ℕ) → type ≡ 1 → length body ≡ 0 → IsCanonicalBody type body
@@ -189,11 +142,73 @@ more_stretch input rest left c s =
       },
     )
 
-pub stretch_parts : (input left : List ℕ) (n : ℕ) → IsStretch input left → n ≡ length input - length left → (take n input ++ drop n input ≡ input) × AreCanonical (take n input)
-stretch_parts input left n s e =
+pub one_property : (input behind rest : List ℕ) → IsBytes input → header_size ≤ length input →
+    behind ≡ drop header_size input → BeginsCanonical behind rest → BeginsCanonicalProperty input rest
+one_property input behind rest h l d c = record {
+  header = l;
+  words = two_words input h l;
+  pod = subst (λ b. BeginsCanonical b rest) d c;
+}
+
+pub no_property_stretch : (b : List ℕ) → IsPropertyStretch b b
+no_property_stretch b = ([], refl, no_properties_left)
+
+pub more_properties : (input rest left : List ℕ) → BeginsCanonicalProperty input rest →
+    IsPropertyStretch rest left → IsPropertyStretch input left
+more_properties input rest left c s =
+    let head = take 8 input in
+    let front = front_of (drop 8 input) in
+    let v = c.pod.value in
+    let r = s.2 in
+    let k = word_at input 0 in
+    let f = word_at input 4 in
+    let first = head ++ (front ++ s.0) in
+    let behind : drop 8 input ≡ front ++ (s.0 ++ left) =
+    parted (drop 8 input) v rest c.pod.begins ∙ ap (λ x. front ++ x) s.1 in
+    let parts : input ≡ first ++ left =
+    sym (take-append-drop 8 input) ∙ ap (λ x. head ++ x) (behind ∙ sym (append_assoc front s.0 left))
+    ∙ sym (append_assoc head (front ++ s.0) left) in
+    let long : length head ≡ 8 = length-take-le 8 input c.header in
+    let size = length-append head (front ++ s.0) in
+    let w0 : k ≡ word_at first 0 = ap (λ y. word_at y 0) parts ∙ word_at-append first left 0 (omega arith) in
+    let w4 : f ≡ word_at first 4 = ap (λ y. word_at y 4) parts ∙ word_at-append first left 4 (omega arith) in
+    let inside : drop 8 first ≡ front ++ s.0 = drop_at head (front ++ s.0) 8 long in
+    let enough : 8 ≤ length first = omega arith in
+    let others : front ++ s.0 ≡ encoding_of v ++ property_encodings r.values =
+    ap (λ x. x ++ s.0) c.pod.same ∙ ap (λ x. encoding_of v ++ x) r.same in (
+      first,
+      parts,
+      record {
+        values = property k f v r.values;
+        properties = (enough, w0, w4, front, s.0, inside, c.pod.begins.begins.pod, r.properties);
+        same = ap (λ x. x ++ (front ++ s.0)) c.words ∙ append_assoc (word_bytes k) (word_bytes f) (front ++ s.0)
+            ∙ ap (λ x. word_bytes k ++ (word_bytes f ++ x)) others;
+      },
+    )
+
+pub one_more : (input rest : List ℕ) → BeginsCanonical input rest → AreCanonical rest → AreCanonical input
+one_more input rest c r =
+    let s = more_stretch input rest [] c (rest, sym (append-nil rest), r) in
+    subst AreCanonical (sym (s.1 ∙ append-nil s.0)) s.2
+
+pub one_more_property : (input behind rest : List ℕ) → IsBytes input → header_size ≤ length input → behind ≡ drop header_size input → BeginsCanonical behind rest → AreCanonicalProperties rest → AreCanonicalProperties input
+one_more_property input behind rest h l d c r =
+    let s = more_properties input rest [] (one_property input behind rest h l d c) (rest, sym (append-nil rest), r) in
+    subst AreCanonicalProperties (sym (s.1 ∙ append-nil s.0)) s.2
+
+-- what is in front of what is left
+parts_of : (P : List ℕ → Type 0) (input left : List ℕ) (n : ℕ) → (first : List ℕ) × (input ≡ first ++ left) × P first →
+    n ≡ length input - length left → (take n input ++ drop n input ≡ input) × P (take n input)
+parts_of P input left n s e =
     let size : n ≡ length s.0 = let l = ap length s.1 in let m = length-append s.0 left in omega arith in
     let same : take n input ≡ s.0 = ap (take n) s.1 ∙ take_at s.0 left n (sym size) in
-    (take-append-drop n input, subst AreCanonical (sym same) s.2)
+    (take-append-drop n input, subst P (sym same) s.2)
+
+pub stretch_parts : (input left : List ℕ) (n : ℕ) → IsStretch input left → n ≡ length input - length left → (take n input ++ drop n input ≡ input) × AreCanonical (take n input)
+stretch_parts = parts_of AreCanonical
+
+pub property_parts : (input left : List ℕ) (n : ℕ) → IsPropertyStretch input left → n ≡ length input - length left → (take n input ++ drop n input ≡ input) × AreCanonicalProperties (take n input)
+property_parts = parts_of AreCanonicalProperties
 
 -- some pods are there, so the front is
 pub stretch_front : (input first rest : List ℕ) → input ≡ first ++ rest → AreCanonical first → 0 < length first → HasFront input

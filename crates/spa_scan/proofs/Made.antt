@@ -1,8 +1,8 @@
 -- What canonical pods are made of.
-use Rattle.std.proofs.Common.{◌≡◌, ℕ, ◌+◌, ◌<◌, ◌≤◌, ◌-◌, List, ◌++◌, length, take, drop, refl, sym, ap, ◌∙◌, subst, arith, length-append, append_assoc}
+use Rattle.std.proofs.Common.{◌≡◌, ℕ, ◌+◌, ◌<◌, ◌≤◌, ◌-◌, List, ◌++◌, length, take, drop, refl, sym, ap, ◌∙◌, subst, arith}
 use Rattle.std.specs.Prelude.{max}
-use Rattle.std.proofs.lemmas.List.{drop-drop, drop-take, drop_at}
-use Rattle.spa_format.specs.Words.{word_at, word_bytes, padded_size, extent, padding, body_of, header_size}
+use Rattle.std.proofs.lemmas.List.{drop-take, drop_at}
+use Rattle.spa_format.specs.Words.{word_at, padded_size, extent, padding, body_of, header_size}
 use Rattle.spa_format.specs.Tree.{Tree, type_of, Trees, no_trees, member, Properties, no_properties, property}
 use Rattle.spa_format.specs.Pod.{AreMembers, AreProperties, IsBody, IsPod, IsWhole}
 use Rattle.spa_format.specs.Encoding.{encoded_pod, encoded_body, member_encodings, property_encodings}
@@ -12,10 +12,11 @@ use Rattle.spa_format.proofs.Back.{body_fits, type_fits, whole_frame}
 use Rattle.spa_format.proofs.Fronts.{front_of_whole, length-body_of, of_whole_front}
 use Rattle.spa_format.proofs.Origin.{writable}
 use Rattle.spa_format.proofs.Short.{padded_above}
-use Rattle.spa_format.proofs.WordLemmas.{IsBytes-drop, IsBytes-take, length-word_bytes}
+use Rattle.spa_format.proofs.WordLemmas.{IsBytes-drop, IsBytes-take}
 use Rattle.spa_bytes.specs.Opening.{Opens}
 use Rattle.spa_scan.specs.Canonical.{AreCanonical, AreCanonicalProperties, BeginsCanonical, HasZeros, IsCanonicalBody}
 use Rattle.spa_scan.specs.Depth.{depth_of, member_depth, property_depth}
+use Rattle.spa_scan.proofs.Words.{behind_two_words}
 
 -- the pod of a value that is there has the size word, type and padding of its encoding
 pub its_frame : (b : List ℕ) (v : Tree) → IsBytes b → IsPod b v → IsWhole (encoded_pod (type_of v) (encoded_body v)) (type_of v) (λ c. c ≡ encoded_body v)
@@ -27,19 +28,11 @@ pod_zeros : (input : List ℕ) (t : ℕ) (body : List ℕ) → front_of input �
 pod_zeros input t body e s =
     let n = length body in
     let p = padded_size n in
-    let up = padded_above n in
-    let m : (8 + n) + (p - n) ≡ 8 + p = omega arith in
-    let place : drop n (drop 8 input) ≡ drop (8 + n) input = drop-drop n 8 input in
-    let same : take (8 + p) input ≡ encoded_pod t body = ap (λ k. take (extent k) input) (sym s) ∙ e in
-    let head = word_bytes n ++ (word_bytes t ++ body) in
-    let two : encoded_pod t body ≡ head ++ padding n =
-    ap (λ x. word_bytes n ++ x) (sym (append_assoc (word_bytes t) body (padding n))) ∙ sym (append_assoc (word_bytes n) (word_bytes t ++ body) (padding n)) in
-    let e0 = length-append (word_bytes n) (word_bytes t ++ body) in
-    let e1 = length-append (word_bytes t) body in
-    let e2 = length-word_bytes n in
-    let e3 = length-word_bytes t in
-    let long : length head ≡ 8 + n = omega arith in
-    ap (take (p - n)) place ∙ sym (drop-take (8 + n) (p - n) input) ∙ ap (λ k. drop (8 + n) (take k input)) m ∙ ap (drop (8 + n)) (same ∙ two) ∙ drop_at head (padding n) (8 + n) long
+    let behind = drop 8 input in
+    let more : n + (p - n) ≡ p = let up = padded_above n in omega arith in
+    let same : take p behind ≡ body ++ padding n =
+    sym (drop-take 8 p input) ∙ behind_two_words (take (8 + p) input) (body ++ padding n) n t (ap (λ k. take (extent k) input) (sym s) ∙ e) in
+    sym (drop-take n (p - n) behind) ∙ ap (λ k. drop n (take k behind)) more ∙ ap (drop n) same ∙ drop_at body (padding n) n refl
 
 -- a canonical front: its body and its padding are as its value's are written
 pub record MadeFront (input rest : List ℕ) (value : Tree) : Type 0 where
@@ -126,13 +119,7 @@ made_properties left h l c = of_values c.values c.properties c.same
         let pod : IsPod (front_of behind) v = subst (λ b. IsPod b v) f.1 m.6 in
         let w = its_frame (front_of behind) v (IsBytes-take (extent (word_at behind 0)) behind bytes) pod in
         let frame = encoded_pod (type_of v) (encoded_body v) in
-        let more = frame ++ property_encodings ps in
-        let e0 = length-append (word_bytes key) (word_bytes flags) in
-        let e1 = length-word_bytes key in
-        let e2 = length-word_bytes flags in
-        let two : length (word_bytes key ++ word_bytes flags) ≡ 8 = omega arith in
-        let s' : behind ≡ more =
-        ap (drop 8) (s ∙ sym (append_assoc (word_bytes key) (word_bytes flags) more)) ∙ drop_at (word_bytes key ++ word_bytes flags) more 8 two in
+        let s' : behind ≡ frame ++ property_encodings ps = behind_two_words left _ key flags s in
         let g = front_of_whole behind frame (property_encodings ps) (type_of v) (λ b. b ≡ encoded_body v) s' w in
         record {
           header = m.0;

@@ -1,9 +1,9 @@
 -- What a look can't miss: what the bodies and fronts of canonical pods are like.
-use Rattle.std.proofs.Common.{◌≡◌, ℕ, ◌+◌, ◌*◌, ◌<◌, ◌≤◌, ◌-◌, ◌/◌, ◌%◌, ◌^◌, ◌⊎◌, inl, inr, List, [], ◌∷◌, ◌++◌, length, take, drop, zero, suc, refl, sym, ap, ◌∙◌, subst, arith, length-append, length-drop, length-take, append_assoc}
-use Rattle.std.specs.Prelude.{Bool, true, false, if◌then◌else◌, replicate}
-use Rattle.std.proofs.lemmas.List.{drop-drop, drop_at, length-take-le}
-use Rattle.spa_format.specs.Words.{word_at, word_bytes, wide_at, wide_bytes, body_of}
-use Rattle.spa_format.specs.Kind.{Kind, none_kind, bool_kind, id_kind, int_kind, long_kind, float_kind, double_kind, rectangle_kind, fraction_kind, fd_kind, body_size, type_number, Fixed, none, bool, id, int, long, float, double, rectangle, fraction, fd, kind_of, IsFixedBody, fixed_body}
+use Rattle.std.proofs.Common.{◌≡◌, ℕ, ◌+◌, ◌*◌, ◌<◌, ◌≤◌, ◌-◌, ◌⊎◌, inl, inr, List, [], ◌∷◌, length, take, drop, suc, refl, sym, ap, ◌∙◌, subst, arith, length-drop, length-take}
+use Rattle.std.specs.Prelude.{nat_lt, Bool, true, false, if◌then◌else◌, replicate}
+use Rattle.std.proofs.lemmas.List.{drop-drop, drop_at}
+use Rattle.spa_format.specs.Words.{word_at, word_bytes, body_of}
+use Rattle.spa_format.specs.Kind.{Kind, none_kind, bool_kind, id_kind, int_kind, long_kind, float_kind, double_kind, rectangle_kind, fraction_kind, fd_kind, body_size, type_number, Fixed, kind_of, content, IsFixedBody, fixed_body}
 use Rattle.spa_format.specs.Tree.{choice, choice_type, Shape, shape_number, type_of}
 use Rattle.spa_format.specs.Pod.{AreElements, IsArray, IsBody, IsChoice}
 use Rattle.spa_format.specs.Normal.{kept_flags}
@@ -14,65 +14,11 @@ use Rattle.spa_format.proofs.Elements.{array_back, kept_of_sized, length_of_elem
 use Rattle.spa_format.proofs.FixedKinds.{kind_of_body, length-fixed_body}
 use Rattle.spa_format.proofs.Fronts.{length-body_of}
 use Rattle.spa_format.proofs.Shapes.{choice_only}
-use Rattle.spa_format.proofs.WordLemmas.{IsBytes-drop, IsBytes-take, length-word_bytes, wide_fits, word_at-append, word_at-drop, word_at-take, word_inside}
+use Rattle.spa_format.proofs.WordLemmas.{length-word_bytes, word_at-append, word_at-drop, word_at-take, word_inside}
 use Rattle.spa_bytes.specs.Opening.{Opens}
-use Rattle.spa_scan.specs.Canonical.{AreCanonicalElements, BeginsCanonical, EndsInZeros, HasZeros, IsCanonicalArray, IsCanonicalBody, IsSized}
+use Rattle.spa_scan.specs.Canonical.{AreCanonicalElements, BeginsCanonical, HasZeros, IsCanonicalArray, IsCanonicalBody, IsSized}
 use Rattle.spa_scan.proofs.Made.{made_front}
-use Rattle.spa_scan.proofs.Words.{last_bytes, last_word, wide_back}
-
--- zeros at the end of eight bytes
-small_0 : (v : ℕ) → v < 2 ^ 64 → wide_bytes v ≡ replicate 8 0 → v / 2 ^ 0 ≡ 0
-unfolding wide_bytes
-small_0 v l z = grind arith
-
-small_1 : (v : ℕ) → v < 2 ^ 64 → drop 1 (wide_bytes v) ≡ replicate 7 0 → v / 2 ^ 8 ≡ 0
-unfolding wide_bytes
-small_1 v l z = grind arith
-
-small_2 : (v : ℕ) → v < 2 ^ 64 → drop 2 (wide_bytes v) ≡ replicate 6 0 → v / 2 ^ 16 ≡ 0
-unfolding wide_bytes
-small_2 v l z = grind arith
-
-small_3 : (v : ℕ) → v < 2 ^ 64 → drop 3 (wide_bytes v) ≡ replicate 5 0 → v / 2 ^ 24 ≡ 0
-unfolding wide_bytes
-small_3 v l z = grind arith
-
-small_4 : (v : ℕ) → v < 2 ^ 64 → drop 4 (wide_bytes v) ≡ replicate 4 0 → v / 2 ^ 32 ≡ 0
-unfolding wide_bytes
-small_4 v l z = grind arith
-
-small_5 : (v : ℕ) → v < 2 ^ 64 → drop 5 (wide_bytes v) ≡ replicate 3 0 → v / 2 ^ 40 ≡ 0
-unfolding wide_bytes
-small_5 v l z = grind arith
-
-small_6 : (v : ℕ) → v < 2 ^ 64 → drop 6 (wide_bytes v) ≡ replicate 2 0 → v / 2 ^ 48 ≡ 0
-unfolding wide_bytes
-small_6 v l z = grind arith
-
-small_7 : (v : ℕ) → v < 2 ^ 64 → drop 7 (wide_bytes v) ≡ replicate 1 0 → v / 2 ^ 56 ≡ 0
-unfolding wide_bytes
-small_7 v l z = grind arith
-
-small_behind : (v r : ℕ) → r < 8 → v < 2 ^ 64 → drop r (wide_bytes v) ≡ replicate (8 - r) 0 → v / 2 ^ (8 * r) ≡ 0
-small_behind v zero h l z = small_0 v l z
-small_behind v (suc zero) h l z = small_1 v l z
-small_behind v (suc (suc zero)) h l z = small_2 v l z
-small_behind v (suc (suc (suc zero))) h l z = small_3 v l z
-small_behind v (suc (suc (suc (suc zero)))) h l z = small_4 v l z
-small_behind v (suc (suc (suc (suc (suc zero))))) h l z = small_5 v l z
-small_behind v (suc (suc (suc (suc (suc (suc zero)))))) h l z = small_6 v l z
-small_behind v (suc (suc (suc (suc (suc (suc (suc zero))))))) h l z = small_7 v l z
-small_behind v (suc (suc (suc (suc (suc (suc (suc (suc r)))))))) h l z = absurd (omega arith)
-
-pub last_of_zeros : (b : List ℕ) (n at : ℕ) → IsBytes b → at + 8 ≤ length b → at ≡ n / 8 * 8 → EndsInZeros b n → wide_at b at / 2 ^ (8 * (n % 8)) ≡ 0
-last_of_zeros b n at h l e z =
-    let r = n % 8 in
-    let c = drop at b in
-    let long : 8 ≤ length c = let d = length-drop at b in omega arith in
-    let bytes = IsBytes-take 8 c (IsBytes-drop at b h) in
-    let back = wide_back (take 8 c) bytes (length-take-le 8 c long) in
-    ap (λ x. x / 2 ^ (8 * r)) (sym (last_word b at))
-    ∙ small_behind (wide_at (take 8 c) 0) r (omega arith) (wide_fits (take 8 c) 0 bytes) (ap (drop r) back ∙ last_bytes b n at e ∙ z)
+use Rattle.spa_scan.proofs.Words.{behind_two_words}
 
 -- the zeros behind the body of a canonical front
 pub made_zeros : (input behind body rest left : List ℕ) (type : ℕ) → IsBytes input → Opens input type body rest → behind ≡ drop 8 input → BeginsCanonical input left → HasZeros behind (length body)
@@ -97,17 +43,8 @@ unfolding word_at word_bytes
 written_truth true = omega arith
 written_truth false = omega arith
 
-small_truth : (x : Fixed) → kind_of x ≡ bool_kind → word_at (fixed_body x) 0 < 2
-small_truth (bool t) e = written_truth t
-small_truth none e = grind arith
-small_truth (id n) e = grind arith
-small_truth (int n) e = grind arith
-small_truth (long n) e = grind arith
-small_truth (float n) e = grind arith
-small_truth (double n) e = grind arith
-small_truth (rectangle w h) e = grind arith
-small_truth (fraction n d) e = grind arith
-small_truth (fd n) e = grind arith
+small_truth : (x : Fixed) (b : List ℕ) → x ≡ content bool_kind b → word_at (fixed_body x) 0 < 2
+small_truth x b e = subst (λ y. word_at (fixed_body y) 0 < 2) (sym e) (written_truth (nat_lt 0 (word_at b 0)))
 
 zero_word : (b : List ℕ) → take 4 b ≡ replicate 4 0 → word_at b 0 ≡ 0
 unfolding word_at
@@ -131,25 +68,21 @@ sized_front input rest h c z =
     let body = body_of input in
     let is : IsFixedBody k body x = subst (λ v. IsBody v body) z.1 m.its_body in
     let size : word_at input 0 ≡ body_size k = sym (length-body_of input m.there) ∙ is.whole in
-    let sizes = four_or_eight k z.2 in
     let same : body ≡ fixed_body x = m.same ∙ ap encoded_body z.1 in
     let whole = m.there.whole in
     record {
       kind = k;
       its_type = m.its_type ∙ ap type_of z.1;
       its_size = size;
-      sizes = sizes;
-      long = elim sizes [
-        | inl e ↦ let f = size ∙ e in omega arith
-        | inr e ↦ let f = size ∙ e in omega arith
-      ];
+      sizes = four_or_eight k z.2;
+      long = let some = z.2 in omega arith;
       zeros = λ e.
           let p : take 4 (drop 4 (drop 8 input)) ≡ replicate 4 0 = subst (HasZeros (drop 8 input)) (is.whole ∙ e) m.zeros in
           sym (word_at-drop 12 0 input) ∙ zero_word (drop 12 input) (ap (take 4) (sym (drop-drop 4 8 input)) ∙ p);
       small = λ e.
           let four : word_at input 0 ≡ 4 = size ∙ ap body_size e in
           let there : word_at body 0 ≡ word_at input 8 = word_at-take (word_at input 0) 0 (drop 8 input) (omega arith) ∙ word_at-drop 8 0 input in
-          subst (λ n. n < 2) (ap (λ b. word_at b 0) (sym same) ∙ there) (small_truth x e);
+          subst (λ n. n < 2) (ap (λ b. word_at b 0) (sym same) ∙ there) (small_truth x body (is.says ∙ ap (λ j. content j body) e));
     }
 
 -- the first of the truth values that are written as they are read, and the others
@@ -171,7 +104,7 @@ made_bools b l c = of_values c.values c.elements c.same
         let w = e.1.whole in
         record {
           long = omega arith;
-          small = subst (λ n. n < 2) (sym (ap (λ y. word_at y 0) s ∙ word_at-append (fixed_body x) (fixed_bodies xs) 0 (omega arith))) (small_truth x k);
+          small = subst (λ n. n < 2) (sym (ap (λ y. word_at y 0) s ∙ word_at-append (fixed_body x) (fixed_bodies xs) 0 (omega arith))) (small_truth x (take 4 b) e.1.says);
           others = record { values = xs; elements = e.2; same = rest };
         }
 
@@ -182,28 +115,21 @@ pub record MadeArray (b : List ℕ) : Type 0 where
   pub its_size : word_at b 0 ≡ body_size kind
   pub its_type : word_at b 4 ≡ type_number kind
   pub count : ℕ
-  pub whole : length (drop 8 b) ≡ count * body_size kind
+  pub whole : length (drop 8 b) ≡ count * word_at b 0
   pub elements : AreCanonicalElements kind (drop 8 b)
 
 pub made_array : (b : List ℕ) → IsCanonicalArray b → MadeArray b
 made_array b c =
     let k = c.kind in
     let a = c.its_array in
-    let e0 = length-append (word_bytes (body_size k)) (word_bytes (type_number k)) in
-    let e1 = length-word_bytes (body_size k) in
-    let e2 = length-word_bytes (type_number k) in
-    let two : length (word_bytes (body_size k) ++ word_bytes (type_number k)) ≡ 8 = omega arith in
-    let rest : drop 8 b ≡ fixed_bodies c.values =
-    ap (drop 8) (c.same ∙ sym (append_assoc (word_bytes (body_size k)) (word_bytes (type_number k)) (fixed_bodies c.values)))
-    ∙ drop_at (word_bytes (body_size k) ++ word_bytes (type_number k)) (fixed_bodies c.values) 8 two in
     record {
       kind = k;
       long = a.header;
       its_size = a.child_size;
       its_type = a.child_type;
       count = length c.values;
-      whole = length_of_elements k c.values (drop 8 b) a.elements;
-      elements = record { values = c.values; elements = a.elements; same = rest };
+      whole = length_of_elements k c.values (drop 8 b) a.elements ∙ ap (λ n. length c.values * n) (sym a.child_size);
+      elements = record { values = c.values; elements = a.elements; same = behind_two_words b _ _ _ c.same };
     }
 
 -- what flags a choice without alternatives has, and how many values each choice
@@ -223,12 +149,8 @@ choice_made b h s f k x xs c e =
     let t = typed_choice s f k x xs b h c in
     let body = array_body k (x ∷ xs) in
     let n = word_bytes (shape_number s) in
-    let e0 = length-append n (word_bytes f) in
-    let e1 = length-word_bytes (shape_number s) in
-    let e2 = length-word_bytes f in
-    let two : length (n ++ word_bytes f) ≡ 8 = omega arith in
-    let rest : drop 8 b ≡ body = ap (drop 8) (e ∙ sym (append_assoc n (word_bytes f) body)) ∙ drop_at (n ++ word_bytes f) body 8 two in
-    let flags : word_at b 4 ≡ f = ap (λ y. word_at y 4) e ∙ word_inside n body f 4 e1 t.0 in
+    let rest : drop 8 b ≡ body = behind_two_words b body _ _ e in
+    let flags : word_at b 4 ≡ f = ap (λ y. word_at y 4) e ∙ word_inside n body f 4 (length-word_bytes (shape_number s)) t.0 in
     let a : IsArray k (x ∷ xs) body = subst (λ y. IsArray k y body) (kept_of_sized k (x ∷ xs) t.1) (array_back k (x ∷ xs) t.2) in
     let a' : IsArray k (x ∷ xs) (drop 8 b) = subst (IsArray k (x ∷ xs)) (sym rest) a in
     let size : word_at b 8 ≡ body_size k = sym (word_at-drop 8 0 b) ∙ a'.child_size in

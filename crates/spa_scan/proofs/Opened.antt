@@ -1,7 +1,6 @@
 -- Canonical pods, opened: what is in their bodies, and what is left behind them.
-use Rattle.std.proofs.Common.{◌≡◌, ℕ, ◌<◌, List, ◌++◌, length, drop, sym, ap, ◌∙◌, subst, arith, length-append, append_assoc}
+use Rattle.std.proofs.Common.{◌≡◌, ℕ, ◌<◌, List, length, drop, sym, ap, ◌∙◌, subst, arith, length-append}
 use Rattle.std.specs.Prelude.{IfNone, None, Option, Some}
-use Rattle.std.proofs.lemmas.List.{drop_at}
 use Rattle.spa_format.specs.Words.{word_at, word_bytes, wide_bytes}
 use Rattle.spa_format.specs.Tree.{struct_type, object_type, pointer_type}
 use Rattle.spa_format.specs.Pod.{IsBody}
@@ -13,6 +12,7 @@ use Rattle.spa_format.proofs.WordLemmas.{length-wide_bytes, length-word_bytes, w
 use Rattle.spa_scan.specs.Canonical.{AreCanonical, AreCanonicalProperties, IsCanonicalBody}
 use Rattle.spa_scan.specs.Depth.{AreShallow}
 use Rattle.spa_scan.proofs.Made.{made_members}
+use Rattle.spa_scan.proofs.Words.{behind_two_words}
 
 -- what follows where an option holds none
 pub none_then : {X P Q : Type 0} (o : Option X) → IfNone o P → (P → Q) → IfNone o Q
@@ -38,24 +38,12 @@ pub object_inside : (type : ℕ) (body : List ℕ) → type ≡ object_type → 
 object_inside type body t c =
     let i = object_only c.value (c.its_type ∙ t) in
     let b = subst (λ x. IsBody x body) i.3 c.its_body in
-    let e0 = length-append (word_bytes i.0) (word_bytes i.1) in
-    let e1 = length-word_bytes i.0 in
-    let e2 = length-word_bytes i.1 in
-    let two : length (word_bytes i.0 ++ word_bytes i.1) ≡ 8 = omega arith in
-    let rest : drop 8 body ≡ property_encodings i.2 =
-    ap (drop 8) (c.same ∙ ap encoded_body i.3 ∙ sym (append_assoc (word_bytes i.0) (word_bytes i.1) (property_encodings i.2)))
-    ∙ drop_at (word_bytes i.0 ++ word_bytes i.1) (property_encodings i.2) 8 two in
+    let rest = behind_two_words body (property_encodings i.2) i.0 i.1 (c.same ∙ ap encoded_body i.3) in
     record { values = i.2; properties = b.3; same = rest }
 
 pub pointer_of_body : (type : ℕ) (body : List ℕ) → type ≡ pointer_type → IsCanonicalBody type body → (length body ≡ 16) × (word_at body 4 ≡ 0)
 pointer_of_body type body t c =
     let i = pointer_only c.value (c.its_type ∙ t) in
     let e = c.same ∙ ap encoded_body i.2 in
-    let l = ap length e in
-    let e0 = length-append (word_bytes i.0) (word_bytes 0 ++ wide_bytes i.1) in
-    let e1 = length-append (word_bytes 0) (wide_bytes i.1) in
-    let e2 = length-word_bytes i.0 in
-    let e3 = length-word_bytes 0 in
-    let e4 = length-wide_bytes i.1 in
-    let long : length body ≡ 16 = omega arith in
-    (long, ap (λ b. word_at b 4) e ∙ word_inside (word_bytes i.0) (wide_bytes i.1) 0 4 e2 (omega arith))
+    let long : length body ≡ 16 = ap length e ∙ simp (length-append, length-word_bytes, length-wide_bytes) in
+    (long, ap (λ b. word_at b 4) e ∙ word_inside (word_bytes i.0) (wide_bytes i.1) 0 4 (length-word_bytes i.0) (omega arith))

@@ -1,10 +1,8 @@
 -- Bodies: texts, elements, arrays, choices.
-use Rattle.std.proofs.Common.{◌≡◌, ◌≢◌, ℕ, ◌+◌, ◌*◌, ◌<◌, ◌≤◌, ◌-◌, ◌/◌, inl, inr, List, [], ◌∷◌, ◌++◌, length, take, drop, get_or, zero, suc, refl, sym, ap, ◌∙◌, subst, arith, length-drop, append_assoc}
-use Rattle.std.specs.Prelude.{slice_index}
-use Rattle.std.proofs.lemmas.List.{drop-drop, get_or-drop, length-take-le, nil_from_length, take-append-drop, take_all}
-use Rattle.std.proofs.lemmas.Bool.{cases_lt}
+use Rattle.std.proofs.Common.{◌≡◌, ◌≢◌, ℕ, ◌+◌, ◌*◌, ◌<◌, ◌≤◌, ◌-◌, ◌/◌, List, [], ◌∷◌, ◌++◌, length, take, drop, zero, suc, refl, sym, ap, ◌∙◌, subst, arith, length-drop}
+use Rattle.std.proofs.lemmas.List.{length-take-le, nil_from_length, take-append-drop, take_all}
 use Rattle.std.proofs.Math.Nat.{mul-div_cancel}
-use Rattle.spa_format.specs.Words.{word_at, word_bytes}
+use Rattle.spa_format.specs.Words.{word_at}
 use Rattle.spa_format.specs.Kind.{Kind, bool_kind, Fixed, body_size, type_number, content, fixed_body}
 use Rattle.spa_format.specs.Tree.{string, string_type, array, choice, choice_type, array_type, Shape, none_choice, range_choice, step_choice, enum_choice, flags_choice, shape_number}
 use Rattle.spa_format.specs.Pod.{IsArray, least_count, values_taken}
@@ -14,21 +12,8 @@ use Rattle.spa_format.specs.Typed.{IsBytes, IsCount}
 use Rattle.spa_format.proofs.WordLemmas.{IsBytes-drop, IsBytes-take, word_at-take}
 use Rattle.spa_format.proofs.FixedKinds.{same_kind}
 use Rattle.spa_format.proofs.Elements.{length_of_elements}
-use Rattle.spa_scan.specs.Canonical.{AreCanonicalElements, IsCanonicalArray, IsCanonicalBody, IsCanonicalText, IsFixedLen, IsAsciiByte, IsAsciiFor, bytes_taken}
-use Rattle.spa_scan.proofs.Words.{content_kept, two_words_back}
-
--- ASCII bytes, and more of them
-pub ascii_more : (n : ℕ) (b : List ℕ) → n ≤ length b → IsAsciiFor n b → IsAsciiFor (length (drop n b)) (drop n b) → IsAsciiFor (length b) b
-ascii_more n b le first rest i h =
-    elim (cases_lt i n) [
-      | inl lt ↦ first i lt
-      | inr ge ↦
-          let d = length-drop n b in
-          let here : i - n < length (drop n b) = omega arith in
-          let at : n + (i - n) ≡ i = omega arith in
-          let same : get_or (drop n b) (i - n) 0 ≡ get_or b i 0 = get_or-drop n b (i - n) 0 ∙ ap (λ m. get_or b m 0) at in
-          subst IsAsciiByte same (rest (i - n) here)
-    ]
+use Rattle.spa_scan.specs.Canonical.{AreCanonicalElements, IsCanonicalArray, IsCanonicalBody, IsCanonicalText, IsFixedLen, bytes_taken}
+use Rattle.spa_scan.proofs.Words.{content_kept, two_words_then}
 
 -- one more element
 pub one_element : (k : Kind) (b : List ℕ) → IsBytes b → 0 < body_size k → body_size k ≤ length b → (k ≡ bool_kind → word_at b 0 < 2) → AreCanonicalElements k (drop (body_size k) b) → AreCanonicalElements k b
@@ -59,19 +44,12 @@ whole_elements k (suc n) b h f p l =
     one_element k b h p (omega arith) (λ e. absurd (f e)) (whole_elements k n (drop s b) (IsBytes-drop s b h) f p (omega arith))
 
 pub array_of : (k : Kind) (b : List ℕ) → IsBytes b → 8 ≤ length b → word_at b 0 ≡ body_size k → word_at b 4 ≡ type_number k → AreCanonicalElements k (drop 8 b) → IsCanonicalArray b
-array_of k b h l e0 e4 c =
-    let long : length (take 8 b) ≡ 8 = length-take-le 8 b l in
-    let head = two_words_back (take 8 b) (IsBytes-take 8 b h) long in
-    let w0 : word_at (take 8 b) 0 ≡ body_size k = word_at-take 8 0 b (omega arith) ∙ e0 in
-    let w4 : word_at (take 8 b) 4 ≡ type_number k = word_at-take 8 4 b (omega arith) ∙ e4 in
-    record {
-      kind = k;
-      values = c.values;
-      its_array = record { header = l; child_size = e0; child_type = e4; elements = c.elements };
-      same = sym (take-append-drop 8 b) ∙ ap (λ x. x ++ drop 8 b) (head ∙ ap (λ x. word_bytes x ++ word_bytes (word_at (take 8 b) 4)) w0 ∙ ap (λ x. word_bytes (body_size k) ++ word_bytes x) w4)
-          ∙ append_assoc (word_bytes (body_size k)) (word_bytes (type_number k)) (drop 8 b)
-          ∙ ap (λ x. word_bytes (body_size k) ++ (word_bytes (type_number k) ++ x)) c.same;
-    }
+array_of k b h l e0 e4 c = record {
+  kind = k;
+  values = c.values;
+  its_array = record { header = l; child_size = e0; child_type = e4; elements = c.elements };
+  same = two_words_then b _ _ _ h l e0 e4 c.same;
+}
 
 pub array_body_of : (b : List ℕ) → IsCanonicalArray b → IsCanonicalBody array_type b
 array_body_of b a = record { value = array a.kind a.values; its_type = refl; its_body = a.its_array; same = a.same }
@@ -99,22 +77,6 @@ same_count n m s p e = sym (mul-div_cancel n p) ∙ ap (λ x. x / s) e ∙ mul-d
 abbrev pub IsRightCount : Shape → ℕ → Type 0
 IsRightCount s n = (least_count s ≤ suc n) × ((xs : List Fixed) → length xs ≡ n → values_taken s xs ≡ xs)
 
-choice_with : (s : Shape) (b : List ℕ) → IsBytes b → 16 ≤ length b → (k : Kind) (x : Fixed) (xs : List Fixed) → IsArray k (x ∷ xs) (drop 8 b) → drop 8 b ≡ array_body k (x ∷ xs) → word_at b 0 ≡ shape_number s → kept_flags s (word_at b 4) ≡ word_at b 4 → IsRightCount s (length xs) → IsCanonicalBody choice_type b
-choice_with s b h l k x xs a e w f c =
-    let long : length (take 8 b) ≡ 8 = length-take-le 8 b (omega arith) in
-    let head = two_words_back (take 8 b) (IsBytes-take 8 b h) long in
-    let w0 : word_at (take 8 b) 0 ≡ shape_number s = word_at-take 8 0 b (omega arith) ∙ w in
-    let w4 : word_at (take 8 b) 4 ≡ word_at b 4 = word_at-take 8 4 b (omega arith) in
-    let tail = array_body k (x ∷ xs) in
-    record {
-      value = choice s (word_at b 4) k x xs;
-      its_type = refl;
-      its_body = record { header = omega arith; shape = w; flags = sym f; all = xs; values = a; enough = c.0; first = sym (c.1 xs refl) };
-      same = sym (take-append-drop 8 b) ∙ ap (λ y. y ++ drop 8 b) (head ∙ ap (λ y. word_bytes y ++ word_bytes (word_at (take 8 b) 4)) w0 ∙ ap (λ y. word_bytes (shape_number s) ++ word_bytes y) w4)
-          ∙ append_assoc (word_bytes (shape_number s)) (word_bytes (word_at b 4)) (drop 8 b)
-          ∙ ap (λ y. word_bytes (shape_number s) ++ (word_bytes (word_at b 4) ++ y)) e;
-    }
-
 choice_values : (s : Shape) (b : List ℕ) → IsBytes b → 16 < length b → (k : Kind) (ys : List Fixed) → IsArray k ys (drop 8 b) → drop 8 b ≡ array_body k ys → word_at b 0 ≡ shape_number s → kept_flags s (word_at b 4) ≡ word_at b 4 → ((n : ℕ) → length b - 16 ≡ suc n * body_size k → 0 < body_size k → IsRightCount s n) → IsCanonicalBody choice_type b
 choice_values s b h l k [] a e w f c =
     let z = ap length a.elements in
@@ -126,7 +88,13 @@ choice_values s b h l k (x ∷ xs) a e w f c =
     let d = length-drop 8 (drop 8 b) in
     let d' = length-drop 8 b in
     let size : length b - 16 ≡ suc (length xs) * body_size k = omega arith in
-    choice_with s b h (omega arith) k x xs a e w f (c (length xs) size a.elements.0)
+    let count = c (length xs) size a.elements.0 in
+    record {
+      value = choice s (word_at b 4) k x xs;
+      its_type = refl;
+      its_body = record { header = omega arith; shape = w; flags = sym f; all = xs; values = a; enough = count.0; first = sym (count.1 xs refl) };
+      same = two_words_then b _ _ _ h (omega arith) w refl e;
+    }
 
 pub choice_found : (s : Shape) (b arr : List ℕ) → IsBytes b → 16 < length b → arr ≡ drop 8 b → (a : IsCanonicalArray arr) → word_at b 0 ≡ shape_number s → kept_flags s (word_at b 4) ≡ word_at b 4 → ((n k : ℕ) → k ≡ word_at arr 0 → 0 < k → length b - 16 ≡ suc n * k → IsRightCount s n) → IsCanonicalBody choice_type b
 choice_found s b arr h l d a w f c =
@@ -162,53 +130,3 @@ shape_of (suc (suc zero)) l = (step_choice, refl)
 shape_of (suc (suc (suc zero))) l = (enum_choice, refl)
 shape_of (suc (suc (suc (suc zero)))) l = (flags_choice, refl)
 shape_of (suc (suc (suc (suc (suc n))))) l = absurd (omega arith)
-
--- these are the last bytes of those
-pub record IsEnd (left text : List ℕ) : Type 0 where
-  pub before : ℕ
-  pub size : before + length left ≡ length text
-  pub same : left ≡ drop before text
-
-pub whole_end : (text : List ℕ) → IsEnd text text
-whole_end text = record { before = 0; size = omega arith; same = refl }
-
-pub shorter_end : (left rest text : List ℕ) (n : ℕ) → n ≤ length left → rest ≡ drop n left →
-    IsEnd left text → IsEnd rest text
-shorter_end left rest text n l e h =
-    let size : length rest + n ≡ length left = omega (arith, ap length e, length-drop n left) in
-    record {
-      before = h.before + n;
-      size = let whole = h.size in omega arith;
-      same = e ∙ ap (drop n) h.same ∙ drop-drop n h.before text;
-    }
-
--- the first such bytes and the last, which reach to each other
-pub ascii_ends : (n : ℕ) (text last : List ℕ) → n ≤ length text → length text ≤ n + n →
-    last ≡ drop (length text - n) text → IsAsciiFor n text → IsAsciiFor n last → IsAsciiFor (length text) text
-ascii_ends n text last l s e first end = λ i b.
-    elim (cases_lt i n) [
-      | inl lt ↦ first i lt
-      | inr ge ↦
-          let k = i - (length text - n) in
-          let few : k < n = omega arith in
-          let there : slice_index last k ≡ slice_index text (length text - n + k) =
-          ap (λ y. slice_index y k) e ∙ get_or-drop (length text - n) text k 0 in
-          let place : length text - n + k ≡ i = omega arith in
-          subst IsAsciiByte (there ∙ ap (slice_index text) place) (end k few)
-    ]
-
--- where the last eight bytes are such ones, so are fewer
-pub ascii_end : (left last text : List ℕ) → 8 ≤ length text → length left ≤ 8 → IsEnd left text →
-    last ≡ drop (length text - 8) text → IsAsciiFor 8 last → IsAsciiFor (length left) left
-ascii_end left last text l s h e p = λ i b.
-    let size = h.size in
-    let k = 8 - length left + i in
-    let here : slice_index left i ≡ slice_index text (h.before + i) =
-    ap (λ y. slice_index y i) h.same ∙ get_or-drop h.before text i 0 in
-    let there : slice_index last k ≡ slice_index text (length text - 8 + k) =
-    ap (λ y. slice_index y k) e ∙ get_or-drop (length text - 8) text k 0 in
-    let place : length text - 8 + k ≡ h.before + i = omega arith in
-    let same : slice_index last k ≡ slice_index left i =
-    there ∙ ap (slice_index text) place ∙ sym here in
-    let few : k < 8 = omega arith in
-    subst IsAsciiByte same (p k few)

@@ -28,7 +28,7 @@ abbrev mutual
   property_depth no_properties = 0
   property_depth (property key flags v ps) = max (depth_of v) (property_depth ps)
 
--- some of these bytes are so
+-- this holds of one of these lists of bytes, or more
 abbrev pub SomeOf : (List ℕ → Type 0) → List (List ℕ) → Type 0
 SomeOf P [] = ⊥
 SomeOf P (b ∷ bs) = P b ⊎ SomeOf P bs

@@ -111,23 +111,9 @@ fn longer_of<'a>(longest: Option<Inside<'a>>, inside: Inside<'a>, levels: u32) -
         ↔ (IsSomeAnd longest.entry (λ l. NestsDeeperInside (levels - 1) l.keyed l.pods.now)
         ⊎ NestsDeeperInside (levels - 1) inside.entry.keyed inside.entry.pods.now)) }
 {
-    match longest {
-        Some(other) => longer_of_two(other, inside, levels),
-        None => Some(inside),
-    }
-}
-
-/// The longer one of these pods of two containers, once the others are looked into. None: the others nest in `levels` levels or more.
-#[cycle(nesting)]
-#[inline(never)]
-fn longer_of_two<'a>(other: Inside<'a>, inside: Inside<'a>, levels: u32) -> Option<Inside<'a>>
-    requires { 0 < levels }
-    ensures deeper { IfNone result (NestsDeeperInside (levels - 1) other.entry.keyed other.entry.pods.now
-        ⊎ NestsDeeperInside (levels - 1) inside.entry.keyed inside.entry.pods.now) }
-    ensures longer { IfSome result (λ longer. NestsDeeperInside (levels - 1) longer.keyed longer.pods.now
-        ↔ (NestsDeeperInside (levels - 1) other.entry.keyed other.entry.pods.now
-        ⊎ NestsDeeperInside (levels - 1) inside.entry.keyed inside.entry.pods.now)) }
-{
+    let Some(other) = longest else {
+        return Some(inside);
+    };
     if inside.pods.len() < other.pods.len() {
         if !pods_nest_within(inside.keyed, inside.pods, levels - 1) {
             return None;

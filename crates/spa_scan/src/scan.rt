@@ -35,9 +35,7 @@ pub fn leaf_body_front(input: &[u8]) -> Option<&[u8]>
     ensures shorter { IfSome result (λ rest. length rest.now + 8 ≤ length input.now) }
     ensures missed { IfNone result (MissesOnly input.now (λ v. ¬ (IsSized v) → 0 < depth_of v)) }
 {
-    let Some(front) = open(input) else {
-        return None;
-    };
+    let front = open(input)?;
     let (_, behind) = input.split_at(HEADER_LEN);
     if is_padded_body(front.type_, front.body, behind) {
         Some(front.rest)

@@ -29,15 +29,6 @@ pub begins : (IsText : Tree → List ℕ → Type 0) (start old out : List ℕ) 
 begins IsText start old out e =
     record { first = []; values = no_trees; lines = []; whole = refl; members = refl; texts = refl; made = e ∙ sym (append-nil old) }
 
--- a mark, a text and an end are one behind another
-pub line_added : (old mark text marked printed reserved ended : List ℕ) → marked ≡ old ++ mark → printed ≡ marked ++ text → reserved ≡ printed →
-    ended ≡ reserved ++ (10 ∷ []) → ended ≡ old ++ (mark ++ (text ++ 10 ∷ []))
-line_added old mark text marked printed reserved ended m p r e =
-    e
-    ∙ ap (λ l. l ++ (10 ∷ [])) (r ∙ p ∙ ap (λ l. l ++ text) m)
-    ∙ append_assoc (old ++ mark) text (10 ∷ [])
-    ∙ append_assoc old mark (text ++ 10 ∷ [])
-
 pub marked_added : (mark : List ℕ) (v : Tree) (old new : List ℕ) → AddsLine mark v old new → AddsTextLine (IsMarked mark) v old new
 marked_added mark v old new h =
     (mark ++ h.0, h.1 ∙ ap (λ l. old ++ l) (sym (append_assoc mark h.0 (10 ∷ []))), (h.0, refl, h.2))

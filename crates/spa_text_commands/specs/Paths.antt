@@ -1,12 +1,12 @@
 -- The path from a top-level pod to one inside it: docs/TEXT.md, "A part of an input".
-use Rattle.std.specs.Prelude.{◌+◌, ◌-◌, ◌&&◌, ℕ, zero, suc, codes, Bool, List, [], ◌∷◌, ◌++◌, if◌then◌else◌, length, nat_eq, nat_le, nat_lt, slice_index_or, take}
+use Rattle.std.specs.Prelude.{◌+◌, ◌-◌, ◌&&◌, ℕ, zero, suc, codes, Bool, List, [], ◌∷◌, ◌++◌, if◌then◌else◌, length, nat_eq, nat_le, nat_lt, slice_index_or, take, unwrap_or}
 use Rattle.std.specs.Fmt.{decimal}
 use Rattle.std.specs.List.{count_by}
 use Rattle.spa_events.specs.declared.event.Event.{Event}
 use Rattle.spa_format.specs.Tree.{object_type}
 use Rattle.spa_format.specs.Words.{header_size, word_at}
-use Rattle.spa_names.specs.Lookup.{keys_of}
-use Rattle.spa_text_commands.specs.Differences.{name_text}
+use Rattle.spa_names.specs.Lookup.{keys_of, name_of}
+use Rattle.spa_names.specs.declared.table.Table.{Table}
 
 -- the event of this number, the first being 0
 abbrev pub event_at : List Event → ℕ → Event
@@ -37,6 +37,10 @@ key_at pod at = word_at pod (at - header_size)
 -- how many of these events are of pods directly in that of this number
 abbrev pub count_in : ℕ → List Event → ℕ
 count_in number events = count_by (λ event. nat_eq event.parent number) events
+
+-- the name of a number, or its digits where it has none
+abbrev pub name_text : Table → ℕ → List ℕ
+name_text table number = unwrap_or (name_of table number) (decimal number)
 
 -- the step to the value of a property: the key's name, or its number where it has none
 abbrev pub key_step : (type key : ℕ) → List ℕ

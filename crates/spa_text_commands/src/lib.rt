@@ -3,12 +3,14 @@
 
 mod aligning;
 pub mod answer;
+mod changes;
 pub mod comparing;
 mod dump;
 mod extent;
 pub mod hexadecimal;
 mod inner_values;
 mod inside;
+mod line_writer;
 mod lines;
 mod listing;
 mod message;
@@ -19,7 +21,6 @@ pub mod params;
 mod parts;
 mod paths;
 pub mod printing;
-mod properties;
 pub mod reading;
 pub mod selection;
 pub mod showing;

@@ -35,10 +35,10 @@ const PROCESS: usize = 4;
 pub(crate) struct Head<'a> {
     /// In nanoseconds since 1970.
     time: i64,
-    to_daemon: bool,
-    client: i32,
-    object: i32,
-    opcode: i32,
+    pub(crate) to_daemon: bool,
+    pub(crate) client: i32,
+    pub(crate) object: i32,
+    pub(crate) opcode: i32,
     interface: Option<&'a str>,
     method: Option<&'a str>,
 }

@@ -6,12 +6,12 @@ ghost use Rattle.spa_text_commands.specs.Numbers.{AreNumbers, IsCountedIn};
 ghost use Rattle.spa_text_commands.specs.Paths as spec;
 ghost use Rattle.spa_text_commands.specs.Paths.{is_keyed, is_object_in, numbered, path_to, step_in};
 
-use crate::properties::Name;
 use spa_bytes::{HEADER_LEN, u32_at};
 use spa_events::Event;
-use spa_names::keys_of;
+use spa_names::{Table, keys_of, name_of};
 use spa_utils::SpaTypes;
 use std::alloc::{AllocError, Global};
+use std::fmt;
 use std::fmt::Write;
 
 /// How many bytes the header, the type and the id of an object take.
@@ -125,11 +125,14 @@ fn put_step(
     ensures { OnOk result (string_bytes text.new ≡ string_bytes text.old ++ step_in pod.now holder event count) }
 {
     if is_object_in(pod, holder) && is_keyed(pod, event.at) {
-        let keys = keys_of(SpaTypes(u32_at(pod, holder.at + HEADER_LEN)));
-        let key = Name(keys, u32_at(pod, event.at - HEADER_LEN));
-        return write!(text, ".{key}");
+        let type_ = u32_at(pod, holder.at + HEADER_LEN);
+        return write!(
+            text,
+            "{}",
+            Step::Key(type_, u32_at(pod, event.at - HEADER_LEN))
+        );
     }
-    write!(text, "[{count}]")
+    write!(text, "{}", Step::Member(count))
 }
 
 /// The number of the top-level pod, which so many stand before, and these steps; nothing where there are none.
@@ -142,4 +145,51 @@ pub(crate) fn numbered(alloc: Global, count: usize, steps: &str) -> Result<Strin
     }
     let number = count + 1;
     format!(in alloc; "{number}{steps}")
+}
+
+/// A step from a container to one of its entries.
+#[derive(Clone, Copy)]
+pub(crate) enum Step {
+    /// To the member of a struct that so many others stand before.
+    Member(usize),
+    /// To the value of a property: the type of the object, and the key.
+    Key(u32, u32),
+}
+
+impl fmt::Display for Step {
+    ghost use Rattle.std.specs.Prelude.{Some};
+    ghost use Rattle.spa_text_commands.specs.Unread.{step_text};
+
+    ghost output = { λ step. Some (step_text step) };
+
+    fn fmt<W: fmt::Write>(&self, f: &mut fmt::Formatter<W>) -> fmt::Result {
+        match *self {
+            Step::Member(count) => write!(f, "[{count}]"),
+            Step::Key(type_, key) => {
+                let name = Name(keys_of(SpaTypes(type_)), key);
+                write!(f, ".{name}")
+            }
+        }
+    }
+}
+
+/// The name of a number in a table, or its digits where it has none.
+#[derive(Clone, Copy)]
+pub(crate) struct Name(pub(crate) Table, pub(crate) u32);
+
+impl fmt::Display for Name {
+    ghost use Rattle.std.specs.Prelude.{Some};
+    ghost use Rattle.spa_text_commands.specs.Paths.{name_text};
+
+    ghost output = { λ name. Some (name_text name.0 name.1) };
+
+    fn fmt<W: fmt::Write>(&self, f: &mut fmt::Formatter<W>) -> fmt::Result {
+        match name_of(self.0, self.1) {
+            Some(name) => write!(f, "{name}"),
+            None => {
+                let number = self.1;
+                write!(f, "{number}")
+            }
+        }
+    }
 }

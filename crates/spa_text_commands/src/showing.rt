@@ -1,9 +1,11 @@
 //! Pods printed one after another, refused ones too.
-ghost use Rattle.std.specs.Prelude.{◌+◌, ◌<◌, ◌^◌, IfErr, IfOk, length};
+ghost use Rattle.std.specs.Prelude.{◌≡◌, ◌+◌, ◌<◌, ◌^◌, IfErr, IfOk, length};
 ghost use Rattle.spa_text_commands.specs.Answers.{IsNotShown, ShowsAll};
+ghost use Rattle.spa_text_commands.specs.Dump.{hex_lines};
 ghost use Rattle.spa_text_commands.specs.Lines.{Lists};
 
 use crate::answer::Failure;
+use crate::dump::add_rows;
 use crate::listing::add_selected;
 use crate::page::Page;
 use crate::selection::Printout;
@@ -41,6 +43,16 @@ pub fn show_pods(
         bytes: page.lines,
         refused: listed.refused,
     })
+}
+
+/// Lines of these bytes in hex, the first of which stands at this byte of the input.
+pub fn hex_rows(alloc: Global, place: usize, bytes: &[u8]) -> Result<Vec<u8>, AllocError>
+    requires { place + length bytes.now < 2 ^ 64 }
+    ensures { IfOk result (λ rows. rows.items ≡ hex_lines place bytes.now) }
+{
+    let mut rows = Vec::new(alloc);
+    add_rows(&mut rows, place, bytes)?;
+    Ok(rows)
 }
 
 /// What was listed of some bytes.

@@ -16,6 +16,15 @@ pub(crate) fn put<P: PodSerialize>(out: Vec<u8>, pod: &P) -> Result<Vec<u8>, Gen
     Ok(out)
 }
 
+/// An output that holds so many zeros.
+pub(crate) fn filled<const N: usize>(len: usize) -> ArrayVec<u8, N> {
+    let mut out = ArrayVec::new();
+    for _ in 0..len {
+        let _ = out.try_push(0);
+    }
+    out
+}
+
 /// Compares bytes with those that the words spell.
 pub(crate) fn assert_words(
     rt: &impl Abort,
@@ -26,30 +35,6 @@ pub(crate) fn assert_words(
     let wanted = bytes_spelled(alloc, words)?;
     assert_eq!(rt; found, wanted.as_slice(), "at {words}");
     Ok(())
-}
-
-/// Compares the encoding of a pod with these words.
-pub(crate) fn assert_written<P: PodSerialize>(
-    rt: &impl Abort,
-    alloc: Global,
-    pod: &P,
-    words: &str,
-) -> Result<(), Fail> {
-    let out = put(Vec::new(alloc), pod)?;
-    assert_words(rt, alloc, out.as_slice(), words)
-}
-
-/// Why a pod isn't written to an output of so many bytes.
-pub(crate) fn refusal<P: PodSerialize, const N: usize>(
-    out: ArrayVec<u8, N>,
-    pod: &P,
-) -> Option<GenError> {
-    PodSerializer::serialize(out, pod).err()
-}
-
-/// Compares a refusal with the wanted one.
-pub(crate) fn assert_refused(rt: &impl Abort, found: Option<GenError>, wanted: GenError) {
-    assert!(rt; found == Some(wanted));
 }
 
 /// Compares texts. The third one says where.

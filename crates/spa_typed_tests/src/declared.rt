@@ -1,26 +1,14 @@
 //! Types that are declared by what they are made of: written, and written where they don't fit.
-use crate::compare::{assert_refused, assert_words, assert_written, put};
-use arrayvec::ArrayVec;
+use crate::compare::{assert_holds, filled};
+use crate::latency::LATENCY;
+use crate::writes::{Place, written};
 use example_types::{AudioFormat, Curve, put_curve, put_format};
 use libspa::pod::serialize::GenError;
 use libspa::utils::{Float32, Id};
 use std::alloc::{AllocError, Global};
-use std::process::Abort;
 use std::test::Fail;
 
-/// A curve, in words: `up`, -2, the id 7 and three points.
-const CURVE: &str =
-    "80 14 3 8 28789 0 4 4 4294967294 0 4 3 7 0 20 13 4 6 1138491392 0 1065353216 0";
-
-/// A format with that curve, its properties in the order in which they are written.
-const FORMAT: &str =
-    "208 15 262147 4 65537 0 4 3 259 0 65539 0 4 4 48000 0 65540 0 4 4 2 0 65541 0 16 13 4 3 3 4 65550 0 80 14 3 8 28789 0 4 4 4294967294 0 4 3 7 0 20 13 4 6 1138491392 0 1065353216 0";
-
-/// That format without its channels.
-const WITHOUT_CHANNELS: &str =
-    "184 15 262147 4 65537 0 4 3 259 0 65539 0 4 4 48000 0 65541 0 16 13 4 3 3 4 65550 0 80 14 3 8 28789 0 4 4 4294967294 0 4 3 7 0 20 13 4 6 1138491392 0 1065353216 0";
-
-/// The curve of these words.
+/// A curve: `up`, -2, the id 7 and three points.
 fn curve(alloc: Global) -> Result<Curve, AllocError> {
     Ok(Curve {
         name: String::from_str(alloc, "up")?,
@@ -30,7 +18,7 @@ fn curve(alloc: Global) -> Result<Curve, AllocError> {
     })
 }
 
-/// The format of these words, with as many channels.
+/// A format with that curve, with as many channels.
 fn format(alloc: Global, channels: Option<i32>) -> Result<AudioFormat, AllocError> {
     Ok(AudioFormat {
         encoding: Id(259),
@@ -41,41 +29,19 @@ fn format(alloc: Global, channels: Option<i32>) -> Result<AudioFormat, AllocErro
     })
 }
 
-/// What is written of the format with as many channels.
-fn format_written(alloc: Global, channels: Option<i32>) -> Result<Vec<u8>, GenError> {
-    put(Vec::new(alloc), &format(alloc, channels)?)
-}
-
-/// Compares what is written of the format with as many channels with these words.
-fn assert_format(
-    rt: &impl Abort,
+/// What is written of a pod of one of these types.
+pub(crate) fn declared_written(
     alloc: Global,
-    channels: Option<i32>,
-    words: &str,
-) -> Result<(), Fail> {
-    let written = format_written(alloc, channels)?;
-    assert_words(rt, alloc, written.as_slice(), words)
-}
-
-#[test]
-fn declared_types_are_written(rt: HostRuntime) -> Result<(), Fail> {
-    let curve = curve(rt.alloc())?;
-    assert_written(&rt, rt.alloc(), &curve, CURVE)
-}
-
-#[test]
-fn declared_objects_are_written(rt: HostRuntime) -> Result<(), Fail> {
-    assert_format(&rt, rt.alloc(), Some(2), FORMAT)?;
-    assert_format(&rt, rt.alloc(), None, WITHOUT_CHANNELS)
-}
-
-/// An output that holds so many zeros.
-fn filled<const N: usize>(len: usize) -> ArrayVec<u8, N> {
-    let mut out = ArrayVec::new();
-    for _ in 0..len {
-        let _ = out.try_push(0);
+    place: Place,
+    name: &str,
+) -> Result<String, AllocError> {
+    match name {
+        "latency" => written(alloc, place, &LATENCY),
+        "curve" => written(alloc, place, &curve(alloc)?),
+        "format" => written(alloc, place, &format(alloc, Some(2))?),
+        "format without channels" => written(alloc, place, &format(alloc, None)?),
+        _ => String::from_str(alloc, " no such pod"),
     }
-    out
 }
 
 /// What an output in which there is room behind so many bytes, and no more, answers at `len`.
@@ -106,16 +72,12 @@ fn misplaced_format(format: &AudioFormat) -> Option<usize> {
     None
 }
 
-fn assert_all_placed(rt: &impl Abort, misplaced: Option<usize>, what: &str) {
-    assert_eq!(rt; misplaced, None, "{what}");
-}
-
 #[test]
 fn declared_types_are_written_where_they_fit(rt: HostRuntime) -> Result<(), AllocError> {
     let curve = curve(rt.alloc())?;
-    assert_all_placed(&rt, misplaced_curve(&curve), "a curve");
+    assert_holds(&rt, misplaced_curve(&curve).is_none(), "a curve");
     let format = format(rt.alloc(), Some(2))?;
-    assert_all_placed(&rt, misplaced_format(&format), "a format");
+    assert_holds(&rt, misplaced_format(&format).is_none(), "a format");
     Ok(())
 }
 
@@ -124,10 +86,7 @@ fn a_text_with_nul_is_refused(rt: HostRuntime) -> Result<(), Fail> {
     let alloc = rt.alloc();
     let mut other = curve(alloc)?;
     other.name = String::from_str(alloc, "u\0")?;
-    assert_refused(
-        &rt,
-        put_curve(filled::<96>(0), &other).err(),
-        GenError::NulInText,
-    );
+    let refused = put_curve(filled::<96>(0), &other).err();
+    assert_holds(&rt, refused == Some(GenError::NulInText), "a name with NUL");
     Ok(())
 }

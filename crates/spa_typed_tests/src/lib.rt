@@ -2,8 +2,6 @@
 #![tactic(auto)]
 
 #[cfg(test)]
-mod built_in;
-#[cfg(test)]
 mod compare;
 #[cfg(test)]
 mod declared;
@@ -19,3 +17,5 @@ mod reading;
 mod reads;
 #[cfg(test)]
 mod refusals;
+#[cfg(test)]
+mod writes;

@@ -3,7 +3,9 @@ ghost use Rattle.std.specs.Prelude.{[], ◌∷◌};
 ghost use Rattle.libspa.specs.Kind as kind;
 ghost use Rattle.libspa.specs.Tree.{array, fixed, member, no_properties, no_trees, object, property, struct};
 
-use crate::compare::{assert_refused, assert_words, assert_written, refusal};
+use crate::compare::{assert_holds, assert_words};
+use crate::refusals::misused;
+use crate::writes::{Place, written};
 use arrayvec::ArrayVec;
 use bitflags::Flags;
 use example_types::{
@@ -12,6 +14,7 @@ use example_types::{
 use libspa::pod::serialize::{GenError, PodOutput, PodSerialize, PodSerializer, SerializeSuccess};
 use libspa::pod::{FixedSizedPod, PropertyFlags};
 use libspa::utils::{Float32, Id, Rectangle};
+use std::alloc::{AllocError, Global};
 use std::test::Fail;
 
 /// A type of one's own that says nothing.
@@ -117,82 +120,41 @@ const PAIR: Pair = Pair {
     right: Level { steps: -1 },
 };
 
-/// The words of a mode.
-const MODE_WORDS: &str = "56 14 32 14 4 4 640 0 4 4 480 0 8 5 60 0";
-
-#[test]
-fn three_units_of_ones_own_are_a_header(rt: HostRuntime) -> Result<(), Fail> {
-    assert_written(&rt, rt.alloc(), &Silences, "8 13 0 1")
-}
-
-#[test]
-fn a_struct_of_ones_own_is_written(rt: HostRuntime) -> Result<(), Fail> {
-    let words = "56 14 4 4 313 0 4 8 7303014 0 16 14 8 10 31 14";
-    assert_written(&rt, rt.alloc(), &SONG, words)
-}
-
-#[test]
-fn a_struct_in_a_struct_is_written(rt: HostRuntime) -> Result<(), Fail> {
-    assert_written(&rt, rt.alloc(), &MODE, MODE_WORDS)
-}
-
-#[test]
-fn an_object_of_ones_own_is_written(rt: HostRuntime) -> Result<(), Fail> {
-    let words = "56 15 5 3 1 0 5 8 809138024 0 2 0 4 6 1138491392 0";
-    assert_written(&rt, rt.alloc(), &DEVICE, words)
-}
-
-#[test]
-fn a_struct_in_a_struct_in_an_object_is_written(rt: HostRuntime) -> Result<(), Fail> {
-    let words = "80 15 5 3 1 0 56 14 32 14 4 4 640 0 4 4 480 0 8 5 60 0";
-    assert_written(&rt, rt.alloc(), &Screen { mode: MODE }, words)
-}
-
-#[test]
-fn types_of_fixed_size_of_ones_own_are_written(rt: HostRuntime) -> Result<(), Fail> {
-    assert_written(&rt, rt.alloc(), &PAIR.left, "4 4 7 0")?;
-    assert_written(&rt, rt.alloc(), &PAIR, "16 13 4 4 7 4294967295")
-}
-
-#[test]
-fn a_value_in_a_struct_is_written(rt: HostRuntime) -> Result<(), Fail> {
-    let words = "32 14 4 3 9 0 4 4 313 0";
-    assert_written(&rt, rt.alloc(), &tagged_number(Id(9), 313), words)
-}
-
-/// Whether a number under an id is one.
-fn is_tagged_number() -> bool {
-    let tagged = tagged_number(Id(9), 313);
-    is_number(&tagged.value)
+/// What is written of a pod of one of these types.
+pub(crate) fn own_written(alloc: Global, place: Place, name: &str) -> Result<String, AllocError> {
+    match name {
+        "silences" => written(alloc, place, &Silences),
+        "song" => written(alloc, place, &SONG),
+        "mode" => written(alloc, place, &MODE),
+        "device" => written(alloc, place, &DEVICE),
+        "screen" => written(alloc, place, &Screen { mode: MODE }),
+        "level" => written(alloc, place, &PAIR.left),
+        "pair" => written(alloc, place, &PAIR),
+        "tagged number" => written(alloc, place, &tagged_number(Id(9), 313)),
+        "counted" => written(alloc, place, &Counted),
+        "counted property" => written(alloc, place, &CountedProperty),
+        _ => misused(alloc, place, name),
+    }
 }
 
 #[test]
 fn a_value_in_a_struct_is_a_number(rt: HostRuntime) {
-    assert!(rt; is_tagged_number());
+    let tagged = tagged_number(Id(9), 313);
+    let is_number = is_number(&tagged.value);
+    drop(tagged);
+    assert_holds(&rt, is_number, "a number under an id");
 }
+
+/// The words of a mode.
+const MODE_WORDS: &str = "56 14 32 14 4 4 640 0 4 4 480 0 8 5 60 0";
 
 #[test]
 fn a_mode_is_put_where_it_fits(rt: HostRuntime) -> Result<(), Fail> {
     let (out, count) = put_mode(ArrayVec::new(), &MODE)?;
-    assert!(rt; count == 64);
+    assert_holds(&rt, count == 64, MODE_WORDS);
     assert_words(&rt, rt.alloc(), out.as_slice(), MODE_WORDS)?;
     let (out, _) = put_mode(out, &MODE)?;
-    assert_refused(&rt, put_mode(out, &MODE).err(), GenError::Full);
+    let refused = put_mode(out, &MODE).err();
+    assert_holds(&rt, refused == Some(GenError::Full), "no room");
     Ok(())
-}
-
-#[test]
-fn an_object_is_written_where_it_fits(rt: HostRuntime) {
-    assert!(rt; refusal(ArrayVec::<u8, 64>::new(), &DEVICE).is_none());
-    assert_refused(
-        &rt,
-        refusal(ArrayVec::<u8, 63>::new(), &DEVICE),
-        GenError::Full,
-    );
-}
-
-#[test]
-fn members_are_counted(rt: HostRuntime) -> Result<(), Fail> {
-    assert_written(&rt, rt.alloc(), &Counted, "16 14 4 3 3 0")?;
-    assert_written(&rt, rt.alloc(), &CountedProperty, "32 15 5 3 1 0 4 3 3 0")
 }

@@ -2,7 +2,6 @@
 mod answering;
 pub(crate) mod answers;
 mod built;
-mod declining;
 mod elements;
 mod objects;
 mod settled;

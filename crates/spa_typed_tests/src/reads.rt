@@ -1,23 +1,24 @@
 //! What types of a program's own are read as.
-use crate::compare::{assert_holds, assert_said, assert_words};
-use crate::reading::answers::named;
+use crate::compare::assert_holds;
+use crate::reading::answers::refused;
 use example_types::{Capture, Gain, Mode, Size, read_mode, sent, with_volume};
 use libspa::pod::deserialize::PodDeserializer;
 use libspa::utils::Float32;
-use std::alloc::Global;
-use std::process::Abort;
+use std::alloc::{AllocError, Global};
 use std::test::Fail;
-use test_bytes::bytes_spelled;
+use test_bytes::push_spelling;
 
 /// Types that are declared by what they are made of. Structs, objects whose second property has flags or whose properties stand in another order,
 /// one of them before a second one under its key and one among them that isn't known; and what is refused: a struct whose end is missing, members of
-/// another type, one too few, one too many, members that cross the end, another object, another id, properties that are missing.
+/// another type, one too few, one too many, members that cross the end, another object, another id, properties that are missing. `mode sent`: it is
+/// also put into an output and read of that.
 pub(crate) const DECLARED: &str =
     r#"mode | 56 14 32 14 4 4 640 0 4 4 4294966816 0 8 5 4294967236 4294967295 | 0 left
 song | 56 14 4 4 313 0 4 8 7303014 0 16 14 8 10 31 14 | 0 left
 tagged | 32 14 4 3 9 0 4 4 313 0 | 0 left
 named device | 56 15 5 3 1 0 5 8 809138024 0 2 1 4 6 1138491392 0 | 0 left, written 56 15 5 3 1 0 5 8 809138024 0 2 0 4 6 1138491392 0
 mode on a screen | 80 15 5 3 1 0 56 14 32 14 4 4 640 0 4 4 4294966816 0 8 5 4294967236 4294967295 | 0 left
+mode sent | 56 14 32 14 4 4 640 0 4 4 4294966816 0 8 5 4294967236 4294967295 | 640 -480 -60, 0 left, sent 640 -480 -60
 mode | 56 14 32 14 | Short
 song | 32 14 4 3 9 0 4 4 313 0 | Tag
 song | 32 14 4 4 313 0 4 8 7303014 0 | PropertyMissing
@@ -34,75 +35,46 @@ format | 8 15 262147 3 | UnsupportedType
 format | 8 15 262146 4 | UnsupportedType
 format | 32 15 262147 4 65537 0 4 3 259 0 | PropertyMissing"#;
 
-/// A number with half of another one behind it.
-const LEVEL: &str = "4 4 4294967289 0 4 4";
+/// Reads that aren't tried on pods that are cut. Pods with something behind them: half of a number, another latency. Then properties of an audio
+/// device with a volume of a tenth, as PipeWire's C builder made them, and one before it, whose volume becomes 1; and those of another object,
+/// which has none.
+pub(crate) const UNCUT: &str = "level | 4 4 4294967289 0 4 4 | 8 left
+int | 4 4 4294967289 0 4 4 | -7
+named device | 4 4 4294967289 0 4 4 | Tag
+latency | 80 15 262156 16 1 0 4 6 1065353216 0 2 0 4 4 256 0 3 0 8 5 5 0 80 15 262156 16 1 0 4 6 1065353216 0 2 0 4 4 256 0 3 0 8 5 5 0 | 1065353216 256 5, 88 left
+louder | 104 15 262146 2 65537 7 4 3 2 0 65539 0 4 6 1036831949 0 65540 0 4 2 1 0 65539 0 4 6 1063675494 0 | now 104 15 262146 2 65537 7 4 3 2 0 65539 0 4 6 1065353216 0 65540 0 4 2 1 0 65539 0 4 6 1063675494 0
+louder | 56 15 5 3 1 0 5 8 809138024 0 2 1 4 6 1138491392 0 | no volume";
 
-/// Compares what the type of this name reads of that.
-fn assert_level(rt: &impl Abort, alloc: Global, name: &str, wanted: &str) -> Result<(), Fail> {
-    let input = bytes_spelled(alloc, LEVEL)?;
-    let found = named(alloc, name, input.as_slice())?;
-    assert_said(rt, found.as_str(), wanted, LEVEL);
-    Ok(())
-}
-
-#[test]
-fn what_follows_a_number_is_left(rt: HostRuntime) -> Result<(), Fail> {
-    assert_level(&rt, rt.alloc(), "level", "8 left")?;
-    assert_level(&rt, rt.alloc(), "int", "-7")?;
-    assert_level(&rt, rt.alloc(), "named device", "Tag")
-}
-
-/// A mode, in words.
-const MODE: &str = "56 14 32 14 4 4 640 0 4 4 4294966816 0 8 5 4294967236 4294967295";
-
-/// Is it this mode?
-fn is_the_mode(mode: &Mode) -> bool {
-    let Size { width, height } = mode.size;
-    width == 640 && height == -480 && mode.rate == -60
-}
-
-#[test]
-fn a_mode_comes_back(rt: HostRuntime) -> Result<(), Fail> {
-    let input = bytes_spelled(rt.alloc(), MODE)?;
-    let Ok((rest, mode)) = read_mode(rt.alloc(), input.as_slice()) else {
-        return Err(Fail::new("no mode"));
-    };
-    assert!(rt; rest.is_empty() && is_the_mode(&mode));
-    let back = sent(rt.alloc(), &mode);
-    assert!(rt; is_the_mode(&back));
-    Ok(())
-}
-
-/// Properties of an audio device with a volume of a tenth, as PipeWire's C builder made them, and one before it.
-const QUIET: &str =
-    "104 15 262146 2 65537 7 4 3 2 0 65539 0 4 6 1036831949 0 65540 0 4 2 1 0 65539 0 4 6 1063675494 0";
-
-/// `QUIET` with a volume of 1.
-const LOUD: &str =
-    "104 15 262146 2 65537 7 4 3 2 0 65539 0 4 6 1065353216 0 65540 0 4 2 1 0 65539 0 4 6 1063675494 0";
-
-/// Properties of another object, without a volume.
-const NO_VOLUME: &str = "56 15 5 3 1 0 5 8 809138024 0 2 1 4 6 1138491392 0";
-
-/// The object of these words with a volume of 1, where it has a volume.
-fn louder(alloc: Global, words: &str) -> Result<Option<Vec<u8>>, Fail> {
-    let input = bytes_spelled(alloc, words)?;
-    Ok(with_volume(alloc, input.as_slice(), Float32(1065353216))?)
-}
-
-#[test]
-fn what_is_not_known_is_kept(rt: HostRuntime) -> Result<(), Fail> {
-    match louder(rt.alloc(), QUIET)? {
-        Some(found) => assert_words(&rt, rt.alloc(), found.as_slice(), LOUD),
-        None => Err(Fail::new("no volume")),
+/// What is read of a mode, how many bytes follow it, and what comes back where it is sent.
+pub(crate) fn mode_said(alloc: Global, input: &[u8]) -> Result<String, AllocError> {
+    match read_mode(alloc, input) {
+        Ok((rest, mode)) => {
+            let mut text = String::new(alloc);
+            push_mode(&mut text, &mode)?;
+            write!(text, ", {} left, sent ", rest.len())?;
+            let back = sent(alloc, &mode);
+            push_mode(&mut text, &back)?;
+            Ok(text)
+        }
+        Err(error) => refused(alloc, error),
     }
 }
 
-#[test]
-fn another_object_has_no_volume(rt: HostRuntime) -> Result<(), Fail> {
-    let found = louder(rt.alloc(), NO_VOLUME)?;
-    assert_holds(&rt, found.is_none(), "there is no volume");
-    Ok(())
+fn push_mode(text: &mut String, mode: &Mode) -> Result<(), AllocError> {
+    let Size { width, height } = mode.size;
+    write!(text, "{width} {height} {}", mode.rate)
+}
+
+/// The words of the object at the front with a volume of 1, where it has a volume.
+pub(crate) fn louder_said(alloc: Global, input: &[u8]) -> Result<String, AllocError> {
+    match with_volume(alloc, input, Float32(1065353216))? {
+        Some(bytes) => {
+            let mut text = String::from_str(alloc, "now")?;
+            push_spelling(&mut text, bytes.as_slice())?;
+            Ok(text)
+        }
+        None => String::from_str(alloc, "no volume"),
+    }
 }
 
 /// A capture of 640 by 480 pixels without a rate.
@@ -125,7 +97,9 @@ fn visitors_of_ones_own_ask_for_no_memory(rt: HostRuntime) -> Result<(), Fail> {
     let Ok((_, gain)) = PodDeserializer::deserialize_from::<Gain>(rt.alloc(), GAIN) else {
         return Err(Fail::new("no gain"));
     };
-    assert!(rt; capture.size.width == 640 && capture.rate.is_none());
-    assert!(rt; gain.id == 2 && gain.volume == Float32(1065353216));
+    let is_so = capture.size.width == 640 && capture.rate.is_none();
+    assert_holds(&rt, is_so, "a capture");
+    let is_so = gain.id == 2 && gain.volume == Float32(1065353216);
+    assert_holds(&rt, is_so, "a gain");
     Ok(())
 }

@@ -3,12 +3,12 @@ ghost use Rattle.std.specs.Prelude.{[]};
 ghost use Rattle.libspa.specs.Kind as kind;
 ghost use Rattle.libspa.specs.Tree.{array, fixed};
 
-use crate::compare::{assert_refused, assert_written, refusal};
-use arrayvec::ArrayVec;
+use crate::declared::declared_written;
+use crate::writes::{Place, written};
 use bitflags::Flags;
 use libspa::pod::PropertyFlags;
 use libspa::pod::serialize::{GenError, PodOutput, PodSerialize, PodSerializer, SerializeSuccess};
-use std::test::Fail;
+use std::alloc::{AllocError, Global};
 
 /// An array of so many Ints, of which none is written.
 struct Promised(u32);
@@ -88,52 +88,15 @@ impl PodSerialize for RefusedProperty {
     }
 }
 
-#[test]
-fn a_long_array_is_too_large(rt: HostRuntime) {
-    assert_refused(
-        &rt,
-        refusal(ArrayVec::<u8, 16>::new(), &Promised(1073741822)),
-        GenError::TooLarge,
-    );
-}
-
-#[test]
-fn an_array_without_its_elements_has_a_wrong_count(rt: HostRuntime) {
-    assert_refused(
-        &rt,
-        refusal(ArrayVec::<u8, 16>::new(), &Promised(1073741821)),
-        GenError::WrongCount,
-    );
-}
-
-#[test]
-fn an_array_of_none_is_whole(rt: HostRuntime) -> Result<(), Fail> {
-    assert_written(&rt, rt.alloc(), &Promised(0), "8 13 4 4")
-}
-
-#[test]
-fn a_third_element_of_two_has_a_wrong_count(rt: HostRuntime) {
-    assert_refused(
-        &rt,
-        refusal(ArrayVec::<u8, 64>::new(), &Third),
-        GenError::Failed,
-    );
-}
-
-#[test]
-fn a_struct_with_a_refused_member_has_failed(rt: HostRuntime) {
-    assert_refused(
-        &rt,
-        refusal(ArrayVec::<u8, 64>::new(), &Refused),
-        GenError::Failed,
-    );
-}
-
-#[test]
-fn an_object_with_a_refused_property_has_failed(rt: HostRuntime) {
-    assert_refused(
-        &rt,
-        refusal(ArrayVec::<u8, 64>::new(), &RefusedProperty),
-        GenError::Failed,
-    );
+/// What is written of a pod of one of these types.
+pub(crate) fn misused(alloc: Global, place: Place, name: &str) -> Result<String, AllocError> {
+    match name {
+        "too many elements" => written(alloc, place, &Promised(1073741822)),
+        "missing elements" => written(alloc, place, &Promised(1073741821)),
+        "no elements" => written(alloc, place, &Promised(0)),
+        "a third element" => written(alloc, place, &Third),
+        "a refused member" => written(alloc, place, &Refused),
+        "a refused property" => written(alloc, place, &RefusedProperty),
+        _ => declared_written(alloc, place, name),
+    }
 }

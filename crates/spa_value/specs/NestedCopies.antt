@@ -18,10 +18,14 @@ abbrev pub so_far : Copying → Tree
 so_far (copying.Struct s) = struct (views s.copies.items)
 so_far (copying.Object o) = object o.type_ o.id (property_views o.copies.items)
 
+-- the tree of an object whose copies made so far are followed by these properties
+abbrev pub with_left : CopiedObject → List Property → Tree
+with_left o left = object o.type_ o.id (property_views (o.copies.items ++ left))
+
 -- the tree of the container that is copied: the copies made so far, and what is left to copy
 abbrev pub whole : Copying → Tree
 whole (copying.Struct s) = struct (views (s.copies.items ++ s.left.now))
-whole (copying.Object o) = object o.type_ o.id (property_views (o.copies.items ++ o.left.now))
+whole (copying.Object o) = with_left o o.left.now
 
 -- the tree once the member or property at which copying stopped has this value: the copies made so far, that value, and what is left to copy
 abbrev pub completed : Copying → Tree → Tree
@@ -60,8 +64,7 @@ TakesMember from v to = (left : List Value) → views (to.items ++ left) ≡ joi
 -- an object whose copy is begun took the value of its next property
 abbrev pub TakesProperty : CopiedObject → Tree → CopiedObject → Type 0
 TakesProperty from v to = (left : List Property) →
-    object to.type_ to.id (property_views (to.copies.items ++ left))
-    ≡ object from.type_ from.id (join_properties (property_views from.copies.items) (property from.key from.flags.0 v (property_views left)))
+    with_left to left ≡ object from.type_ from.id (join_properties (property_views from.copies.items) (property from.key from.flags.0 v (property_views left)))
 
 -- copies were made up to the end of the container, or up to the next container in it
 abbrev pub CopiesOn : Copying → Option Nested → Copying → Type 0

@@ -1,8 +1,10 @@
-//! Copies structs and objects by a loop, with an explicit stack of the containers whose copies are begun.
-ghost use Rattle.std.specs.Prelude.{◌≡◌, ◌++◌, ◌∷◌, ◌<◌, ◌≤◌, [], IfNone, IfOk, IfSome, OnOk, vec_capacity, vec_len};
-ghost use Rattle.spa_value.specs.NestedCopies.{Begins, CopiesOn, Ends, HasPlace, Steps, TakesMember, TakesProperty, completed, copied, nested_view, so_far, values_left, whole};
+//! Copies structs and objects: up to 512 levels by calls, and what is nested deeper by a loop, with an explicit stack of the containers whose copies
+//! are begun.
+ghost use Rattle.std.specs.Prelude.{◌≡◌, ◌∷◌, ◌<◌, List, IfOk, OnOk, vec_capacity, vec_len};
+ghost use Rattle.spa_value.specs.NestedCopies.{Begins, CopiesOn, Ends, HasPlace, Steps, TakesMember, TakesProperty, completed, copied, nested_view, so_far, values_left, whole, with_left};
 ghost use Rattle.spa_value.specs.View.{object_view, view};
 ghost use Rattle.spa_value.specs.Views.{views};
+ghost use Rattle.spa_value.specs.declared.object.Property.{Property};
 ghost use Rattle.spa_format.specs.Tree.{struct};
 ghost use Rattle.spa_value.specs.declared.nested_copies.Copying.TheVariants as copying_variant;
 
@@ -161,6 +163,20 @@ impl<'a> CopiedObject<'a> {
     }
 }
 
+impl CopiedObject<'_> {
+    /// The object of the copies so far.
+    #[inline(always)]
+    fn into_object(self) -> Object
+        ensures { object_view result ≡ so_far (copying_variant.Object self.entry) }
+    {
+        Object {
+            type_: self.type_,
+            id: self.id,
+            properties: self.copies,
+        }
+    }
+}
+
 impl<'a> Copying<'a> {
     /// Copies up to the next container in this one, which is answered, or to its end. Refused only for want of memory.
     #[inline(always)]
@@ -217,11 +233,7 @@ impl<'a> Copying<'a> {
     {
         match self {
             Copying::Struct(it) => Value::Struct(it.copies),
-            Copying::Object(it) => Value::Object(Object {
-                type_: it.type_,
-                id: it.id,
-                properties: it.copies,
-            }),
+            Copying::Object(it) => Value::Object(it.into_object()),
         }
     }
 }
@@ -285,111 +297,97 @@ impl<'a> Copies<'a> {
 }
 
 /// How many levels of containers in one another are copied by calls, which is faster; what is nested deeper is copied by a loop.
-pub(crate) const CALL_LEVELS: usize = 64;
+pub(crate) const CALL_LEVELS: usize = 512;
 
-/// Copies a container, and this many levels in it by calls. Refused only for want of memory, as those below are.
+/// Copies a container: this many levels by calls. Refused only for want of memory, as those below are.
 #[cycle(levels)]
 #[inline(always)]
 pub(crate) fn copy_nested(nested: Nested<'_>, levels: usize) -> Result<Value, AllocError>
     ensures { IfOk result (λ copy. view copy ≡ nested_view nested.entry) }
 {
-    match nested {
-        Nested::Struct(members) => struct_copy(members, levels),
-        Nested::Object(object) => object_copy(object, levels),
-    }
+    Ok(match nested {
+        Nested::Struct(members) if levels > 0 => Value::Struct(copy_members(members, levels - 1)?),
+        Nested::Object(object) if levels > 0 => Value::Object(copy_object(object, levels - 1)?),
+        deep => copy_by_loop(deep)?,
+    })
 }
 
-/// Copies a struct.
+/// Copies members.
 #[cycle(levels)]
 #[inline(never)]
-pub(crate) fn struct_copy(members: &Vec<Value>, levels: usize) -> Result<Value, AllocError>
-    ensures { IfOk result (λ copy. view copy ≡ struct (views members.now.items)) }
+fn copy_members(members: &Vec<Value>, levels: usize) -> Result<Vec<Value>, AllocError>
+    ensures { IfOk result (λ copies. views copies.items ≡ views members.now.items) }
 {
-    let mut begun = begin_struct(members)?;
-    match begun.copy_on()? {
-        None => Ok(Value::Struct(begun.copies)),
-        Some(nested) => copy_rest(Copying::Struct(begun), nested, levels),
+    let mut copies = Vec::with_capacity(*members.allocator(), members.len())?;
+    let mut left = members.as_slice();
+    while let Some((member, behind)) = left.split_first() {
+        left = behind;
+        if let Err(error) = copy_member(member, &mut copies, levels) {
+            discard(Value::Struct(copies));
+            return Err(error);
+        }
     }
+    Ok(copies)
+}
+
+/// Appends the copy of a member to others.
+#[cycle(levels)]
+#[inline(always)]
+fn copy_member(member: &Value, copies: &mut Vec<Value>, levels: usize) -> Result<(), AllocError>
+    ensures { OnOk result (TakesMember copies.old (view member.now) copies.new) }
+{
+    copies.reserve(1)?;
+    if let Some(nested) = copy_leaf(member, copies)? {
+        copies.put(copy_nested(nested, levels)?);
+    }
+    Ok(())
 }
 
 /// Copies an object.
 #[cycle(levels)]
 #[inline(never)]
-pub(crate) fn object_copy(object: &Object, levels: usize) -> Result<Value, AllocError>
-    ensures { IfOk result (λ copy. view copy ≡ object_view object.now) }
+pub(crate) fn copy_object(object: &Object, levels: usize) -> Result<Object, AllocError>
+    ensures { IfOk result (λ copy. object_view copy ≡ object_view object.now) }
 {
     let mut begun = begin_object(object)?;
-    match begun.copy_on()? {
-        None => Ok(Value::Object(Object {
-            type_: begun.type_,
-            id: begun.id,
-            properties: begun.copies,
-        })),
-        Some(nested) => copy_rest(Copying::Object(begun), nested, levels),
-    }
-}
-
-/// Copies the container `first` and what is left behind it of the one whose copy is begun.
-#[cycle(levels)]
-#[inline(never)]
-fn copy_rest<'a>(outer: Copying<'a>, first: Nested<'a>, levels: usize) -> Result<Value, AllocError>
-    ensures { IfOk result (λ copy. view copy ≡ completed outer.entry (nested_view first.entry)) }
-{
-    if levels == 0 {
-        return copy_within(outer, first);
-    }
-    let mut begun = outer;
-    let mut nested = first;
-    loop {
-        if let Err(error) = put_copy(&mut begun, nested, levels - 1) {
-            discard(begun.into_value());
+    let mut left = begun.left;
+    while let Some((property, behind)) = left.split_first() {
+        left = behind;
+        if let Err(error) = copy_property(property, &mut begun, levels) {
+            discard(Value::Object(begun.into_object()));
             return Err(error);
         }
-        match begun.copy_on() {
-            Ok(None) => return Ok(begun.into_value()),
-            Ok(Some(next)) => nested = next,
-            Err(error) => {
-                discard(begun.into_value());
-                return Err(error);
-            }
-        }
     }
+    Ok(begun.into_object())
 }
 
-/// Puts the copy of the container at which copying stopped into the one around it.
+/// Appends the copy of a property to others.
 #[cycle(levels)]
 #[inline(always)]
-fn put_copy(begun: &mut Copying<'_>, nested: Nested<'_>, levels: usize) -> Result<(), AllocError>
-    ensures same { OnOk result (whole begun.new ≡ completed begun.old (nested_view nested.entry)) }
-    ensures left { OnOk result (values_left begun.new ≡ values_left begun.old) }
+fn copy_property(
+    property: &Property,
+    begun: &mut CopiedObject<'_>,
+    levels: usize,
+) -> Result<(), AllocError>
+    ensures { OnOk result ((left : List Property) → with_left begun.new left ≡ with_left begun.old (property.now ∷ left)) }
 {
-    begun.reserve()?;
-    let copy = copy_nested(nested, levels)?;
-    begun.put(copy);
+    begun.key = property.key;
+    begun.flags = property.flags;
+    begun.copies.reserve(1)?;
+    if let Some(nested) = copy_leaf(&property.value, begun)? {
+        begun.put(copy_nested(nested, levels)?);
+    }
     Ok(())
 }
 
-/// Copies the container `nested` and what is left behind it of the one whose copy is begun, by a loop. Refused only for want of memory.
+/// Copies a container by a loop.
+#[cold]
 #[inline(never)]
-fn copy_within<'a>(outermost: Copying<'a>, nested: Nested<'a>) -> Result<Value, AllocError>
-    ensures { IfOk result (λ copy. view copy ≡ completed outermost.entry (nested_view nested.entry)) }
+fn copy_by_loop(nested: Nested<'_>) -> Result<Value, AllocError>
+    ensures { IfOk result (λ copy. view copy ≡ nested_view nested.entry) }
 {
-    let mut around = match Vec::with_capacity(outermost.allocator(), 1) {
-        Ok(around) => around,
-        Err(error) => {
-            drop(outermost);
-            return Err(error);
-        }
-    };
-    let inner = match begin_copy(nested) {
-        Ok(inner) => inner,
-        Err(error) => {
-            drop(around);
-            drop(outermost);
-            return Err(error);
-        }
-    };
-    around.push_reserved(outermost);
+    let inner = begin_copy(nested)?;
+    let around = Vec::new(inner.allocator());
     let mut copies = Copies { inner, around };
     loop {
         match copies.step() {

@@ -32,7 +32,7 @@ pub(crate) fn short_encoding(value: &Value) -> Option<[u8; LONGEST_POD_LEN]>
     }
 }
 
-/// The encoding of a value of a type of fixed size whose body isn't empty.
+/// The encoding of a value of one of the nine types whose pods have sixteen bytes.
 #[inline(always)]
 fn short_pod<T: CanonicalFixedSizedPod>(value: &T) -> [u8; LONGEST_POD_LEN]
     requires { extent T.SIZE ≡ LONGEST_POD_LEN }

@@ -28,7 +28,7 @@ fn failed(error: GenError) -> Fail {
 
 /// Whether what is read from these bytes is written to a vector, behind what it held, as these bytes.
 fn is_written_back(alloc: Global, input: &[u8]) -> Result<bool, Fail> {
-    let value = Held::from(read(alloc, input)?);
+    let value = read(alloc, input)?;
     let out = vec![in alloc; 7]?;
     match PodSerializer::serialize(out, &*value) {
         Ok((out, len)) => Ok(len == input.len() as u64 && out[0] == 7 && &out[1..] == input),
@@ -38,7 +38,7 @@ fn is_written_back(alloc: Global, input: &[u8]) -> Result<bool, Fail> {
 
 /// Whether it is written so to a device, at once.
 fn is_sent(alloc: Global, input: &[u8]) -> Result<bool, Fail> {
-    let value = Held::from(read(alloc, input)?);
+    let value = read(alloc, input)?;
     let mut sink = IoSink::new(Vec::new(alloc));
     let answer = write_value(alloc, &mut sink, &*value);
     let taken = sink.into_inner();
@@ -61,7 +61,7 @@ fn are_behind(taken: &[u8], others: &[u8]) -> bool {
 /// Whether it is written so to a device, behind a byte that the device has, by a call that is given no allocator. Where memory ran out for a value
 /// of more than 512 levels, the device has that byte alone.
 fn is_sent_without_memory(alloc: Global, depth: u32, input: &[u8]) -> Result<bool, Fail> {
-    let value = Held::from(read(alloc, input)?);
+    let value = read(alloc, input)?;
     let mut sink = IoSink::new(vec![in alloc; 7]?);
     let answer = write_sized(&mut sink, &*value);
     let (written, failures) = (sink.written(), sink.failures());
@@ -117,7 +117,7 @@ fn deep_structs_beside_one_another_end_no_write(rt: HostRuntime) -> Result<(), F
 
 /// Whether a clone of it is the same.
 fn is_copied(alloc: Global, input: &[u8]) -> Result<bool, Fail> {
-    let value = Held::from(read(alloc, input)?);
+    let value = read(alloc, input)?;
     let copied: Result<Value, AllocError> = (*value).clone();
     let copy = Held::from(copied?);
     Ok(same(alloc, &*value, &*copy)?)
@@ -146,7 +146,7 @@ fn depth_ends_no_write(rt: HostRuntime) -> Result<(), Fail> {
 
 /// What 4096 bytes of room answer to the value, and whether they hold the beginning of these bytes then, all that fits. It takes no memory.
 fn fixed(alloc: Global, input: &[u8]) -> Result<(Result<u64, GenError>, bool), Fail> {
-    let value = Held::from(read(alloc, input)?);
+    let value = read(alloc, input)?;
     let mut out: ArrayVec<u8, 4096> = ArrayVec::new();
     let answer = write_sized(&mut out, &*value);
     Ok((answer, input.starts_with(out.as_slice())))

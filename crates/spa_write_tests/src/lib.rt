@@ -1,5 +1,5 @@
-//! Tests of writers of any value: encodings, outputs of fixed room, devices that fail, values that stand deep in one another,
-//! and objects made by `object!`. There is nothing here but tests.
+//! Tests of writers of any value: encodings, outputs of fixed room, devices that fail, and values that stand deep in one another.
+//! There is nothing here but tests.
 #![tactic(auto)]
 
 #[cfg(test)]
@@ -8,8 +8,6 @@ mod compare;
 mod depth;
 #[cfg(test)]
 mod nested;
-#[cfg(test)]
-mod objects;
 #[cfg(test)]
 mod sized;
 #[cfg(test)]

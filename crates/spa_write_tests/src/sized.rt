@@ -1,6 +1,6 @@
 //! A whole value written front to back, into outputs and devices.
 use crate::compare::assert_holds;
-use crate::writing::{rows, three, three_and_nul, value_of};
+use crate::writing::{THREE, rows, three, three_and_nul, value_of};
 use arrayvec::ArrayVec;
 use spa_device::IoSink;
 use spa_sink::GenError;
@@ -36,9 +36,6 @@ impl Write for Device {
     }
 }
 
-/// The words of the encoding of a struct of the Int 3.
-const WORDS: &str = "16 14 4 4 3 0";
-
 /// What the write of a value answered, how many bytes were taken, how many writes failed, and the device.
 type Found<W> = (Result<u64, GenError>, u64, u64, W);
 
@@ -51,11 +48,9 @@ fn found<W: Write + Drop>(device: W, value: &Value) -> Found<W> {
 }
 
 /// Writes the struct to the device.
-fn found_three<W: Write + Drop>(alloc: Global, device: W) -> Result<Found<W>, AllocError> {
+fn found_three<W: Write + Drop>(alloc: Global, device: W) -> Result<Found<W>, Fail> {
     let value = three(alloc)?;
-    let found = found(device, &value);
-    drop(value);
-    Ok(found)
+    Ok(found(device, &*value))
 }
 
 /// A device that takes this many bytes at a time, and fails at this write.
@@ -75,7 +70,7 @@ fn begins(written: u64, taken: &[u8], encoding: &[u8]) -> bool {
 
 #[test]
 fn a_vector_takes_all_of_it(rt: HostRuntime) -> Result<(), Fail> {
-    let wanted = bytes_spelled(rt.alloc(), WORDS)?;
+    let wanted = bytes_spelled(rt.alloc(), THREE)?;
     let (answer, written, failures, taken) = found_three(rt.alloc(), Vec::new(rt.alloc()))?;
     let begins = begins(written, taken.as_slice(), wanted.as_slice());
     assert_holds(&rt, begins, "what the vector holds");
@@ -110,7 +105,7 @@ fn assert_cut_at(
     alloc: Global,
     row: (usize, u32, u64),
     encoding: &[u8],
-) -> Result<(), AllocError> {
+) -> Result<(), Fail> {
     let (most, failing, count) = row;
     let found = found_three(alloc, limited(most, failing))?;
     let is_cut = is_cut_at(&found, count, encoding);
@@ -120,7 +115,7 @@ fn assert_cut_at(
 
 #[test]
 fn a_failing_device_has_taken_a_beginning(rt: HostRuntime) -> Result<(), Fail> {
-    let wanted = bytes_spelled(rt.alloc(), WORDS)?;
+    let wanted = bytes_spelled(rt.alloc(), THREE)?;
     for row in failing() {
         assert_cut_at(&rt, rt.alloc(), *row, wanted.as_slice())?;
     }
@@ -129,7 +124,7 @@ fn a_failing_device_has_taken_a_beginning(rt: HostRuntime) -> Result<(), Fail> {
 
 #[test]
 fn a_device_takes_all_of_it(rt: HostRuntime) -> Result<(), Fail> {
-    let wanted = bytes_spelled(rt.alloc(), WORDS)?;
+    let wanted = bytes_spelled(rt.alloc(), THREE)?;
     let found = found_three(rt.alloc(), limited(5, 7))?;
     let is_whole = is_whole(&found, wanted.as_slice());
     assert_holds(&rt, is_whole, "no write fails");
@@ -184,10 +179,9 @@ fn assert_cut(rt: &impl Abort, alloc: Global, row: &(&str, &str)) -> Result<(), 
     let encoding = bytes_spelled(alloc, row.1)?;
     let value = value_of(alloc, row)?;
     for most in PIECES {
-        let is_cut = is_cut_at_each_write(&value, *most, encoding.as_slice());
+        let is_cut = is_cut_at_each_write(&*value, *most, encoding.as_slice());
         assert_holds(rt, is_cut, row.1);
     }
-    drop(value);
     Ok(())
 }
 
@@ -203,8 +197,7 @@ fn each_write_fails_in_turn(rt: HostRuntime) -> Result<(), Fail> {
 fn left_by_nul(alloc: Global) -> Result<(Result<u64, GenError>, bool), AllocError> {
     let mut out = [7].to_vec(alloc)?;
     let value = three_and_nul(alloc)?;
-    let answer = write_sized(&mut out, &value);
-    drop(value);
+    let answer = write_sized(&mut out, &*value);
     Ok((answer, out.as_slice() == [7].as_slice()))
 }
 
@@ -218,11 +211,10 @@ fn a_text_with_nul_leaves_the_output(rt: HostRuntime) -> Result<(), AllocError> 
 
 /// Writes the struct to an output that has no room for all of it, and answers whether the output begins it.
 fn left_by_lack_of_room(alloc: Global) -> Result<(Result<u64, GenError>, bool), Fail> {
-    let wanted = bytes_spelled(alloc, WORDS)?;
+    let wanted = bytes_spelled(alloc, THREE)?;
     let value = three(alloc)?;
     let mut out: ArrayVec<u8, 15> = ArrayVec::new();
-    let answer = write_sized(&mut out, &value);
-    drop(value);
+    let answer = write_sized(&mut out, &*value);
     Ok((answer, wanted.starts_with(out.as_slice())))
 }
 

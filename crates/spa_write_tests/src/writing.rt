@@ -7,7 +7,7 @@ use spa_bodies::{put_bitmap, put_bytes, put_pointer, put_text};
 use spa_sink::{GenError, PodSink};
 use spa_typed_write::{PodSerializer, laws, write_struct};
 use spa_utils::{Choice, ChoiceEnum, ChoiceFlags};
-use spa_value::{ChoiceValue, Value, ValueArray};
+use spa_value::{ChoiceValue, Held, Value, ValueArray};
 use spa_write::{put_leaf, write_sized};
 use std::alloc::{AllocError, Global};
 use std::process::Abort;
@@ -102,7 +102,7 @@ fn texts() -> &'static [(&'static str, &'static str)] {
 }
 
 /// The value of a row: read from its words, where it can be.
-pub(crate) fn value_of(alloc: Global, row: &(&str, &str)) -> Result<Value, Fail> {
+pub(crate) fn value_of(alloc: Global, row: &(&str, &str)) -> Result<Held, Fail> {
     match row.0 {
         FIVE_UNITS => Ok(units(alloc)?),
         FLAGGED => Ok(flagged()),
@@ -111,30 +111,37 @@ pub(crate) fn value_of(alloc: Global, row: &(&str, &str)) -> Result<Value, Fail>
 }
 
 /// The value that these words say.
-fn read_spelled(alloc: Global, words: &str) -> Result<Value, Fail> {
+fn read_spelled(alloc: Global, words: &str) -> Result<Held, Fail> {
     let input = bytes_spelled(alloc, words)?;
     read(alloc, input.as_slice())
 }
 
-fn units(alloc: Global) -> Result<Value, AllocError> {
+fn units(alloc: Global) -> Result<Held, AllocError> {
     let units = Vec::from_slice(alloc, &[(); 5])?;
-    Ok(Value::ValueArray(ValueArray::None(units)))
+    Ok(Held::from(Value::ValueArray(ValueArray::None(units))))
 }
 
-fn flagged() -> Value {
+fn flagged() -> Held {
     let flags = ChoiceFlags::from_bits_retain(5);
-    Value::Choice(ChoiceValue::Int(Choice(flags, ChoiceEnum::None(7))))
+    let choice = Choice(flags, ChoiceEnum::None(7));
+    Held::from(Value::Choice(ChoiceValue::Int(choice)))
 }
 
-/// A struct of the Int 3.
-pub(crate) fn three(alloc: Global) -> Result<Value, AllocError> {
-    Ok(Value::Struct(vec![in alloc; Value::Int(3)]?))
+/// The words of a struct of the Int 3.
+pub(crate) const THREE: &str = "16 14 4 4 3 0";
+
+/// That struct.
+pub(crate) fn three(alloc: Global) -> Result<Held, Fail> {
+    read_spelled(alloc, THREE)
 }
 
 /// A struct of the Int 3 and a text that holds NUL.
-pub(crate) fn three_and_nul(alloc: Global) -> Result<Value, AllocError> {
+pub(crate) fn three_and_nul(alloc: Global) -> Result<Held, AllocError> {
     let text = String::from_str(alloc, "a\0b")?;
-    Ok(Value::Struct(vec![in alloc; Value::Int(3), Value::String(text)]?))
+    let mut members = Vec::with_capacity(alloc, 2)?;
+    members.push_reserved(Value::Int(3));
+    members.push_reserved(Value::String(text));
+    Ok(Held::from(Value::Struct(members)))
 }
 
 /// What a value shows.
@@ -182,9 +189,7 @@ fn assert_written(
 /// Checks that the value of a row is written as the row's words.
 fn assert_row(rt: &impl Abort, alloc: Global, row: &(&str, &str)) -> Result<(), Fail> {
     let value = value_of(alloc, row)?;
-    let compared = assert_written(rt, alloc, &value, row);
-    drop(value);
-    compared
+    assert_written(rt, alloc, &*value, row)
 }
 
 #[test]
@@ -214,11 +219,13 @@ fn texts_have_these_pods(rt: HostRuntime) -> Result<(), Fail> {
 
 /// A number's encoding in an output of this many bytes.
 fn three_written<const N: usize>() -> Result<(ArrayVec<u8, N>, u64), GenError> {
-    PodSerializer::serialize(ArrayVec::new(), &Value::Int(3))
+    let three = Held::from(Value::Int(3));
+    PodSerializer::serialize(ArrayVec::new(), &*three)
 }
 
 fn three_behind<const N: usize>(out: ArrayVec<u8, N>) -> Result<(ArrayVec<u8, N>, u64), GenError> {
-    laws::values_are_written_where_they_fit(out, &Value::Int(3))
+    let three = Held::from(Value::Int(3));
+    laws::values_are_written_where_they_fit(out, &*three)
 }
 
 fn assert_refused(rt: &impl Abort, refused: Option<GenError>, wanted: GenError) {
@@ -263,9 +270,7 @@ fn a_refused_struct_keeps_what_was_there(rt: HostRuntime) -> Result<(), Fail> {
 /// Why the text with NUL isn't written.
 fn nul_refusal(alloc: Global) -> Result<Option<GenError>, AllocError> {
     let value = three_and_nul(alloc)?;
-    let refusal = written(alloc, &value).err();
-    drop(value);
-    Ok(refusal)
+    Ok(written(alloc, &*value).err())
 }
 
 #[test]
@@ -274,28 +279,16 @@ fn a_text_with_nul_is_refused(rt: HostRuntime) -> Result<(), Fail> {
     Ok(())
 }
 
-/// Appends a leaf.
-fn put_true(out: &mut Vec<u8>) -> Result<(), GenError> {
-    put_leaf(out, &Value::Bool(true))
-}
-
-/// Appends a struct.
-fn put_struct(out: &mut Vec<u8>, alloc: Global) -> Result<(), GenError> {
-    let value = three(alloc)?;
-    let answer = write_sized(out, &value);
-    drop(value);
-    answer?;
-    Ok(())
-}
-
 /// What each call appends, one behind another.
-fn parts(alloc: Global) -> Result<Vec<u8>, GenError> {
+fn parts(alloc: Global) -> Result<Vec<u8>, Fail> {
     let mut out = Vec::new(alloc);
     put_pointer(&mut out, 7, 4096)?;
     put_bytes(&mut out, &[1, 2, 3])?;
     put_bitmap(&mut out, &[1, 2, 3])?;
-    put_true(&mut out)?;
-    put_struct(&mut out, alloc)?;
+    let leaf = Held::from(Value::Bool(true));
+    put_leaf(&mut out, &*leaf)?;
+    let value = three(alloc)?;
+    write_sized(&mut out, &*value)?;
     Ok(out)
 }
 

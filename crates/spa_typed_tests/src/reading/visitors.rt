@@ -5,183 +5,179 @@ ghost use Rattle.spa_bodies.specs.Reading.{IsRead};
 use crate::compare::assert_said;
 use crate::reading::answering::AnsweringVisitor;
 use crate::reading::answers::refused;
-use crate::reading::declining::{declined, number_visitor};
 use spa_fixed_sized::DeserializeError;
 use spa_typed_read::{DeserializeSuccess, PodDeserialize, PodDeserializer};
 use spa_visitors::{
-    BitmapVisitor, BoolVisitor, BytesVisitor, ChoiceBoolVisitor, ChoiceDoubleVisitor,
-    ChoiceFdVisitor, ChoiceFloatVisitor, ChoiceFractionVisitor, ChoiceIdVisitor, ChoiceIntVisitor,
-    ChoiceLongVisitor, ChoiceRectangleVisitor, DoubleVisitor, FdVisitor, FloatVisitor,
-    FractionVisitor, IdVisitor, IntVisitor, LongVisitor, NoneVisitor, PointerVisitor,
-    RectangleVisitor, StringVisitor, ValueVisitor, VecVisitor,
+    BitmapVisitor, BoolVisitor, BytesVisitor, DoubleVisitor, FdVisitor, FloatVisitor,
+    FractionVisitor, Handed, HandedVisitor, IdVisitor, IntVisitor, LongVisitor, NoneVisitor,
+    PointerVisitor, RectangleVisitor, StringVisitor, ValueVisitor, VecVisitor,
 };
 use std::alloc::{AllocError, Global};
 use std::fmt::Debug;
+use std::marker::PhantomData;
 use std::process::Abort;
 use std::test::Fail;
 use test_bytes::bytes_of;
 
-/// The answer of a call, by its number, as a text. The first numbers are those of the pods' types.
+/// The answer of a call, by its number, as a text: of the numbers below with the visitor of `T`, of others with one of their own.
 #[derive(Drop)]
-pub(crate) struct Answer<const CALL: u8>(String);
+pub(crate) struct Answer<T, const CALL: u8>(String, PhantomData<T>);
 
-/// What a call's visitor made, as a text, and the rest that the call leaves; or the call's refusal.
-pub(crate) fn as_answer<'de, T: Debug + Drop, const CALL: u8>(
+/// The calls that hand a choice, a struct and an object to the visitor of a type.
+pub(crate) const CHOICE: u8 = 97;
+
+pub(crate) const STRUCT: u8 = 98;
+
+pub(crate) const OBJECT: u8 = 99;
+
+/// What a call's visitor made, as a text, and what follows the pod; or the refusal.
+type Said<'de> = Result<(String, DeserializeSuccess<'de>), DeserializeError<&'de [u8]>>;
+
+/// That, of what the call answers.
+fn said<'de, T: Debug + Drop>(
     alloc: Global,
     read: Result<(T, DeserializeSuccess<'de>), DeserializeError<&'de [u8]>>,
-) -> Result<(Answer<CALL>, DeserializeSuccess<'de>), DeserializeError<&'de [u8]>>
+) -> Said<'de>
     ensures ok { OnOk result (IsOk read.entry) }
     ensures rest { IfOk result (λ it. IfOk read.entry (λ r. it.1 ≡ r.1)) }
 {
     let (made, success) = read?;
     match format!(in alloc; "{made:?}") {
-        Ok(text) => Ok((Answer(text), success)),
+        Ok(text) => Ok((text, success)),
         Err(_) => Err(DeserializeError::OutOfMemory),
     }
 }
 
-/// The calls for lone numbers but floats.
+/// The calls for lone numbers but floats. The first numbers of calls are those of the pods' types.
 #[tactic(auto, using(spa_typed_read::proofs::Stepping::visited_any, spa_typed_read::proofs::Stepping::read_any))]
-fn number_call<'de, const CALL: u8>(
-    alloc: Global,
-    deserializer: PodDeserializer<'de>,
-) -> Result<(Answer<CALL>, DeserializeSuccess<'de>), DeserializeError<&'de [u8]>>
+fn number_call<'de>(alloc: Global, call: u8, deserializer: PodDeserializer<'de>) -> Said<'de>
     ensures { IfOk result (λ it. IsRead deserializer.entry it.1 (λ _. ⊤)) }
 {
-    match CALL {
-        1 => as_answer(alloc, deserializer.deserialize_none(NoneVisitor)),
-        2 => as_answer(alloc, deserializer.deserialize_bool(BoolVisitor)),
-        3 => as_answer(alloc, deserializer.deserialize_id(IdVisitor)),
-        4 => as_answer(alloc, deserializer.deserialize_int(IntVisitor)),
-        5 => as_answer(alloc, deserializer.deserialize_long(LongVisitor)),
-        _ => pair_call::<CALL>(alloc, deserializer),
+    match call {
+        1 => said(alloc, deserializer.deserialize_none(NoneVisitor)),
+        2 => said(alloc, deserializer.deserialize_bool(BoolVisitor)),
+        3 => said(alloc, deserializer.deserialize_id(IdVisitor)),
+        4 => said(alloc, deserializer.deserialize_int(IntVisitor)),
+        5 => said(alloc, deserializer.deserialize_long(LongVisitor)),
+        _ => pair_call(alloc, call, deserializer),
     }
 }
 
 /// The calls for floats, pairs of numbers and file descriptors.
 #[tactic(auto, using(spa_typed_read::proofs::Stepping::visited_any, spa_typed_read::proofs::Stepping::read_any))]
-fn pair_call<'de, const CALL: u8>(
-    alloc: Global,
-    deserializer: PodDeserializer<'de>,
-) -> Result<(Answer<CALL>, DeserializeSuccess<'de>), DeserializeError<&'de [u8]>>
+fn pair_call<'de>(alloc: Global, call: u8, deserializer: PodDeserializer<'de>) -> Said<'de>
     ensures { IfOk result (λ it. IsRead deserializer.entry it.1 (λ _. ⊤)) }
 {
-    match CALL {
-        6 => as_answer(alloc, deserializer.deserialize_float(FloatVisitor)),
-        7 => as_answer(alloc, deserializer.deserialize_double(DoubleVisitor)),
-        10 => as_answer(alloc, deserializer.deserialize_rectangle(RectangleVisitor)),
-        11 => as_answer(alloc, deserializer.deserialize_fraction(FractionVisitor)),
-        18 => as_answer(alloc, deserializer.deserialize_fd(FdVisitor)),
-        _ => plain_call::<CALL>(alloc, deserializer),
+    match call {
+        6 => said(alloc, deserializer.deserialize_float(FloatVisitor)),
+        7 => said(alloc, deserializer.deserialize_double(DoubleVisitor)),
+        10 => said(alloc, deserializer.deserialize_rectangle(RectangleVisitor)),
+        11 => said(alloc, deserializer.deserialize_fraction(FractionVisitor)),
+        18 => said(alloc, deserializer.deserialize_fd(FdVisitor)),
+        _ => plain_call(alloc, call, deserializer),
     }
 }
 
 /// The calls for bodies without members.
 #[tactic(auto, using(spa_typed_read::proofs::Stepping::visited_any, spa_typed_read::proofs::Stepping::read_any))]
-fn plain_call<'de, const CALL: u8>(
-    alloc: Global,
-    deserializer: PodDeserializer<'de>,
-) -> Result<(Answer<CALL>, DeserializeSuccess<'de>), DeserializeError<&'de [u8]>>
+fn plain_call<'de>(alloc: Global, call: u8, deserializer: PodDeserializer<'de>) -> Said<'de>
     ensures { IfOk result (λ it. IsRead deserializer.entry it.1 (λ _. ⊤)) }
 {
-    match CALL {
-        8 => as_answer(alloc, deserializer.deserialize_str(StringVisitor)),
-        9 => as_answer(alloc, deserializer.deserialize_bytes(BytesVisitor)),
-        12 => as_answer(alloc, deserializer.deserialize_bitmap(BitmapVisitor)),
-        13 => as_answer(
+    match call {
+        8 => said(alloc, deserializer.deserialize_str(StringVisitor)),
+        9 => said(alloc, deserializer.deserialize_bytes(BytesVisitor)),
+        12 => said(alloc, deserializer.deserialize_bitmap(BitmapVisitor)),
+        13 => said(
             alloc,
             deserializer.deserialize_array(VecVisitor::<i32>::default()),
         ),
-        17 => as_answer(alloc, deserializer.deserialize_pointer(PointerVisitor)),
-        19 => as_answer(alloc, deserializer.deserialize_choice(ChoiceIntVisitor)),
-        _ => value_call::<CALL>(alloc, deserializer),
+        17 => said(alloc, deserializer.deserialize_pointer(PointerVisitor)),
+        _ => value_call(alloc, call, deserializer),
     }
 }
 
 /// The calls with the visitor that makes values, with a visitor of something else, and with one that tells what is read.
 #[tactic(auto, using(spa_typed_read::proofs::Stepping::visited_any, spa_typed_read::proofs::Stepping::read_any))]
-fn value_call<'de, const CALL: u8>(
-    alloc: Global,
-    deserializer: PodDeserializer<'de>,
-) -> Result<(Answer<CALL>, DeserializeSuccess<'de>), DeserializeError<&'de [u8]>>
+fn value_call<'de>(alloc: Global, call: u8, deserializer: PodDeserializer<'de>) -> Said<'de>
     ensures { IfOk result (λ it. IsRead deserializer.entry it.1 (λ _. ⊤)) }
 {
-    match CALL {
-        14 => as_answer(
+    match call {
+        14 => said(
             alloc,
             deserializer.deserialize_struct(ValueVisitor { alloc }),
         ),
-        15 => as_answer(
+        15 => said(
             alloc,
             deserializer.deserialize_object(ValueVisitor { alloc }),
         ),
-        20 => as_answer(
+        20 => said(
             alloc,
             deserializer.deserialize_choice(ValueVisitor { alloc }),
         ),
-        21 => as_answer(alloc, deserializer.deserialize_int(BoolVisitor)),
-        22 => as_answer(alloc, deserializer.deserialize_struct(AnsweringVisitor)),
-        23 => as_answer(alloc, deserializer.deserialize_object(AnsweringVisitor)),
-        _ => choice_call::<CALL>(alloc, deserializer),
+        21 => said(alloc, deserializer.deserialize_int(BoolVisitor)),
+        22 => said(alloc, deserializer.deserialize_struct(AnsweringVisitor)),
+        23 => said(alloc, deserializer.deserialize_object(AnsweringVisitor)),
+        _ => declined_call(alloc, call, deserializer),
     }
 }
 
-/// The calls with visitors of choices: 40 and the type of the values.
+/// The calls with visitors of what isn't handed over as such, which decline a struct, and two that decline an object.
 #[tactic(auto, using(spa_typed_read::proofs::Stepping::visited_any, spa_typed_read::proofs::Stepping::read_any))]
-fn choice_call<'de, const CALL: u8>(
-    alloc: Global,
-    deserializer: PodDeserializer<'de>,
-) -> Result<(Answer<CALL>, DeserializeSuccess<'de>), DeserializeError<&'de [u8]>>
+fn declined_call<'de>(alloc: Global, call: u8, deserializer: PodDeserializer<'de>) -> Said<'de>
     ensures { IfOk result (λ it. IsRead deserializer.entry it.1 (λ _. ⊤)) }
 {
-    match CALL {
-        42 => as_answer(alloc, deserializer.deserialize_choice(ChoiceBoolVisitor)),
-        43 => as_answer(alloc, deserializer.deserialize_choice(ChoiceIdVisitor)),
-        45 => as_answer(alloc, deserializer.deserialize_choice(ChoiceLongVisitor)),
-        46 => as_answer(alloc, deserializer.deserialize_choice(ChoiceFloatVisitor)),
-        47 => as_answer(alloc, deserializer.deserialize_choice(ChoiceDoubleVisitor)),
-        _ => paired_call::<CALL>(alloc, deserializer),
+    match call {
+        70 => said(alloc, deserializer.deserialize_struct(StringVisitor)),
+        71 => said(alloc, deserializer.deserialize_struct(BytesVisitor)),
+        72 => said(alloc, deserializer.deserialize_struct(BitmapVisitor)),
+        73 => said(alloc, deserializer.deserialize_struct(PointerVisitor)),
+        74 => said(
+            alloc,
+            deserializer.deserialize_struct(VecVisitor::<i32>::default()),
+        ),
+        85 => said(alloc, deserializer.deserialize_object(StringVisitor)),
+        _ => said(
+            alloc,
+            deserializer.deserialize_object(VecVisitor::<i32>::default()),
+        ),
     }
 }
 
-/// The calls for choices over pairs of numbers and over file descriptors.
+/// The calls with the visitor of `T`, and the others by their number.
 #[tactic(auto, using(spa_typed_read::proofs::Stepping::visited_any, spa_typed_read::proofs::Stepping::read_any))]
-fn paired_call<'de, const CALL: u8>(
+fn visited<'de, T: Handed + Debug, const CALL: u8>(
     alloc: Global,
     deserializer: PodDeserializer<'de>,
-) -> Result<(Answer<CALL>, DeserializeSuccess<'de>), DeserializeError<&'de [u8]>>
+) -> Said<'de>
     ensures { IfOk result (λ it. IsRead deserializer.entry it.1 (λ _. ⊤)) }
 {
+    let visitor = HandedVisitor::<T>::default();
     match CALL {
-        50 => as_answer(
-            alloc,
-            deserializer.deserialize_choice(ChoiceRectangleVisitor),
-        ),
-        51 => as_answer(
-            alloc,
-            deserializer.deserialize_choice(ChoiceFractionVisitor),
-        ),
-        58 => as_answer(alloc, deserializer.deserialize_choice(ChoiceFdVisitor)),
-        _ => number_visitor::<CALL>(alloc, deserializer),
+        CHOICE => said(alloc, deserializer.deserialize_choice(visitor)),
+        STRUCT => said(alloc, deserializer.deserialize_struct(visitor)),
+        OBJECT => said(alloc, deserializer.deserialize_object(visitor)),
+        _ => number_call(alloc, CALL, deserializer),
     }
 }
 
-impl<'de, const CALL: u8> PodDeserialize<'de> for Answer<CALL> {
+impl<'de, T: Handed + Debug, const CALL: u8> PodDeserialize<'de> for Answer<T, CALL> {
     ghost reads = { λ _ _. ⊤ };
 
     fn deserialize(
         deserializer: PodDeserializer<'de>,
-    ) -> Result<(Answer<CALL>, DeserializeSuccess<'de>), DeserializeError<&'de [u8]>> {
+    ) -> Result<(Answer<T, CALL>, DeserializeSuccess<'de>), DeserializeError<&'de [u8]>> {
         let alloc = deserializer.allocator();
-        number_call::<CALL>(alloc, deserializer)
+        let (text, success) = visited::<T, CALL>(alloc, deserializer)?;
+        Ok((Answer(text, PhantomData), success))
     }
 }
 
 /// What the call of this number answers, or its refusal's name.
-pub(crate) fn answered<const CALL: u8>(alloc: Global, input: &[u8]) -> Result<String, AllocError> {
-    let read: Result<(&[u8], Answer<CALL>), DeserializeError<&[u8]>> =
-        PodDeserializer::deserialize_from(alloc, input);
-    match read {
+pub(crate) fn answered<T: Handed + Debug, const CALL: u8>(
+    alloc: Global,
+    input: &[u8],
+) -> Result<String, AllocError> {
+    match PodDeserializer::deserialize_from::<Answer<T, CALL>>(alloc, input) {
         Ok((_, answer)) => Ok(answer.0),
         Err(error) => refused(alloc, error),
     }
@@ -190,37 +186,35 @@ pub(crate) fn answered<const CALL: u8>(alloc: Global, input: &[u8]) -> Result<St
 /// What the call of a number answers that is known only when the test runs, or its refusal's name.
 pub(crate) fn called(alloc: Global, call: u8, input: &[u8]) -> Result<String, AllocError> {
     match call {
-        1 => answered::<1>(alloc, input),
-        2 => answered::<2>(alloc, input),
-        3 => answered::<3>(alloc, input),
-        4 => answered::<4>(alloc, input),
-        5 => answered::<5>(alloc, input),
-        6 => answered::<6>(alloc, input),
-        7 => answered::<7>(alloc, input),
-        8 => answered::<8>(alloc, input),
-        9 => answered::<9>(alloc, input),
-        10 => answered::<10>(alloc, input),
-        11 => answered::<11>(alloc, input),
-        12 => answered::<12>(alloc, input),
-        13 => answered::<13>(alloc, input),
-        14 => answered::<14>(alloc, input),
-        15 => answered::<15>(alloc, input),
-        17 => answered::<17>(alloc, input),
-        18 => answered::<18>(alloc, input),
-        19 => answered::<19>(alloc, input),
-        20 => answered::<20>(alloc, input),
-        21 => answered::<21>(alloc, input),
-        22 => answered::<22>(alloc, input),
-        23 => answered::<23>(alloc, input),
-        42 => answered::<42>(alloc, input),
-        43 => answered::<43>(alloc, input),
-        45 => answered::<45>(alloc, input),
-        46 => answered::<46>(alloc, input),
-        47 => answered::<47>(alloc, input),
-        50 => answered::<50>(alloc, input),
-        51 => answered::<51>(alloc, input),
-        58 => answered::<58>(alloc, input),
-        _ => declined(alloc, call, input),
+        1 => answered::<(), 1>(alloc, input),
+        2 => answered::<(), 2>(alloc, input),
+        3 => answered::<(), 3>(alloc, input),
+        4 => answered::<(), 4>(alloc, input),
+        5 => answered::<(), 5>(alloc, input),
+        6 => answered::<(), 6>(alloc, input),
+        7 => answered::<(), 7>(alloc, input),
+        8 => answered::<(), 8>(alloc, input),
+        9 => answered::<(), 9>(alloc, input),
+        10 => answered::<(), 10>(alloc, input),
+        11 => answered::<(), 11>(alloc, input),
+        12 => answered::<(), 12>(alloc, input),
+        13 => answered::<(), 13>(alloc, input),
+        14 => answered::<(), 14>(alloc, input),
+        15 => answered::<(), 15>(alloc, input),
+        17 => answered::<(), 17>(alloc, input),
+        18 => answered::<(), 18>(alloc, input),
+        20 => answered::<(), 20>(alloc, input),
+        21 => answered::<(), 21>(alloc, input),
+        22 => answered::<(), 22>(alloc, input),
+        23 => answered::<(), 23>(alloc, input),
+        70 => answered::<(), 70>(alloc, input),
+        71 => answered::<(), 71>(alloc, input),
+        72 => answered::<(), 72>(alloc, input),
+        73 => answered::<(), 73>(alloc, input),
+        74 => answered::<(), 74>(alloc, input),
+        85 => answered::<(), 85>(alloc, input),
+        86 => answered::<(), 86>(alloc, input),
+        _ => String::from_str(alloc, "no such call"),
     }
 }
 
@@ -256,11 +250,11 @@ fn assert_deep_refused(
 }
 
 /// What stands in an object before its first value, which is so deep.
-const OBJECT: &[u32] = &[800_032, 15, 5, 3, 1, 0];
+const IN_OBJECT: &[u32] = &[800_032, 15, 5, 3, 1, 0];
 
 /// What was made of the values before a refused one is taken apart without a stack that grows with each level.
 #[test]
 fn depth_before_a_refused_value(rt: HostRuntime) -> Result<(), Fail> {
     assert_deep_refused(&rt, rt.alloc(), 14, &[800_008, 14], &[0, 21])?;
-    assert_deep_refused(&rt, rt.alloc(), 15, OBJECT, &[2, 0, 0, 21])
+    assert_deep_refused(&rt, rt.alloc(), 15, IN_OBJECT, &[2, 0, 0, 21])
 }

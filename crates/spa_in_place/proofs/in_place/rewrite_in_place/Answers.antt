@@ -1,4 +1,4 @@
-use Rattle.std.proofs.Common.{◌+◌, ◌-◌, ◌∙◌, ap, arith, length, length-append, refl, subst, sym, take}
+use Rattle.std.proofs.Common.{◌+◌, ◌-◌, ◌∙◌, ap, arith, length, refl, subst, sym, take}
 use Rattle.std.specs.Prelude.{[], Some}
 use Rattle.std.proofs.lemmas.Bool.{eqb-true}
 use Rattle.std.proofs.lemmas.List.{take_all, take_at, take_rest}
@@ -10,6 +10,7 @@ use Rattle.spa_rewrite.specs.Look.{AreChanged, IsRejected}
 use Rattle.spa_rewrite.specs.Shorter.{ArePodsWithin}
 use Rattle.spa_bodies.specs.Refusing.{error_of}
 use Rattle.spa_rewrite.proofs.Accepted.{fault_front}
+use Rattle.spa_rewrite.proofs.Lengths.{lengths}
 use Rattle.spa_rewrite.proofs.Refusals.{front_refused}
 use Rattle.spa_rewrite.proofs.ShorterLemmas.{within_behind}
 use Rattle.spa_rewrite.proofs.Stretches.{all_canonical, canonical_rewritten, list_refused}
@@ -41,25 +42,20 @@ returns-in-Ok-clause-rewritten c =
     let parts = c.canonical_stretch.ensures.parts in
     let is = take_rest bytes (length first) ∙ others_left bytes first others parts in
     let long = ap length is in
-    let all = ap length parts ∙ length-append first others in
-    let within = c.encode_pods.ensures.within in
+    let all = ap length parts in
     let sub = c.encode_pods.new.pods in
-    let same = c.encode_pods.auto.pods in
     let out = take c.encode_pods.result sub in
     behind_first bytes first others bytes sub out (length bytes - length first) _ _ parts c.canonical_stretch.ensures.canonical
-    (ap (take (length first)) parts ∙ take_at first others (length first) refl) (omega arith)
-    (subst (λ x. AreRewritten x [] out) is c.encode_pods.ensures.written) refl (omega arith) refl
+    (ap (take (length first)) parts ∙ take_at first others (length first) refl) (omega lengths)
+    (subst (λ x. AreRewritten x [] out) is c.encode_pods.ensures.written) refl (omega lengths) refl
 
 pub overflow_add-top : goal.overflow_add-top
 overflow_add-top c =
     let pod = c.in-Err.pod.now in
-    let others = c.canonical_stretch.result.1.now in
-    let first = c.canonical_stretch.result.0.now in
-    let h = c.in-Err.ensures.left in
     let within = (subst (IsRejected pod) c.in-Fault.is c.in-Err.ensures.rejected).within in
-    let left = ap length h.2 ∙ length-append h.1 pod in
-    let all = ap length c.canonical_stretch.ensures.parts ∙ length-append first others in
-    omega arith
+    let left = ap length c.in-Err.ensures.left.2 in
+    let all = ap length c.canonical_stretch.ensures.parts in
+    omega lengths
 
 pub returns-in-Fault-clause-refused : goal.returns-in-Fault-clause-refused
 returns-in-Fault-clause-refused c =

@@ -1,12 +1,13 @@
-use Rattle.std.proofs.Common.{◌≡◌, ◌-◌, ◌∙◌, ap, arith, drop, length, length-append, refl, subst, sym, take}
+use Rattle.std.proofs.Common.{◌-◌, ◌∙◌, ap, drop, length, refl, subst, sym, take}
 use Rattle.std.specs.Prelude.{[]}
 use Rattle.std.proofs.lemmas.Bool.{eqb-true}
-use Rattle.std.proofs.lemmas.List.{drop_at, length-take-le, take_at}
+use Rattle.std.proofs.lemmas.List.{drop_at, take_at}
 use Rattle.std.proofs.lemmas.Slice.{drop-put_mid}
 use Rattle.spa_scan.specs.Depth.{levels_looked_into}
 use Rattle.spa_rewrite.specs.Shorter.{ArePodsWithin}
 use Rattle.spa_rewrite.proofs.Changed.{accepted_changed, accepted_shorter}
 use Rattle.spa_rewrite.proofs.ShorterLemmas.{shorter_behind, within_behind}
+use Rattle.spa_rewrite.proofs.Lengths.{lengths}
 use Rattle.spa_rewrite.proofs.Stretches.{all_canonical, canonical_rewritten}
 use Rattle.spa_rewrite.specs.Look.{AreChanged}
 use Rattle.spa_rewrite.specs.Rewriting.{AreRewritten}
@@ -61,19 +62,15 @@ returns-clause-rewritten c = λ room.
     let copy = c.put_first.new.out in
     let is = others_copied input first others _ copy parts c.put_first.ensures in
     let long = ap length is in
-    let all = ap length parts ∙ length-append first others in
+    let all = ap length parts in
     let s = accepted_shorter _ _ c.in-Ok.ensures.accepted in
-    let shorter = s.long in
     let sub = c.encode_pods.new.pods in
-    let same = c.encode_pods.auto.pods in
     let out = take c.encode_pods.result sub in
     let w = subst (λ x. AreRewritten x [] out) is c.encode_pods.ensures.written in
-    let within = c.encode_pods.ensures.within in
-    let few : length out ≡ c.encode_pods.result = length-take-le c.encode_pods.result sub (omega arith) in
     let size = rewritten_long others out _ s w in
     behind_first input first others copy sub out (length input - length first) _ _ parts c.canonical_stretch.ensures.canonical
-    (first_copied input first others _ copy parts c.put_first.ensures) (copy_room input first others _ copy parts c.put_first.ensures) w refl (omega arith)
-    (omega arith)
+    (first_copied input first others _ copy parts c.put_first.ensures) (copy_room input first others _ copy parts c.put_first.ensures) w refl (omega lengths)
+    (omega lengths)
 
 pub returns-clause-behind : goal.returns-clause-behind
 returns-clause-behind c =
@@ -83,7 +80,7 @@ returns-clause-behind c =
     let parts = c.canonical_stretch.ensures.parts in
     let copy = c.put_first.new.out in
     let is = ap length (others_copied input first others _ copy parts c.put_first.ensures) in
-    let all = ap length parts ∙ length-append first others in
-    drop-put_mid (length first) (length input - length first) copy c.encode_pods.new.pods (length input) (omega arith)
-    (copy_room input first others _ copy parts c.put_first.ensures) (c.encode_pods.auto.pods ∙ is ∙ omega arith)
+    let all = ap length parts in
+    drop-put_mid (length first) (length input - length first) copy c.encode_pods.new.pods (length input) (omega lengths)
+    (copy_room input first others _ copy parts c.put_first.ensures) (c.encode_pods.auto.pods ∙ is ∙ omega lengths)
     ∙ ap (drop (length input)) c.put_first.ensures ∙ drop_at input _ (length input) refl

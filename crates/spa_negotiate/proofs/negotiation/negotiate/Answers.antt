@@ -2,9 +2,10 @@ use Rattle.std.proofs.Common.{◌∙◌, subst}
 use Rattle.spa_value.specs.Views.{property_views}
 use Rattle.spa_negotiate.specs.declared.error.NegotiateError.TheVariants.{TypeMismatch, OutOfMemory}
 use Rattle.spa_negotiate.specs.PropertyLists.{IsSettled}
-use Rattle.spa_negotiate.proofs.Passing.{passed_on}
+use Rattle.spa_object_view.proofs.Passing.{passed_on}
 use Rattle.spa_negotiate.proofs.Refusing.{cannot_meet}
-use Rattle.spa_negotiate.proofs.Objects.{mismatch, objects_refused, objects_meet, objects_can}
+use Rattle.spa_negotiate.proofs.Objects.{mismatch, objects_refused, objects_meet}
+use Rattle.spa_negotiate.proofs.Settlements.{can_meet}
 use Rattle.spa_negotiate.proofs.negotiation.negotiate.Goals as goal
 
 pub returns-then-a-b-clause-refused : goal.returns-then-a-b-clause-refused
@@ -59,9 +60,4 @@ returns-clause-value c =
     c.in_ok-others.ensures.properties c.in_ok-first.ensures.settled))
 
 pub returns-clause-accepted : goal.returns-clause-accepted
-returns-clause-accepted c =
-    let law = c.objects_are_their_fields.ensures in
-    let first = c.in_ok-first in
-    objects_can law.fields law.made c.args.a.now c.args.b.now _ _ c.as_slice-ours.ensures.value
-    (c.in_ok-others.ensures.properties ∙ c.as_slice-theirs.ensures.value) c.if-a-b.false
-    (property_views first.first.met.properties.items) first.ensures.settled.settles
+returns-clause-accepted c = can_meet _ _ _ (returns-clause-value c)

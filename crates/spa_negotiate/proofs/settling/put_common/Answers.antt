@@ -1,4 +1,5 @@
-use Rattle.spa_negotiate.proofs.Putting.{plain_typed, put_shared}
+use Rattle.spa_negotiate.proofs.Putting.{put_shared}
+use Rattle.spa_filter.proofs.CommonPods.{plain_typed}
 use Rattle.spa_negotiate.proofs.settling.put_common.Goals as goal
 
 pub put_same-requires : goal.put_same-requires

@@ -1,4 +1,5 @@
-use Rattle.spa_negotiate.proofs.Putting.{plain_typed, put_plain, put_offered}
+use Rattle.spa_negotiate.proofs.Putting.{put_plain, put_offered}
+use Rattle.spa_filter.proofs.CommonPods.{plain_typed}
 use Rattle.spa_negotiate.proofs.settling.put_default.Goals as goal
 
 pub returns-then-is_plain : goal.returns-then-is_plain

@@ -12,15 +12,11 @@ returns-in_default-clause-missed c = λ s f k x xs h.
 
 pub returns-then-shape-gt-FLAGS_SHAPE-clause-missed : goal.returns-then-shape-gt-FLAGS_SHAPE-clause-missed
 returns-then-shape-gt-FLAGS_SHAPE-clause-missed c = λ s f k x xs h.
-    let big = c.if-shape-gt-FLAGS_SHAPE.true in
-    let is = c.u32_at-shape.ensures in
-    let its = h.shape in
     let fits = shape_fits s in
     omega arith
 
 pub returns-clause-there : goal.returns-clause-there
 returns-clause-there c =
-    let few = c.if-shape-gt-FLAGS_SHAPE.false in
     IfSome_then c.first_values.result c.first_values.ensures.there (λ kept b.
     values_kept _ _ _ _ _ _ _ c.if-body.false c.split_at.ensures.back c.in-Some.ensures.there c.u32_at-size.ensures c.u32_at-shape.ensures (omega arith)
     c.taken_len.ensures b)

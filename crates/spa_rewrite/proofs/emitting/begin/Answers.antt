@@ -4,9 +4,6 @@ use Rattle.spa_rewrite.proofs.emitting.begin.Goals as goal
 
 pub returns : goal.returns
 returns c =
-    let within = c.requires.within in
-    let room = c.requires.room in
-    let few = c.requires.key in
     let k = c.key_len-head.ensures in
     let ki = c.key_len.ensures in
     begun_there c.args.depth c.args.list c.args.inner c.args.size c.args.from c.args.to _ c.key_len-head.result c.key_len.result _ c.args.bytes.now

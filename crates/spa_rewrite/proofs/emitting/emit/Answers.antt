@@ -1,9 +1,8 @@
-use Rattle.std.proofs.Common.{◌≡◌, ◌+◌, ◌-◌, ◌<◌, ◌++◌, ap, arith, subst}
+use Rattle.std.proofs.Common.{◌+◌, ◌-◌, ◌<◌, ◌++◌, ap, arith, subst}
 use Rattle.std.specs.Prelude.{[]}
 use Rattle.spa_format.specs.Words.{header_size, word_bytes}
 use Rattle.spa_events.specs.Inside.{key_size}
-use Rattle.spa_rewrite.specs.Emit.{OpensWhole}
-use Rattle.spa_rewrite.specs.Placed.{ArePlaced}
+use Rattle.spa_rewrite.specs.Emit.{ArePlaced, OpensWhole}
 use Rattle.spa_rewrite.proofs.Emitted.{Emits, depth_within, emits_all, emits_end, emits_inner, emits_none, has_link, inner_fits, left_is, ran}
 use Rattle.spa_rewrite.proofs.emitting.emit.Goals as goal
 
@@ -39,10 +38,7 @@ loop-inner-preserved-in-Inner c =
     let new = emits_inner _ _ c.begin-inside.new.bytes c.in-Inner.inner from to c.in-Inner.size c.loop-inner.depth list inside q
     (subst (λ x. OpensWhole list.keyed x c.in-Inner.inner c.in-Inner.size) left follows) b in
     let head = key_size list.keyed + header_size + key_size c.in-Inner.inner in
-    let body = b.body in
-    let k = c.key_len.ensures in
-    let same : head ≡ inside.body + c.key_len.result - to = omega arith in
-    subst (λ n. Emits c.args.bytes.now c.begin-inside.new.bytes (from + n) (to + n) inside.keyed inside.end inside.body (c.loop-inner.depth + 1)) same new
+    subst (λ n. Emits c.args.bytes.now c.begin-inside.new.bytes (from + n) (to + n) inside.keyed inside.end inside.body (c.loop-inner.depth + 1)) (omega arith) new
 
 pub returns-then-depth-eq0 : goal.returns-then-depth-eq0
 returns-then-depth-eq0 c =
@@ -53,34 +49,11 @@ returns-then-depth-eq0 c =
     let left = left_is _ _ _ _ _ _ _ _ _ p e.within in
     emits_all _ _ _ _ _ _ _ _ q c.if-depth-eq0.true (subst (λ x. ArePlaced c.loop-inner.list.keyed x []) left follows)
 
-pub list_around-around-requires-clause-header : goal.list_around-around-requires-clause-header
-list_around-around-requires-clause-header c =
+pub list_around-around-requires : goal.list_around-around-requires
+list_around-around-requires c =
     let q = ran _ _ _ _ _ _ _ _ _ _ _ _ c.loop-inner.invariant c.encode_leaves-run.ensures.0 c.move_down.ensures in
-    let some : 0 < c.loop-inner.depth = (let z = c.if-depth-eq0.false in omega arith) in
-    (has_link _ _ _ _ _ _ _ _ q some).header
-
-pub list_around-around-requires-clause-within : goal.list_around-around-requires-clause-within
-list_around-around-requires-clause-within c =
-    let q = ran _ _ _ _ _ _ _ _ _ _ _ _ c.loop-inner.invariant c.encode_leaves-run.ensures.0 c.move_down.ensures in
-    let some : 0 < c.loop-inner.depth = (let z = c.if-depth-eq0.false in omega arith) in
-    let w = (has_link _ _ _ _ _ _ _ _ q some).within in
-    let a = q.down in
-    let b = q.within in
-    let d = q.room in
-    let l = q.long in
-    omega arith
-
-pub list_around-around-requires-clause-back : goal.list_around-around-requires-clause-back
-list_around-around-requires-clause-back c =
-    let q = ran _ _ _ _ _ _ _ _ _ _ _ _ c.loop-inner.invariant c.encode_leaves-run.ensures.0 c.move_down.ensures in
-    let some : 0 < c.loop-inner.depth = (let z = c.if-depth-eq0.false in omega arith) in
-    (has_link _ _ _ _ _ _ _ _ q some).back
-
-pub list_around-around-requires-clause-behind : goal.list_around-around-requires-clause-behind
-list_around-around-requires-clause-behind c =
-    let q = ran _ _ _ _ _ _ _ _ _ _ _ _ c.loop-inner.invariant c.encode_leaves-run.ensures.0 c.move_down.ensures in
-    let some : 0 < c.loop-inner.depth = (let z = c.if-depth-eq0.false in omega arith) in
-    (has_link _ _ _ _ _ _ _ _ q some).behind
+    let w = has_link _ _ _ _ _ _ _ _ q (let z = c.if-depth-eq0.false in omega arith) in
+    record { header = w.header; within = omega arith; back = w.back; behind = w.behind }
 
 pub loop-inner-preserved : goal.loop-inner-preserved
 loop-inner-preserved c =

@@ -1,5 +1,5 @@
 use Rattle.std.proofs.Common.{arith, refl}
-use Rattle.spa_rewrite.proofs.Replacing.{container_follows, leaf_kept, leaf_replaced, long_at, no_front_follows, none_follows, opens_at, pod_at, word_replaced}
+use Rattle.spa_rewrite.proofs.Replacing.{container_follows, leaf_kept, leaf_replaced, no_front_follows, none_follows, opens_at, pod_at, word_replaced}
 use Rattle.spa_rewrite.proofs.emitting.encode_leaves.Goals as goal
 
 pub returns-then-pods-at-lt-HEADER_LEN : goal.returns-then-pods-at-lt-HEADER_LEN
@@ -31,7 +31,6 @@ pub returns-then-kept-next : goal.returns-then-kept-next
 returns-then-kept-next c =
     let p = c.loop-pods.invariant in
     let o = opens_at _ _ _ _ _ c.key_len.result _ c.if-pods-at-lt-HEADER_LEN.false c.key_len.ensures c.in-Some.ensures.there in
-    let long = long_at _ _ _ _ _ _ _ o in
     (leaf_replaced _ _ _ c.encode_leaf.new.pod _ _ _ _ _ c.encode_leaf.result _ p.0 p.1 o c.encode_leaf.ensures c.encode_leaf.auto.pod refl, omega arith)
 
 pub loop-pods-preserved : goal.loop-pods-preserved

@@ -20,13 +20,11 @@ returns-in-Pointer c = wrong_pointer _ _ (let e : c.args.type_ ≡ 17 = search r
 
 pub returns-then-fixed_len-le-TWO_WORDS : goal.returns-then-fixed_len-le-TWO_WORDS
 returns-then-fixed_len-le-TWO_WORDS c =
-    let small = c.if-fixed_len-le-TWO_WORDS.true in
     let is = c.fixed_len.ensures.is_len (omega arith) in
     wrong_fixed _ _ is.0 is.1 c.requires.refused
 
 pub returns-in_default : goal.returns-in_default
 returns-in_default c =
-    let large = c.if-fixed_len-le-TWO_WORDS.false in
     let other : (k : Kind) → c.args.type_ ≢ type_number k = λ k e. let a = c.fixed_len.ensures.found k e in let b = size_fits k in omega arith in
     let n0 = other none_kind in
     let n1 = other bool_kind in

@@ -4,8 +4,6 @@ use Rattle.spa_rewrite.proofs.fault.choice_fault.Goals as goal
 
 pub returns-then-u32_at-len : goal.returns-then-u32_at-len
 returns-then-u32_at-len c =
-    let small = c.if-len-gt-TWO_WORDS.false in
-    let nonzero = c.if-len-eq0.false in
     let is = c.fixed_len-len.ensures.is_len (omega arith) in
     let size = is.2 in
     wrong_choice _ is.0 c.if-body-lt-CHOICE_HEADER.false (sym c.u32_at.ensures ∙ is.1) (omega arith)
@@ -13,8 +11,6 @@ returns-then-u32_at-len c =
 
 pub returns-then-body-len-ne0 : goal.returns-then-body-len-ne0
 returns-then-body-len-ne0 c =
-    let small = c.if-len-gt-TWO_WORDS.false in
-    let nonzero = c.if-len-eq0.false in
     let is = c.fixed_len-len.ensures.is_len (omega arith) in
     let size = is.2 in
     wrong_choice _ is.0 c.if-body-lt-CHOICE_HEADER.false (sym c.u32_at.ensures ∙ is.1) (omega arith)
@@ -22,11 +18,8 @@ returns-then-body-len-ne0 c =
 
 pub returns : goal.returns
 returns c =
-    let small = c.if-len-gt-TWO_WORDS.false in
-    let nonzero = c.if-len-eq0.false in
     let is = c.fixed_len-len.ensures.is_len (omega arith) in
     let size = is.2 in
-    let shape = c.u32_at-3.ensures in
     let known = c.if-u32_at-gt-FLAGS_SHAPE.false in (
       refl,
       few_values _ is.0 c.if-body-lt-CHOICE_HEADER.false (omega arith) (sym c.u32_at-2.ensures ∙ c.if-u32_at-len.false ∙ size)

@@ -1,4 +1,4 @@
-use Rattle.std.proofs.Common.{arith, subst, ◌≡◌, ◌+◌}
+use Rattle.std.proofs.Common.{arith, subst, ◌+◌}
 use Rattle.spa_rewrite.specs.Look.{IsNoLeaf, Passes}
 use Rattle.spa_rewrite.proofs.Looks.{behind_shorter, no_behind_key, passes_more, passes_pod, same_behind_key}
 use Rattle.spa_rewrite.proofs.inside.behind_each.Goals as goal
@@ -28,7 +28,7 @@ loop-here-preserved c =
     let pod = passes_pod _ _ _ _ _ _ p.bytes c.in-Some.ensures.there c.in-Some-long_leaf.ensures.there in
     let n = c.loop-here.surplus + c.in-Some-long_leaf.more in
     let next = c.behind_short-left-in-loop-here.ensures in (
-      subst (Passes c.args.keyed c.args.canonical c.args.pods.now _) (let e : n + 0 ≡ n = omega arith in e)
+      subst (Passes c.args.keyed c.args.canonical c.args.pods.now _) (omega arith)
           (passes_more _ _ _ _ _ _ 0 (passes_more _ _ _ _ _ _ _ p pod) next.passed),
       next.last,
     )

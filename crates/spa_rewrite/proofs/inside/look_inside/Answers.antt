@@ -26,13 +26,10 @@ overflow_cast-behind c =
     let passed = goes_on _ _ _ _ _ _ _ _ _ _ _ c.loop-next.invariant.0 c.behind_first-more.ensures.passed in
     let frames = c.loop-next.frames in
     let w = c.loop-next.waiting in
-    let some = c.if-waiting-eq0.false in
-    let within = c.loop-next.invariant.1 in
     let none : Waiting = record { keyed = false; pods = record { ref_ptr = (0, 0); now = [] }; behind = 0 } in
     let e = popped frames w (w - 1) none (omega arith) (omega arith) in
     let ended = list_ends _ _ _ _ _ _ _ _ _ passed (eqb-true _ _ (sym c.is_empty.ensures ∙ c.if-is_empty.true)) in
     let room = (subst (λ o. Onward c.args.canonical c.args.are_keyed c.args.pods.now o (c.loop-next.surplus + c.behind_first-more.result.1)) e ended).room in
-    let limit = c.requires in
     omega arith
 
 pub loop-next-preserved-then-is_empty : goal.loop-next-preserved-then-is_empty
@@ -40,22 +37,16 @@ loop-next-preserved-then-is_empty c =
     let passed = goes_on _ _ _ _ _ _ _ _ _ _ _ c.loop-next.invariant.0 c.behind_first-more.ensures.passed in
     let frames = c.loop-next.frames in
     let w = c.loop-next.waiting in
-    let some = c.if-waiting-eq0.false in
-    let within = c.loop-next.invariant.1 in
     let none : Waiting = record { keyed = false; pods = record { ref_ptr = (0, 0); now = [] }; behind = 0 } in
     let e = popped frames w (w - 1) none (omega arith) (omega arith) in
     let ended = list_ends _ _ _ _ _ _ _ _ _ passed (eqb-true _ _ (sym c.is_empty.ensures ∙ c.if-is_empty.true)) in
     let l = ap left_waiting e in
-    let room = c.loop-next.invariant.2 in
-    let p = c.behind_first-more.ensures.passed.room in
     (subst (λ o. Onward c.args.canonical c.args.are_keyed c.args.pods.now o (c.loop-next.surplus + c.behind_first-more.result.1)) e ended, omega arith, omega arith)
 
 pub loop-next-smaller-then-is_empty : goal.loop-next-smaller-then-is_empty
 loop-next-smaller-then-is_empty c =
     let frames = c.loop-next.frames in
     let w = c.loop-next.waiting in
-    let some = c.if-waiting-eq0.false in
-    let within = c.loop-next.invariant.1 in
     let none : Waiting = record { keyed = false; pods = record { ref_ptr = (0, 0); now = [] }; behind = 0 } in
     let e = popped frames w (w - 1) none (omega arith) (omega arith) in
     let l = ap left_waiting e in
@@ -72,14 +63,11 @@ loop-next-preserved-then-is_empty-2 c =
     let x = c.in-Inner.ensures.0 in
     let none = eqb-true _ _ (sym c.is_empty-in-Inner.ensures ∙ c.if-is_empty-2.true) in
     let e = opened_shorter _ _ _ _ _ x in
-    let room = c.loop-next.invariant.2 in
-    let p = c.behind_first-more.ensures.passed.room in
     (goes_in_last _ _ _ _ _ _ _ _ _ _ _ _ _ passed x c.in-Inner.ensures.1 none, c.loop-next.invariant.1, omega arith)
 
 pub loop-next-smaller-then-is_empty-2 : goal.loop-next-smaller-then-is_empty-2
 loop-next-smaller-then-is_empty-2 c =
     let e = opened_shorter _ _ _ _ _ c.in-Inner.ensures.0 in
-    let p = c.behind_first-more.ensures.passed.room in
     omega arith
 
 pub returns-then-waiting-frames : goal.returns-then-waiting-frames
@@ -87,8 +75,6 @@ returns-then-waiting-frames c =
     let passed = goes_on _ _ _ _ _ _ _ _ _ _ _ c.loop-next.invariant.0 c.behind_first-more.ensures.passed in
     let frames = c.loop-next.frames in
     let w = c.loop-next.waiting in
-    let same = c.loop-next.auto.frames in
-    let full = c.if-waiting-frames.true in
     let within = c.loop-next.invariant.1 in
     let long : 0 + length (reverse (take w frames)) ≡ length c.args.frames.now =
     (let l = length-reverse (take w frames) ∙ length-take-le w frames within in omega arith) in
@@ -97,7 +83,6 @@ returns-then-waiting-frames c =
 pub loop-next-smaller : goal.loop-next-smaller
 loop-next-smaller c =
     let e = opened_shorter _ _ _ _ _ c.in-Inner.ensures.0 in
-    let p = c.behind_first-more.ensures.passed.room in
     let frames = c.loop-next.frames in
     let n = c.loop-next.waiting in
     let next : Waiting = record { keyed = c.loop-next.keyed; pods = c.in-Inner.rest; behind = c.loop-next.behind } in
@@ -109,8 +94,6 @@ loop-next-preserved c =
     let passed = goes_on _ _ _ _ _ _ _ _ _ _ _ c.loop-next.invariant.0 c.behind_first-more.ensures.passed in
     let x = c.in-Inner.ensures.0 in
     let e = opened_shorter _ _ _ _ _ x in
-    let room = c.loop-next.invariant.2 in
-    let r = c.behind_first-more.ensures.passed.room in
     let frames = c.loop-next.frames in
     let n = c.loop-next.waiting in
     let next : Waiting = record { keyed = c.loop-next.keyed; pods = c.in-Inner.rest; behind = c.loop-next.behind } in

@@ -6,13 +6,5 @@ use Rattle.spa_rewrite.proofs.inside.look_into.Goals as goal
 pub returns-then-is_empty : goal.returns-then-is_empty
 returns-then-is_empty c = passed_all _ _ _ _ _ c.behind_leaves-surplus.ensures.passed (eqb-true _ _ (sym c.is_empty.ensures ∙ c.if-is_empty.true))
 
-pub returns-in-Fits : goal.returns-in-Fits
-returns-in-Fits c = c.behind_leaves-surplus.ensures.passed.fits _ c.in-Fits.ensures
-
 pub returns-in-Stops : goal.returns-in-Stops
 returns-in-Stops c = stops_behind _ _ _ _ _ _ _ c.behind_leaves-surplus.ensures.passed c.in-Stops.ensures
-
-pub returns-in-None : goal.returns-in-None
-returns-in-None c =
-    let passed = c.behind_leaves-surplus.ensures in
-    stops_behind _ _ _ _ _ _ _ passed.passed (c.in-None.ensures c.args.canonical passed.last)

@@ -1,7 +1,6 @@
-use Rattle.std.proofs.Common.{arith, refl}
+use Rattle.std.proofs.Common.{arith}
 use Rattle.spa_format.specs.Typed.{IsBytes}
 use Rattle.spa_rewrite.proofs.Faulted.{stops_at_other, stops_without_front, stops_without_key}
-use Rattle.spa_rewrite.proofs.Looks.{opens_inside, surround}
 use Rattle.spa_rewrite.proofs.inside.meet.Goals as goal
 
 pub returns-in_default : goal.returns-in_default
@@ -13,13 +12,6 @@ pub returns-in_default-open : goal.returns-in_default-open
 returns-in_default-open c = λ canonical s.
     let bytes : IsBytes c.args.left.now = λ i. omega (arith, c.type_inv.left i) in
     stops_without_front _ _ _ _ bytes c.requires c.in-Some.ensures.there c.in_default-open.ensures.short
-
-pub returns-in-Some-inside_of : goal.returns-in-Some-inside_of
-returns-in-Some-inside_of c =
-    let k = c.in-Some.ensures.there in
-    let o = c.in-Some-open.ensures.there in
-    let i = c.in-Some-inside_of.ensures.there in
-    (opens_inside _ _ _ _ _ _ _ _ k o i, surround _ _ _ _ _ _ _ _ _ k o i refl)
 
 pub returns-in-None : goal.returns-in-None
 returns-in-None c = λ canonical s.

@@ -1,5 +1,4 @@
-use Rattle.std.proofs.Common.{◌≡◌, ap, arith, length, refl, rules}
-use Rattle.std.specs.Prelude.{vec_len}
+use Rattle.std.proofs.Common.{arith, refl}
 use Rattle.spa_scan.specs.Depth.{levels_looked_into}
 use Rattle.spa_scan.proofs.Deeper.{holds_none, input_deep, its_front}
 use Rattle.spa_rewrite.proofs.Accepted.{inside_stops}
@@ -32,9 +31,6 @@ returns-in-Stops-clause-rejected c =
 pub loop-frames-smaller : goal.loop-frames-smaller
 loop-frames-smaller c =
     let frames = c.resize.new.self in
-    let same : vec_len frames ≡ length frames.items = search rules in
     let room = c.in-Ok.ensures.len in
-    let long = ap length c.as_mut_slice.ensures.value in
     let more = nested_long _ _ _ c.in-TooDeep.ensures in
-    let some = c.loop-frames.invariant in
     omega arith

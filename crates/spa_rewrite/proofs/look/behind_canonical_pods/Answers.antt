@@ -13,7 +13,6 @@ loop-rest-init c = (omega arith, λ r s. s, λ i. omega (arith, c.type_inv.pods 
 pub loop-rest-preserved : goal.loop-rest-preserved
 loop-rest-preserved c =
     let shorter = c.in-Some.ensures.shorter in
-    let before = c.loop-rest.invariant.0 in
     let bytes = c.loop-rest.invariant.2 in
     let taken = c.in-Some.ensures.taken in (
       omega arith,
@@ -30,12 +29,10 @@ returns-clause-all c = λ s.
     let left = c.loop-rest.left.now in
     let bytes = c.loop-rest.invariant.2 in
     let shallow = c.loop-rest.invariant.3 s in
-    let k = shallow.shallow in
     let empty : length left ≡ 0 =
     elim (cases_lt 0 (length left)) [
       | inl some ↦
           let m = made_members left bytes some shallow.pods in
-          let d = m.depth in
           let deep = c.in_default.ensures.missed (rest_of left) m.first in
           absurd (omega arith)
       | inr none ↦ omega arith

@@ -1,35 +1,26 @@
-use Rattle.std.proofs.Common.{◌<◌, ap, arith, length, length-append, sym, ◌∙◌}
+use Rattle.std.proofs.Common.{ap, arith, length, length-append, sym, ◌∙◌}
 use Rattle.std.proofs.lemmas.Bool.{eqb-false, eqb-true}
-use Rattle.spa_rewrite.proofs.Accepted.{fewer_left, rejected_first}
-use Rattle.spa_rewrite.proofs.Changed.{all_changed, no_changes, others_more, stretch_passed}
+use Rattle.spa_rewrite.proofs.Accepted.{fewer_left, missed_behind, rejected_first}
+use Rattle.spa_rewrite.proofs.Changed.{all_changed, first_pods, no_changes, others_more, stretch_passed}
 use Rattle.spa_rewrite.proofs.look.look_at_pods.Goals as goal
 
 pub loop-frames-init : goal.loop-frames-init
-loop-frames-init c = (c.args.pods.now, omega arith, no_changes _)
+loop-frames-init c = no_changes _
 
 pub returns-in-Err-clause-missed : goal.returns-in-Err-clause-missed
-returns-in-Err-clause-missed c = λ w.
+returns-in-Err-clause-missed c =
     let some = eqb-false _ 0 (sym c.is_empty.ensures ∙ c.loop-frames-test.true) in
-    rejected_first _ _ (omega (arith, some)) c.in-Err.ensures.rejected (c.loop-frames.invariant.2.counts.within w)
+    missed_behind _ _ (first_pods _ _ _ _ c.loop-frames.invariant) (rejected_first _ _ (omega (arith, some)) c.in-Err.ensures.rejected)
 
 pub returns-in-Err-clause-left : goal.returns-in-Err-clause-left
 returns-in-Err-clause-left c =
     let some = eqb-false _ 0 (sym c.is_empty.ensures ∙ c.loop-frames-test.true) in
-    let seen = c.loop-frames.invariant.2.seen in
-    (seen.2.values, seen.0, seen.1, seen.2.members, λ e. some (ap length e))
+    let h = first_pods _ _ _ _ c.loop-frames.invariant in
+    (h.values, h.first, h.parts, h.members, λ e. some (ap length e))
 
 pub loop-frames-preserved : goal.loop-frames-preserved
 loop-frames-preserved c =
-    let some = eqb-false _ 0 (sym c.is_empty.ensures ∙ c.loop-frames-test.true) in
-    let long : 0 < length c.loop-frames.left.now = omega (arith, some) in
-    let is = c.loop-frames.invariant.2 in
-    let a = c.in-Ok.ensures.accepted in
-    let less = fewer_left _ _ _ a.begins in
-    let room = is.counts.room in (
-      c.in-Ok.rest.now,
-      omega arith,
-      stretch_passed _ _ _ _ _ (others_more _ _ _ _ _ _ is long a) c.behind_canonical_pods-left.ensures.stretch,
-    )
+    stretch_passed _ _ _ _ _ (others_more _ _ _ _ _ _ c.loop-frames.invariant c.in-Ok.ensures.accepted) c.behind_canonical_pods-left.ensures.stretch
 
 pub loop-frames-smaller : goal.loop-frames-smaller
 loop-frames-smaller c =
@@ -40,6 +31,4 @@ loop-frames-smaller c =
     omega arith
 
 pub returns-clause-accepted : goal.returns-clause-accepted
-returns-clause-accepted c =
-    let i = c.loop-frames.invariant in
-    all_changed _ _ _ _ _ i.2 (eqb-true _ _ (sym c.is_empty.ensures ∙ c.loop-frames-test.false)) i.1
+returns-clause-accepted c = all_changed _ _ _ _ c.loop-frames.invariant (eqb-true _ _ (sym c.is_empty.ensures ∙ c.loop-frames-test.false))

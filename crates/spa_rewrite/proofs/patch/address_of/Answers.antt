@@ -9,5 +9,4 @@ returns-then-size-eq-SHORT_POINTER_LEN-clause-says c =
 
 pub returns-then-size-eq-POINTER_LEN-clause-says :
     goal.returns-then-size-eq-POINTER_LEN-clause-says
-returns-then-size-eq-POINTER_LEN-clause-says c =
-    long_address _ _ _ c.requires c.if-size-eq-POINTER_LEN.true c.u64_at.ensures
+returns-then-size-eq-POINTER_LEN-clause-says c = long_address _ _ _ c.requires c.if-size-eq-POINTER_LEN.true c.u64_at.ensures

@@ -1,7 +1,6 @@
 use Rattle.std.proofs.Common.{◌≡◌, refl, rules, subst}
 use Rattle.spa_format.specs.Tree.{object_type, struct_type}
-use Rattle.spa_rewrite.specs.Placed.{HoldsWhole}
-use Rattle.spa_rewrite.specs.Patched.{IsPodOf}
+use Rattle.spa_rewrite.specs.Emit.{HoldsWhole, IsPodOf}
 use Rattle.spa_rewrite.proofs.Places.{no_object, no_struct}
 use Rattle.spa_rewrite.proofs.PlacedBodies.{leaf_encoded, none_encoded}
 use Rattle.spa_rewrite.proofs.patch.encode_leaf.Goals as goal

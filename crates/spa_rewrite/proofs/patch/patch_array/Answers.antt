@@ -1,4 +1,4 @@
-use Rattle.std.proofs.Common.{◌≡◌, ◌+◌, ◌-◌, arith}
+use Rattle.std.proofs.Common.{arith}
 use Rattle.spa_format.specs.Typed.{IsBytes}
 use Rattle.spa_rewrite.proofs.PatchedBodies.{array_patched}
 use Rattle.spa_rewrite.proofs.patch.patch_array.Goals as goal
@@ -7,6 +7,5 @@ pub returns-then-size-ge-HEADER_LEN : goal.returns-then-size-ge-HEADER_LEN
 returns-then-size-ge-HEADER_LEN c =
     let bytes : IsBytes c.clear_padding.new.pod = λ i. omega (arith, c.type_inv.pod i) in
     let big = c.if-size-ge-HEADER_LEN.true in
-    let room : 8 + c.args.size - 16 ≡ c.args.size - 8 = omega arith in
-    array_patched _ _ _ _ _ _ bytes c.requires big room c.u32_at-type_.ensures c.patch_elements.ensures
+    array_patched _ _ _ _ _ _ bytes c.requires big (omega arith) c.u32_at-type_.ensures c.patch_elements.ensures
     c.patch_elements.auto.elements c.clear_padding.ensures

@@ -1,4 +1,4 @@
-use Rattle.std.proofs.Common.{◌≡◌, ◌+◌, ◌-◌, ◌++◌, ◌∙◌, ap, arith}
+use Rattle.std.proofs.Common.{◌≡◌, ◌+◌, ◌++◌, ◌∙◌, ap, arith}
 use Rattle.spa_format.specs.Normal.{kept_flags}
 use Rattle.spa_format.specs.Tree.{choice_type}
 use Rattle.spa_format.specs.Typed.{IsBytes}
@@ -9,12 +9,10 @@ use Rattle.spa_rewrite.proofs.patch.patch_values.Goals as goal
 pub returns : goal.returns
 returns c =
     let bytes : IsBytes c.clear_padding.new.pod = λ i. omega (arith, c.type_inv.pod i) in
-    let room = c.requires.room in
     let len = c.args.len in
     let first : c.copy_from_slice.new.self
     ≡ (word_bytes (16 + len) ++ word_bytes choice_type) ++ (word_bytes c.args.shape ++ word_bytes c.written_flags-flags.result) =
     c.copy_from_slice.ensures.after ∙ c.joined.ensures ∙ ap (λ x. x ++ c.two_words.result) c.two_words-header.ensures
     ∙ ap (λ x. (word_bytes (16 + len) ++ word_bytes choice_type) ++ x) c.two_words.ensures in
-    let same : 24 + len - 24 ≡ len = omega arith in
     values_placed _ _ _ _ _ _ _ _ _ bytes c.u32_at-type_.ensures (λ s e. c.written_flags-flags.ensures s e ∙ ap (kept_flags s) c.u32_at.ensures)
-    first same c.patch_elements.ensures c.patch_elements.auto.elements c.clear_padding.ensures
+    first (omega arith) c.patch_elements.ensures c.patch_elements.auto.elements c.clear_padding.ensures

@@ -4,16 +4,13 @@ use Rattle.spa_scan.specs.Depth.{NestsDeeperInside}
 use Rattle.spa_scan.proofs.nesting.+nesting.Given as goal
 
 abbrev pub decreases-pods_nest_within : goal.decreases-pods_nest_within
-decreases-pods_nest_within l = 4 * l.levels + 3
+decreases-pods_nest_within l = 3 * l.levels + 3
 
 abbrev pub decreases-all_but_longest : goal.decreases-all_but_longest
-decreases-all_but_longest l = 4 * l.levels + 2
+decreases-all_but_longest l = 3 * l.levels + 2
 
 abbrev pub decreases-longer_of : goal.decreases-longer_of
-decreases-longer_of l = 4 * l.levels + 1
-
-abbrev pub decreases-longer_of_two : goal.decreases-longer_of_two
-decreases-longer_of_two l = 4 * l.levels
+decreases-longer_of l = 3 * l.levels + 1
 
 -- the pods around that are left to look into
 abbrev pub invariant-pods_nest_within-loop-left : goal.invariant-pods_nest_within-loop-left

@@ -1,9 +1,9 @@
-use Rattle.std.proofs.Common.{◌≡◌, ◌∙◌, arith, refl, rules, sym}
+use Rattle.std.proofs.Common.{◌≡◌, ◌∙◌, refl, rules, sym}
 use Rattle.std.proofs.lemmas.Bool.{eq-eqb, eqb-true}
-use Rattle.spa_format.specs.Typed.{IsBytes}
 use Rattle.spa_format.specs.Tree.{bitmap, bytes}
 use Rattle.spa_scan.proofs.Frames.{none_of, pointer_of}
 use Rattle.spa_scan.proofs.Opened.{pointer_of_body}
+use Rattle.spa_scan.proofs.Words.{bytes_of}
 use Rattle.spa_scan.proofs.scan.is_rare_body.Goals as goal
 
 pub returns-in-Bytes-clause-canonical : goal.returns-in-Bytes-clause-canonical
@@ -16,8 +16,7 @@ returns-in-Bitmap-clause-canonical c = λ _.
 
 pub returns-then-body-eq-POINTER_LEN-clause-canonical : goal.returns-then-body-eq-POINTER_LEN-clause-canonical
 returns-then-body-eq-POINTER_LEN-clause-canonical c =
-    let bytes : IsBytes c.args.body.now = λ i. omega (arith, c.type_inv.body i) in
-    λ e. pointer_of _ _ bytes c.if-body-eq-POINTER_LEN.true (let is : c.args.type_ ≡ 17 = search rules in is) (sym c.u32_at.ensures ∙ eqb-true _ _ e)
+    λ e. pointer_of _ _ (bytes_of _ c.type_inv.body) c.if-body-eq-POINTER_LEN.true (let is : c.args.type_ ≡ 17 = search rules in is) (sym c.u32_at.ensures ∙ eqb-true _ _ e)
 
 pub returns-in-None-clause-canonical : goal.returns-in-None-clause-canonical
 returns-in-None-clause-canonical c = λ e. none_of _ _ (let is : c.args.type_ ≡ 1 = search rules in is) (eqb-true _ _ (sym c.is_empty.ensures ∙ e))

@@ -1,6 +1,6 @@
 use Rattle.std.proofs.Common.{sym, subst, arith, refl}
 use Rattle.spa_scan.specs.Canonical.{AreCanonicalProperties}
-use Rattle.spa_scan.proofs.Stretches.{more_properties, no_property_stretch, property_parts}
+use Rattle.spa_scan.proofs.Frames.{more_properties, no_property_stretch, property_parts}
 use Rattle.spa_scan.proofs.scan.leaf_properties.Goals as goal
 
 pub loop-rest-init : goal.loop-rest-init

@@ -1,13 +1,13 @@
-use Rattle.std.proofs.Common.{◌≤◌, arith, length}
+use Rattle.std.proofs.Common.{◌≡◌, ◌+◌, ◌-◌, arith, length, subst}
 use Rattle.std.proofs.lemmas.Bool.{and_parts}
-use Rattle.spa_scan.proofs.Parts.{ascii_ends}
+use Rattle.spa_scan.specs.Canonical.{IsAsciiFor}
+use Rattle.spa_scan.proofs.Texts.{ascii_on}
 use Rattle.spa_scan.proofs.text.is_short_ascii_text.Goals as goal
 
 pub returns : goal.returns
-returns c =
+returns c = λ e.
     let text = c.args.text.now in
-    let long : 4 ≤ length text = omega (arith, c.if-text-lt-HALF_PIECE.false) in
-    let short : length text ≤ 8 = let l = c.requires in omega arith in
-    λ e.
     let both = and_parts _ _ e in
-    ascii_ends 4 text _ long short c.split_at.ensures.back (c.are_four_ascii.ensures both.0) (c.are_four_ascii-2.ensures both.1)
+    let all : length text - 4 + 4 ≡ length text = omega arith in
+    subst (λ n. IsAsciiFor n text) all
+    (ascii_on (length text - 4) 4 4 text (omega arith) (c.are_four_ascii.ensures both.0) (subst (IsAsciiFor 4) c.split_at.ensures.back (c.are_four_ascii-2.ensures both.1)))

@@ -27,8 +27,8 @@ use spa_pod::parts::spa_text_forms::Form;
 use spa_pod::shims::memory::AllocError;
 use std::io::Read;
 
-/// What is made of each of the inputs of these names, read so, one behind another. Inputs that are read exactly and
-/// checked are held block by block, and else whole.
+/// What is made of each of the inputs of these names, read so, one behind another. Inputs that are checked are held block by
+/// block, and else whole.
 pub(crate) fn make_all<'a, R: Read, S: Files>(
     making: Making<'_>,
     reading: Reading,
@@ -36,8 +36,8 @@ pub(crate) fn make_all<'a, R: Read, S: Files>(
     input: &mut R,
     files: &S,
 ) -> Result<Vec<u8>, Failure<'a>> {
-    if let (Reading::Exact, Making::Check) = (reading, making) {
-        return match check_all(names, input, files) {
+    if let Making::Check = making {
+        return match check_all(reading, names, input, files) {
             Ok(()) => Ok(Vec::new()),
             Err(why) => Err(why),
         };

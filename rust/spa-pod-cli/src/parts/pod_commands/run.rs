@@ -150,7 +150,7 @@ fn rewrite_twice<'a, R: Read, S: Files, W: Write>(
     files: &mut S,
     device: W,
 ) -> (Answer<'a>, W) {
-    match check_all(names, input, files) {
+    match check_all(Reading::Exact, names, input, files) {
         Ok(()) => match emptied(names, files) {
             Some(name) => {
                 let why = Failure::Unread(name, "emptied while it was read");

@@ -10,7 +10,7 @@ use core::fmt;
 /// Why no object is given.
 #[derive(Debug)]
 pub enum Failure {
-    /// The two objects, the first of which is of this type, are kept apart by this.
+    /// The two objects, the first of which is of this type, don't agree, for this reason.
     Apart(u32, FilterError),
     /// Bytes follow the second object of the input.
     More,

@@ -304,7 +304,7 @@ fn read_in_place(reading: Reading, block: &mut [u8]) -> Result<usize, NotMade> {
 }
 
 /// Does nothing: its contract is what the type says of bytes.
-fn are_bytes(_bytes: &[u8]) {}
+pub(crate) fn are_bytes(_bytes: &[u8]) {}
 
 /// The first pod of a block that isn't read.
 struct Found {

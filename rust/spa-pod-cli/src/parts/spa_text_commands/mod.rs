@@ -2,12 +2,14 @@
 //! Pods as text: printed, read, shown with names, and compared by their texts.
 mod aligning;
 pub mod answer;
+mod changes;
 pub mod comparing;
 mod dump;
 mod extent;
 pub mod hexadecimal;
 mod inner_values;
 mod inside;
+mod line_writer;
 mod lines;
 mod listing;
 mod message;
@@ -18,7 +20,6 @@ pub mod params;
 mod parts;
 mod paths;
 pub mod printing;
-mod properties;
 pub mod reading;
 pub mod selection;
 pub mod showing;

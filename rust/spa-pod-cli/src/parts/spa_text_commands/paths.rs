@@ -2,12 +2,12 @@
 //! The path from a top-level pod to one inside it.
 
 use spa_pod::shims::prelude::*;
-use crate::parts::spa_text_commands::properties::Name;
 use spa_pod::parts::spa_bytes::{HEADER_LEN, u32_at};
 use spa_pod::parts::spa_events::Event;
-use spa_pod::parts::spa_names::keys_of;
+use spa_pod::parts::spa_names::{Table, keys_of, name_of};
 use spa_pod::parts::spa_utils::SpaTypes;
 use spa_pod::shims::memory::AllocError;
+use core::fmt;
 
 /// How many bytes the header, the type and the id of an object take.
 pub(crate) const OBJECT_LEN: usize = 16;
@@ -101,11 +101,14 @@ fn put_step(
     count: usize,
 ) -> Result<(), AllocError> {
     if is_object_in(pod, holder) && is_keyed(pod, event.at) {
-        let keys = keys_of(SpaTypes(u32_at(pod, holder.at + HEADER_LEN)));
-        let key = Name(keys, u32_at(pod, event.at - HEADER_LEN));
-        return write!(text, ".{key}");
+        let type_ = u32_at(pod, holder.at + HEADER_LEN);
+        return write!(
+            text,
+            "{}",
+            Step::Key(type_, u32_at(pod, event.at - HEADER_LEN))
+        );
     }
-    write!(text, "[{count}]")
+    write!(text, "{}", Step::Member(count))
 }
 
 /// The number of the top-level pod, which so many stand before, and these steps; nothing where there are none.
@@ -115,4 +118,41 @@ pub(crate) fn numbered(count: usize, steps: &str) -> Result<String, AllocError> 
     }
     let number = count + 1;
     spa_pod::try_format!("{number}{steps}")
+}
+
+/// A step from a container to one of its entries.
+#[derive(Clone, Copy)]
+pub(crate) enum Step {
+    /// To the member of a struct that so many others stand before.
+    Member(usize),
+    /// To the value of a property: the type of the object, and the key.
+    Key(u32, u32),
+}
+
+impl fmt::Display for Step {
+    fn fmt(&self, f: &mut fmt::Formatter<'_>) -> fmt::Result {
+        match *self {
+            Step::Member(count) => write!(f, "[{count}]"),
+            Step::Key(type_, key) => {
+                let name = Name(keys_of(SpaTypes(type_)), key);
+                write!(f, ".{name}")
+            }
+        }
+    }
+}
+
+/// The name of a number in a table, or its digits where it has none.
+#[derive(Clone, Copy)]
+pub(crate) struct Name(pub(crate) Table, pub(crate) u32);
+
+impl fmt::Display for Name {
+    fn fmt(&self, f: &mut fmt::Formatter<'_>) -> fmt::Result {
+        match name_of(self.0, self.1) {
+            Some(name) => write!(f, "{name}"),
+            None => {
+                let number = self.1;
+                write!(f, "{number}")
+            }
+        }
+    }
 }

@@ -65,21 +65,6 @@ pub(crate) fn read_front(left: &[u8]) -> Result<(&[u8], Held), Failure> {
     }
 }
 
-/// Adds the text of a value, behind this mark, and the end of its last line.
-pub(crate) fn add_text(
-    printer: &mut TextPrinter,
-    layout: Layout,
-    mark: &str,
-    value: &Value,
-    lines: &mut Vec<u8>,
-) -> Result<(), Failure> {
-    lines.try_extend_from_slice(mark.as_bytes())?;
-    print_in(printer, layout, value, lines)?;
-    lines.make_room(1)?;
-    lines.push_reserved(b'\n');
-    Ok(())
-}
-
 /// Adds the text of a value at this path in a top-level pod, or of such a pod's, and the end of its last line.
 fn add_text_at(
     printer: &mut TextPrinter,

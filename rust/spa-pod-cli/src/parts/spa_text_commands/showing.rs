@@ -3,6 +3,7 @@
 
 use spa_pod::shims::prelude::*;
 use crate::parts::spa_text_commands::answer::Failure;
+use crate::parts::spa_text_commands::dump::add_rows;
 use crate::parts::spa_text_commands::listing::add_selected;
 use crate::parts::spa_text_commands::page::Page;
 use crate::parts::spa_text_commands::selection::Printout;
@@ -33,6 +34,13 @@ pub fn show_pods(
         bytes: page.lines,
         refused: listed.refused,
     })
+}
+
+/// Lines of these bytes in hex, the first of which stands at this byte of the input.
+pub fn hex_rows(place: usize, bytes: &[u8]) -> Result<Vec<u8>, AllocError> {
+    let mut rows = Vec::new();
+    add_rows(&mut rows, place, bytes)?;
+    Ok(rows)
 }
 
 /// What was listed of some bytes.

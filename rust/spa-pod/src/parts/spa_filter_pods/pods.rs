@@ -2,9 +2,9 @@
 //! Filters the objects of two pods.
 
 use crate::shims::prelude::*;
-use crate::parts::spa_filter_pods::views::filter_objects;
-use crate::parts::spa_filter::{FilterError, Side};
-use crate::parts::spa_object_view::{NoObject, ObjectPod, object_pod};
+use crate::parts::spa_filter_pods::rule::Filtering;
+use crate::parts::spa_filter::FilterError;
+use crate::parts::spa_object_view::{ObjectPod, Stop, meet_pods, meet_viewed};
 
 /// Filters the objects at the fronts of two inputs by the rules of `filter`, and answers the encoding of the outcome. The bytes
 /// behind the two fronts don't count.
@@ -13,9 +13,10 @@ use crate::parts::spa_object_view::{NoObject, ObjectPod, object_pod};
 ///
 /// The refusals: `Unread` and `NotObject`, of the first side before the second; then those of `filter`; then `TooLarge`.
 pub fn filter_pods(a: &[u8], b: &[u8]) -> Result<Vec<u8>, FilterError> {
-    let first = object_at(a, Side::First)?;
-    let second = object_at(b, Side::Second)?;
-    filter_viewed(&first, &second)
+    match meet_pods::<Filtering>(a, b) {
+        Ok(bytes) => Ok(bytes),
+        Err(stop) => Err(refusal(stop)),
+    }
 }
 
 /// Filters two objects that `object_pod` has viewed: answers what `filter_pods` does of any two inputs at whose fronts they are. So
@@ -25,22 +26,21 @@ pub fn filter_viewed(
     ours: &ObjectPod<'_>,
     theirs: &ObjectPod<'_>,
 ) -> Result<Vec<u8>, FilterError> {
-    // Bytes that a caller took for a rewriting may hold no object.
-    let Some(first) = ours.view() else {
-        return Err(FilterError::Unread(Side::First));
-    };
-    let Some(second) = theirs.view() else {
-        return Err(FilterError::Unread(Side::Second));
-    };
-    filter_objects(&first, &second)
+    match meet_viewed::<Filtering>(ours, theirs) {
+        Ok(bytes) => Ok(bytes),
+        Err(stop) => Err(refusal(stop)),
+    }
 }
 
-/// The object at the front of a side's bytes. Refused as `Unread` or `NotObject` of the side, and as `OutOfMemory`.
-fn object_at(bytes: &[u8], side: Side) -> Result<ObjectPod<'_>, FilterError> {
-    match object_pod(bytes) {
-        Ok(pod) => Ok(pod),
-        Err(NoObject::Unread) => Err(FilterError::Unread(side)),
-        Err(NoObject::Other) => Err(FilterError::NotObject(side)),
-        Err(NoObject::OutOfMemory) => Err(FilterError::OutOfMemory),
+/// The refusal of two objects that don't meet.
+fn refusal(stop: Stop<FilterError>) -> FilterError {
+    match stop {
+        Stop::Unread(side) => FilterError::Unread(side),
+        Stop::NotObject(side) => FilterError::NotObject(side),
+        Stop::TypeMismatch => FilterError::TypeMismatch,
+        Stop::Apart(key) => FilterError::Disjoint(key),
+        Stop::Refused(error) => error,
+        Stop::TooLarge => FilterError::TooLarge,
+        Stop::OutOfMemory => FilterError::OutOfMemory,
     }
 }

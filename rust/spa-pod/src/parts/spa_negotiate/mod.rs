@@ -4,9 +4,9 @@ mod error;
 mod negotiation;
 mod offer_view;
 mod pods;
+mod rule;
 mod settling;
 mod support;
-mod views;
 
 pub use error::NegotiateError;
 pub(crate) use negotiation::common;

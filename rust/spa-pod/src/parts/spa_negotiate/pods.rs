@@ -3,9 +3,8 @@
 
 use crate::shims::prelude::*;
 use crate::parts::spa_negotiate::error::NegotiateError;
-use crate::parts::spa_negotiate::views::meet_objects;
-use crate::parts::spa_keyed_objects::Side;
-use crate::parts::spa_object_view::{NoObject, ObjectPod, object_pod};
+use crate::parts::spa_negotiate::rule::Settling;
+use crate::parts::spa_object_view::{Stop, meet_pods};
 
 /// Negotiates the objects at the fronts of two inputs by the rules of `negotiate`, and answers the encoding of the object in
 /// which they meet. The bytes behind the two fronts don't count.
@@ -15,23 +14,21 @@ use crate::parts::spa_object_view::{NoObject, ObjectPod, object_pod};
 ///
 /// The refusals: `Unread` and `NotObject`, of the first side before the second; then those of `negotiate`; then `TooLarge`.
 pub fn negotiate_pods(a: &[u8], b: &[u8]) -> Result<Vec<u8>, NegotiateError> {
-    let first = object_at(a, Side::First)?;
-    let second = object_at(b, Side::Second)?;
-    let Some(ours) = first.view() else {
-        unreachable!()
-    };
-    let Some(theirs) = second.view() else {
-        unreachable!()
-    };
-    meet_objects(&ours, &theirs)
+    match meet_pods::<Settling>(a, b) {
+        Ok(bytes) => Ok(bytes),
+        Err(stop) => Err(refusal(stop)),
+    }
 }
 
-/// The object at the front of a side's bytes. Refused as `Unread` or `NotObject` of the side, and as `OutOfMemory`.
-fn object_at(bytes: &[u8], side: Side) -> Result<ObjectPod<'_>, NegotiateError> {
-    match object_pod(bytes) {
-        Ok(pod) => Ok(pod),
-        Err(NoObject::Unread) => Err(NegotiateError::Unread(side)),
-        Err(NoObject::Other) => Err(NegotiateError::NotObject(side)),
-        Err(NoObject::OutOfMemory) => Err(NegotiateError::OutOfMemory),
+/// The refusal of two objects that don't meet.
+fn refusal(stop: Stop<NegotiateError>) -> NegotiateError {
+    match stop {
+        Stop::Unread(side) => NegotiateError::Unread(side),
+        Stop::NotObject(side) => NegotiateError::NotObject(side),
+        Stop::TypeMismatch => NegotiateError::TypeMismatch,
+        Stop::Apart(key) => NegotiateError::Disjoint(key),
+        Stop::Refused(error) => error,
+        Stop::TooLarge => NegotiateError::TooLarge,
+        Stop::OutOfMemory => NegotiateError::OutOfMemory,
     }
 }

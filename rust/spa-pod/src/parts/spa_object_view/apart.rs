@@ -10,7 +10,6 @@ const SHORT_LEN: usize = 24;
 
 /// The key of the first of our properties, where both sides have values under it that aren't choices and differ. `None` says nothing.
 #[cfg_attr(not(debug_assertions), inline(always))]
-#[must_use]
 pub(crate) fn first_apart(ours: &[u8], theirs: &[u8]) -> Option<u32> {
     if begin_alike(ours, theirs) {
         return None;

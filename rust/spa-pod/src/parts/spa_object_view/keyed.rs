@@ -15,9 +15,9 @@ const FEW: usize = 16;
 const PLACES: u64 = 4294967296;
 
 /// Borrowed properties, and, where there are many, a sorted index of their keys for binary search.
-pub struct Keyed<'a> {
+pub(crate) struct Keyed<'a> {
     /// The bytes of the properties.
-    pub properties: &'a [u8],
+    pub(crate) properties: &'a [u8],
     /// The index: key and offset of each property as one number, in ascending order.
     order: Option<Vec<u64>>,
 }
@@ -25,7 +25,7 @@ pub struct Keyed<'a> {
 impl<'a> Keyed<'a> {
     /// These properties, with an index where there are many. Refused only for want of memory.
     #[cfg_attr(not(debug_assertions), inline(always))]
-    pub fn new(properties: &'a [u8]) -> Result<Keyed<'a>, AllocError> {
+    pub(crate) fn new(properties: &'a [u8]) -> Result<Keyed<'a>, AllocError> {
         if are_few(properties) || properties.len() as u64 >= PLACES {
             return Ok(Keyed {
                 properties,
@@ -41,8 +41,7 @@ impl<'a> Keyed<'a> {
 
     /// The first property with this key. None: no property has it.
     #[cfg_attr(not(debug_assertions), inline(always))]
-    #[must_use]
-    pub fn find(&self, key: u32) -> Option<PropertyView<'a>> {
+    pub(crate) fn find(&self, key: u32) -> Option<PropertyView<'a>> {
         match &self.order {
             None => find(self.properties, key),
             Some(order) => find_by(order.as_slice(), self.properties, key),
@@ -51,8 +50,7 @@ impl<'a> Keyed<'a> {
 
     /// Whether no property has this key.
     #[cfg_attr(not(debug_assertions), inline(always))]
-    #[must_use]
-    pub fn lacks(&self, key: u32) -> bool {
+    pub(crate) fn lacks(&self, key: u32) -> bool {
         match self.find(key) {
             Some(_) => false,
             None => true,
@@ -61,15 +59,18 @@ impl<'a> Keyed<'a> {
 
     /// Whether no property of `other` and none before `first` here has the key of `first`. All keys before it are below `bound`.
     #[cfg_attr(not(debug_assertions), inline(always))]
-    #[must_use]
-    pub fn is_new_beside(&self, other: &Keyed<'_>, first: &PropertyView<'_>, bound: u64) -> bool {
+    pub(crate) fn is_new_beside(
+        &self,
+        other: &Keyed<'_>,
+        first: &PropertyView<'_>,
+        bound: u64,
+    ) -> bool {
         other.lacks(first.key) && self.is_new(first, bound)
     }
 
     /// Whether no property before `first` has its key. All keys before it are below `bound`.
     #[cfg_attr(not(debug_assertions), inline(always))]
-    #[must_use]
-    pub fn is_new(&self, first: &PropertyView<'_>, bound: u64) -> bool {
+    pub(crate) fn is_new(&self, first: &PropertyView<'_>, bound: u64) -> bool {
         if u64::from(first.key) >= bound {
             return true;
         }
@@ -88,7 +89,6 @@ impl<'a> Keyed<'a> {
 
 /// The bound raised so that this key is below it, too.
 #[cfg_attr(not(debug_assertions), inline(always))]
-#[must_use]
 pub(crate) fn raised(bound: u64, key: u32) -> u64 {
     let key = u64::from(key);
     if key < bound { bound } else { key + 1 }

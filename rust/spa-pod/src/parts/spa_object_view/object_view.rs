@@ -29,7 +29,6 @@ pub struct PropertyView<'a> {
 
 /// The property at the front of the bytes. None: there is no whole one.
 #[cfg_attr(not(debug_assertions), inline(always))]
-#[must_use]
 pub(crate) fn first_property(properties: &[u8]) -> Option<PropertyView<'_>> {
     if properties.len() < HEADER_LEN {
         return None;
@@ -53,8 +52,7 @@ pub(crate) fn first_property(properties: &[u8]) -> Option<PropertyView<'_>> {
 
 /// The first property with this key, by a linear search. None: no property has it.
 #[cfg_attr(not(debug_assertions), inline(always))]
-#[must_use]
-pub fn find(properties: &[u8], key: u32) -> Option<PropertyView<'_>> {
+pub(crate) fn find(properties: &[u8], key: u32) -> Option<PropertyView<'_>> {
     let mut left = properties;
     while let Some(first) = first_property(left) {
         if first.key == key {

@@ -7,7 +7,7 @@ use crate::parts::spa_bytes::{HEADER_LEN, SECOND_WORD, u32_at};
 use crate::parts::spa_fixed_sized::FLAGS_SHAPE;
 use crate::parts::spa_scan::{fixed_len, taken_len};
 
-/// The bodies of the elements in the body of an array, where the sizes in it are right.
+/// The bytes of the elements in an array's body. None: their size isn't that of their type, or the last one isn't whole.
 #[cfg_attr(not(debug_assertions), inline(always))]
 pub(crate) fn elements_of(body: &[u8]) -> Option<&[u8]> {
     if body.len() < HEADER_LEN {

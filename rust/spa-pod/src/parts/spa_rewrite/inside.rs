@@ -221,7 +221,7 @@ fn behind_each(canonical: bool, keyed: bool, pods: &[u8]) -> (&[u8], usize) {
     }
 }
 
-/// What follows the first of those pods that are of fixed size, often many.
+/// What follows the first pods of fixed size that are canonical, or accepted.
 #[cfg_attr(not(debug_assertions), inline(always))]
 fn behind_short(canonical: bool, keyed: bool, pods: &[u8]) -> &[u8] {
     let mut left = pods;
@@ -234,7 +234,7 @@ fn behind_short(canonical: bool, keyed: bool, pods: &[u8]) -> &[u8] {
 /// The length in bytes of a key, flags and a pod whose body is one or two words.
 const KEYED_LEN: usize = 24;
 
-/// What follows the first of those pods, where it is of fixed size.
+/// What follows the first pod, where it is of fixed size, and canonical, or accepted.
 #[cfg_attr(not(debug_assertions), inline(always))]
 fn behind_one(canonical: bool, keyed: bool, pods: &[u8]) -> Option<&[u8]> {
     if keyed && pods.len() < KEYED_LEN {

@@ -22,7 +22,7 @@ const VALUES_AT: usize = 24;
 /// The length in bytes of a whole pointer.
 const POINTER_POD: usize = 24;
 
-/// Whether the pod at the front is there, and a word that is no truth value.
+/// Whether the pod at the front has a body of one word, and isn't a Bool. `false` promises nothing.
 #[cfg_attr(not(debug_assertions), inline(always))]
 pub(crate) fn begins_word(input: &[u8]) -> bool {
     if input.len() < SECOND_HEADER {

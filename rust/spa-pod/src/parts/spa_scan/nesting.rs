@@ -77,15 +77,9 @@ fn all_but_longest(keyed: bool, pods: &[u8], levels: u32) -> Option<Option<Insid
 /// more.
 #[cfg_attr(not(debug_assertions), inline(always))]
 fn longer_of<'a>(longest: Option<Inside<'a>>, inside: Inside<'a>, levels: u32) -> Option<Inside<'a>> {
-    match longest {
-        Some(other) => longer_of_two(other, inside, levels),
-        None => Some(inside),
-    }
-}
-
-/// The longer one of these pods of two containers, once the others are looked into. None: the others nest in `levels` levels or more.
-#[inline(never)]
-fn longer_of_two<'a>(other: Inside<'a>, inside: Inside<'a>, levels: u32) -> Option<Inside<'a>> {
+    let Some(other) = longest else {
+        return Some(inside);
+    };
     if inside.pods.len() < other.pods.len() {
         if !pods_nest_within(inside.keyed, inside.pods, levels - 1) {
             return None;

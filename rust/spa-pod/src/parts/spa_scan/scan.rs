@@ -25,9 +25,7 @@ pub(crate) fn leaf_front(input: &[u8]) -> Option<&[u8]> {
 #[cfg_attr(not(debug_assertions), inline(always))]
 #[must_use]
 pub(crate) fn leaf_body_front(input: &[u8]) -> Option<&[u8]> {
-    let Some(front) = open(input) else {
-        return None;
-    };
+    let front = open(input)?;
     let (_, behind) = input.split_at(HEADER_LEN);
     if is_padded_body(front.type_, front.body, behind) {
         Some(front.rest)

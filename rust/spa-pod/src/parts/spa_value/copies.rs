@@ -4,9 +4,8 @@
 use crate::shims::prelude::*;
 use crate::parts::spa_value::array::ValueArray;
 use crate::parts::spa_value::choice_value::ChoiceValue;
-use crate::parts::spa_value::emptying::discard;
 use crate::parts::spa_value::leaves::copy_leaf;
-use crate::parts::spa_value::nested_copies::{CALL_LEVELS, copy_nested, object_copy, struct_copy};
+use crate::parts::spa_value::nested_copies::{CALL_LEVELS, Nested, copy_nested, copy_object};
 use crate::parts::spa_value::object::{Object, Property};
 use crate::parts::spa_value::value::Value;
 use crate::shims::memory::AllocError;
@@ -50,8 +49,8 @@ impl TryClone for ChoiceValue {
 impl TryClone for Value {
     fn try_clone(&self) -> Result<Value, AllocError> {
         match self {
-            Value::Struct(members) => struct_copy(members, CALL_LEVELS),
-            Value::Object(object) => object_copy(object, CALL_LEVELS),
+            Value::Struct(members) => copy_nested(Nested::Struct(members), CALL_LEVELS),
+            Value::Object(object) => copy_nested(Nested::Object(object), CALL_LEVELS),
             _ => copy_lone(self),
         }
     }
@@ -59,13 +58,18 @@ impl TryClone for Value {
 
 impl TryClone for Object {
     fn try_clone(&self) -> Result<Object, AllocError> {
-        copy_object(self)
+        copy_object(self, CALL_LEVELS)
     }
 }
 
 impl TryClone for Property {
     fn try_clone(&self) -> Result<Property, AllocError> {
-        copy_property(self)
+        let value = self.value.try_clone()?;
+        Ok(Property {
+            key: self.key,
+            flags: self.flags,
+            value,
+        })
     }
 }
 
@@ -81,56 +85,11 @@ pub(crate) fn copy_elements<T: Copy>(elements: &Vec<T>) -> Result<Vec<T>, AllocE
 #[inline(never)]
 fn copy_lone(value: &Value) -> Result<Value, AllocError> {
     let mut copy = None;
-    match copy_leaf(value, &mut copy) {
-        Ok(None) => Ok(copy.unwrap()),
-        Ok(Some(nested)) => {
+    match copy_leaf(value, &mut copy)? {
+        None => Ok(copy.unwrap()),
+        Some(nested) => {
             drop(copy);
             copy_nested(nested, CALL_LEVELS)
         }
-        Err(error) => {
-            drop(copy);
-            Err(error)
-        }
     }
-}
-
-fn copy_object(object: &Object) -> Result<Object, AllocError> {
-    let properties = copy_properties(object.properties.as_slice())?;
-    Ok(Object {
-        type_: object.type_,
-        id: object.id,
-        properties,
-    })
-}
-
-fn copy_property(property: &Property) -> Result<Property, AllocError> {
-    let value = property.value.try_clone()?;
-    Ok(Property {
-        key: property.key,
-        flags: property.flags,
-        value,
-    })
-}
-
-fn copy_properties(properties: &[Property]) -> Result<Vec<Property>, AllocError> {
-    let mut copied_properties = Vec::with_room(properties.len())?;
-    for property in properties {
-        if let Err(error) = copy_next(property, &mut copied_properties) {
-            discard(Value::Object(Object {
-                type_: 0,
-                id: 0,
-                properties: copied_properties,
-            }));
-            return Err(error);
-        }
-    }
-    Ok(copied_properties)
-}
-
-/// Appends the copy of a property to others. Refused only for want of memory.
-fn copy_next(property: &Property, copies: &mut Vec<Property>) -> Result<(), AllocError> {
-    copies.make_room(1)?;
-    let copy = copy_property(property)?;
-    copies.push_reserved(copy);
-    Ok(())
 }

@@ -45,7 +45,7 @@ pub(crate) struct First<'a> {
 /// answers how many items there are: an item comes before those of the pods in it, and these before those of the pods that follow it. None: the
 /// nesting depth of one of the pods is above 1000, and `out` is unchanged.
 ///
-/// It takes no memory: the containers that it is in wait in an array of 8 levels, or of 1000.
+/// It takes no memory: what follows each open container waits in an array of 8 levels, or of 1000 where pods nest deeper.
 pub fn list_items(input: &[u8], out: &mut [Item]) -> Option<usize> {
     if all_nest_within(input, FEW as u32) {
         return Some(list_within(input, out, &mut [unkeyed(input); FEW]));

@@ -7,5 +7,5 @@ use Rattle.spa_value.proofs.copies.ValueClone.clone.Goals as goal
 pub returns-in-Struct : goal.returns-in-Struct
 returns-in-Struct c =
     let same = sym (ap view c.in-Struct.is ∙ view-struct c.in-Struct.members) in
-    let made = subst (λ t. IfOk c.struct_copy.result (λ copy. view copy ≡ t)) same c.struct_copy.ensures in
+    let made = subst (λ t. IfOk c.copy_nested.result (λ copy. view copy ≡ t)) same c.copy_nested.ensures in
     search rules

@@ -1,9 +1,0 @@
-use Rattle.std.proofs.Common.{◌≡◌}
-use Rattle.spa_value.specs.NestedCopies.{completed, copied, nested_view, steps_left}
-use Rattle.spa_value.proofs.nested_copies.copy_within.Given as goal
-
-abbrev pub invariant-loop-copies : goal.invariant-loop-copies
-invariant-loop-copies l = copied l.copies ≡ completed l.fn.outermost (nested_view l.fn.nested)
-
-abbrev pub decreases-loop-copies : goal.decreases-loop-copies
-decreases-loop-copies l = steps_left l.copies

@@ -403,7 +403,7 @@ abbrev pub target_text : Option (Bor (List ℕ)) → List ℕ
 target_text None = codes "standard output"
 target_text (Some name) = shown_text name.now
 
--- what is said of a refusal
+-- the text of a failure
 abbrev pub failure_text : Failure → List ℕ
 failure_text (Pods name why) = name_text name.now ++ (codes ": " ++ refusal_text why)
 failure_text (Texts name why) = name_text name.now ++ (codes ": " ++ text.failure_text why)
@@ -413,7 +413,7 @@ failure_text OutOfMemory = codes "out of memory"
 failure_text (Unread name words) = name_text name.now ++ (codes ": " ++ words.now)
 failure_text (Unwritten target) = target_text target ++ codes ": write failed"
 
--- what is said of bytes that are left out with a refused pod, where its size word doesn't say it
+-- the words for bytes that are left out behind a refused pod; none where it alone is left out
 abbrev pub left_out_text : Option Gap → List ℕ
 left_out_text None = []
 left_out_text (Some gap) = codes "; " ++ (decimal gap.len ++ (codes " bytes are left out, up to byte " ++ decimal gap.end))

@@ -191,7 +191,7 @@ abbrev pub HasNoNumber : Option Text → Misuse → Type 0
 HasNoNumber given (Nth text) = (given ≡ Some text.now) × IsNoNumber text.now
 HasNoNumber given _ = ⊥
 
--- so is what stands at the front of a path
+-- the path doesn't begin with a number of 64 bits
 abbrev pub HasNoPath : Option Text → Misuse → Type 0
 HasNoPath given (Path text) = (given ≡ Some text.now) × IsNoNumber (number_in text.now)
 HasNoPath given _ = ⊥
@@ -350,7 +350,7 @@ IsOfJson (form.Text layout) = ⊤
 IsOfJson Bytes = ⊤
 IsOfJson Pods = ⊥
 
--- this holds of whether `json` prints as pw-dump does; other words don't
+-- the fact holds of whether this word is `json --pw-dump`; of words other than `json` nothing is said
 abbrev pub HasDumpBy : (Bool → Type 0) → Word → Type 0
 HasDumpBy Dumps (Make (Making.Dump colours) manner) = Dumps true
 HasDumpBy Dumps (Make (Json style) manner) = Dumps false
@@ -378,7 +378,7 @@ comparison_by across_runs = if across_runs then AcrossRuns else Whole
 abbrev pub flags_in : List Row → Flags
 flags_in rows = record { settles = is_given (codes "settle") rows; across_runs = is_given (codes "across-runs") rows }
 
--- what they are given for is so: `fixate` settles or doesn't, and `diff` compares so
+-- the word does what its flag says: `fixate` settles or doesn't, and `diff` compares across runs or whole
 abbrev pub HasFlags : Flags → Word → Type 0
 HasFlags flags (Make Fixate manner) = flags.settles ≡ false
 HasFlags flags (Make Settle manner) = flags.settles ≡ true

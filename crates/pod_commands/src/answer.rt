@@ -1,4 +1,4 @@
-//! What becomes of a run, and what is said of it.
+//! The outcome of a run: its status, and the line that it writes.
 ghost use Rattle.std.specs.Prelude.{◌≡◌, ◌++◌, ◌∷◌, [], OnOk, Some, codes, length};
 ghost use Rattle.std.specs.Io.KnownBytes.{Appends};
 ghost use Rattle.pod_commands.specs.Answers.{count_line, line_of, line_of_pod, lines_of_pods, missing_line, missing_text, objects_text, status_of};

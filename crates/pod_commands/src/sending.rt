@@ -1,4 +1,4 @@
-//! Where what is made goes.
+//! Where what is made is written to.
 ghost use Rattle.std.specs.Prelude.{◌≡◌, IfErr, IfOk, OnErr, OnOk};
 ghost use Rattle.pod_commands.specs.Answers.{Begins, Gets, IsUntouched, IsUnwritten, outlet};
 ghost use Rattle.pod_commands.specs.Sending.{IsSent};

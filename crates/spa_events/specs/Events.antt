@@ -5,7 +5,7 @@ use Rattle.spa_format.specs.Tree.{struct_type, object_type}
 use Rattle.spa_format.specs.Walk.{properties_of, property_walk, walk}
 use Rattle.spa_events.specs.declared.event.Event.{Event}
 
--- the parent of a pod that is in no other
+-- the parent of a pod that is in no other: 2 ^ 64 - 1, the greatest index
 abbrev pub no_parent : ℕ
 no_parent = 18446744073709551615
 

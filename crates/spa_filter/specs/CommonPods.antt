@@ -114,7 +114,7 @@ abbrev pub IsPodRefusal : ℕ → Tree → Tree → FilterError → Type 0
 IsPodRefusal key v w error.TooLarge = IsCommonTooLarge v w
 IsPodRefusal key v w e = IsValueRefusal key v w e
 
--- the choice of a body is over another type, or memory ran out
+-- why the choice with this body isn't read as one over this type: its child type, the word at byte 12 of the body, is another, or memory ran out
 abbrev pub IsOfOtherType : ℕ → List ℕ → Refused → Type 0
 IsOfOtherType type body Apart = (w : Tree) → HasBody w choice_type body → word_at body 12 ≢ type
 IsOfOtherType type body TooLarge = ⊥

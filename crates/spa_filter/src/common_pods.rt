@@ -201,7 +201,7 @@ fn put_choices(alloc: Global, out: &mut Vec<u8>, a: &[u8], b: &[u8]) -> Result<(
 }
 
 /// Appends the canonical pod of the value to which the choices of two bodies filter, the first of which is over the type `T`, whose bodies have
-/// `N` bytes. In `room` values are kept that both admit.
+/// `N` bytes. Values that both admit are collected in `room`.
 fn put_over<T: Element, const N: usize>(
     alloc: Global,
     out: &mut Vec<u8>,

@@ -208,7 +208,7 @@ fn kept_of_many<T: Element>(
     Ok(values)
 }
 
-/// Appends an element that the offer admits to the list, where the set of the elements seen doesn't have it yet.
+/// Appends the element to the list if the offer admits it and its search key isn't in `seen` yet, to which that is added then.
 fn keep<T: Element>(
     values: &mut Vec<T>,
     seen: &mut BTreeSet<Numbers>,

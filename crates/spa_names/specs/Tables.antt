@@ -58,7 +58,7 @@ abbrev pub aliases_of : Table → List Naming
 aliases_of AudioFormat = map (λ e. (e.0.now, e.1)) ALIASES_OF_AUDIO_FORMAT.now
 aliases_of _ = []
 
--- a table of types or ids, or without names: of no keys
+-- the table is of types or ids, or the one without names; it isn't of keys
 abbrev pub IsOfIds : Table → Type 0
 IsOfIds DeviceKeys = ⊥
 IsOfIds NodeKeys = ⊥

@@ -70,7 +70,8 @@ pub fn number_of(table: Table, name: &str) -> Option<u32>
     searched(table, name)
 }
 
-/// The same by a search, which few names need. It stands apart, so that the others keep fewer registers.
+/// The number of a name by a linear search, which is for the few names that no hash leads to. It is out of line, so that `number_of` keeps fewer
+/// registers.
 #[cold]
 #[inline(never)]
 fn searched(table: Table, name: &str) -> Option<u32>
@@ -171,7 +172,7 @@ fn entry_of(table: Table, number: u32) -> Option<Entry>
     ensures { option_map row_of result ≡ row_at table number }
 {
     let entries = entries_of(table);
-    // Where the table leaves out no number before this one, its entry is as far behind the first as the numbers are apart.
+    // Where the table leaves out no number before this one, the index of its entry is its distance from the first number.
     if let Some(first) = entries.first() {
         if let Some(entry) = entries.get(number.wrapping_sub(first.0) as usize) {
             if entry.0 == number {

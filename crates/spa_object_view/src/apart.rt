@@ -1,4 +1,4 @@
-//! Finds two sides to be apart by their first properties, as most pairs that don't meet are. It takes no memory.
+//! Finds by their first properties that two objects don't meet, as with most pairs that don't. It takes no memory.
 ghost use Rattle.std.specs.Prelude.{◌≡◌, IfSome, true};
 ghost use Rattle.spa_format.specs.Tree.{Properties, Tree};
 ghost use Rattle.spa_object_view.specs.Written.{AreApart, AreApartAtFirst, AreWritten};

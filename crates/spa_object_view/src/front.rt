@@ -126,7 +126,7 @@ fn no_object(alloc: Global, input: &[u8]) -> NoObject
     }
 }
 
-/// What a front is that nests too deep to be looked into: it is rewritten to see.
+/// Why a front that nests too deep to be looked into isn't an object, which rewriting it tells.
 fn deep_no_object(alloc: Global, input: &[u8]) -> NoObject
     requires other { word_at input.now 4 ≢ object_type }
     requires deep { NestsDeeper levels_looked_into input.now }

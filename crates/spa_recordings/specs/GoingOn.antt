@@ -115,7 +115,7 @@ pub data GoesOnFrom (name : List ℕ) (reading : Reading) (refused : Refused) (M
       GoesOnFrom name reading refused Makes these pod.number (pod.place + n) (drop n left) others pods →
       GoesOnFrom name reading refused Makes before count place (first ++ left) (made ++ (kept_of refused (take n left) ++ others)) (pod ∷ pods)
 
--- so where none overlap before it
+-- the same from a place before which no refused pods overlap
 abbrev pub GoesOn : (name : List ℕ) → Reading → Refused → (Makes : List ℕ → List ℕ → Type 0) → (count place : ℕ) → (input out : List ℕ) →
     List RefusedPod → Type 0
 GoesOn name reading refused Makes count place input out pods = GoesOnFrom name reading refused Makes no_overlap count place input out pods
@@ -130,11 +130,11 @@ BeginsWithNone reading left kind = (left ≢ []) × IsNoPod reading left kind
 abbrev pub AddsMade : Reading → (Makes : List ℕ → List ℕ → Type 0) → (bytes old new : List ℕ) → Type 0
 AddsMade reading Makes bytes old new = (made : List ℕ) × MakesOf reading Makes bytes made × (new ≡ old ++ made)
 
--- that of all that is left was
+-- what is made of all that is left was appended
 abbrev pub MakesLast : Reading → (Makes : List ℕ → List ℕ → Type 0) → (left old new : List ℕ) → (olds news : List RefusedPod) → Type 0
 MakesLast reading Makes left old new olds news = AddsMade reading Makes left old new × (news ≡ olds)
 
--- that of what is left up to the first refused pod was, with what stays of that one; this follows it
+-- what is made of what is left up to the first refused pod was appended, with what stays of that one; this follows it
 pub record MakesNext (reading : Reading) (refused : Refused) (Makes : List ℕ → List ℕ → Type 0) (start : Progress) (left : List ℕ) (behind : Progress)
     (rest old new : List ℕ) (olds news : List RefusedPod) : Type 0 where
   pub made : List ℕ

@@ -10,7 +10,7 @@ use Rattle.spa_format.specs.Words.{body_of, header_size, word_at}
 abbrev pub AreWholeFirst : (n k : ℕ) → List ℕ → Type 0
 AreWholeFirst n k b = (walk_size (walk_at_most n k b) ≡ length b) ⊎ (length (walk_at_most n k b) ≡ n)
 
--- so many pods inside one are looked at
+-- how many pods inside of a pod are looked at
 abbrev pub looked_at : ℕ
 looked_at = 64
 

@@ -14,7 +14,7 @@ use spa_rewrite::{Rejected, find_fault};
 use spa_utils::SpaTypes;
 use std::alloc::{AllocError, Global};
 
-/// What becomes of a refused pod.
+/// Whether a refused pod is left out or kept.
 #[derive(Clone, Copy, Debug)]
 pub enum Refused {
     /// It is left out.

@@ -24,7 +24,7 @@ pub record IsSaidOf (reading : Reading) (before : ℕ) (input : List ℕ) (pod :
   pub within : at ≤ length input
   pub refusal : IsRefusalOf reading (drop at input) said.refusal
 
--- each of these pods of a part of an input is said so, which so many bytes of the input stand before
+-- these say why each of these pods is refused, of a part of an input which so many bytes of it stand before
 abbrev pub AreSaid : Reading → (before : ℕ) → (input : List ℕ) → List RefusedPod → List NamedRefusal → Type 0
 AreSaid reading before input [] said = said ≡ []
 AreSaid reading before input (pod ∷ pods) [] = ⊥

@@ -98,7 +98,8 @@ fn write_over(bytes: &mut Vec<u8>, at: usize, piece: &[u8])
     bytes[at..end].copy_from_slice(piece);
 }
 
-/// Overwrites the bytes from the offset `at` on with at most eight zeros. Where eight fit, eight are written, which takes one store.
+/// Overwrites `zeros` bytes, at most eight, from the offset `at` on with 0. Where eight bytes are there, all eight become 0, which takes one store: of
+/// those behind the first `zeros` the contract says nothing.
 #[inline(always)]
 fn write_zeros(bytes: &mut Vec<u8>, at: usize, zeros: usize)
     requires few { zeros ≤ header_size }

@@ -16,7 +16,7 @@ open_behind count end_object = count - 1
 open_behind count end_array = count - 1
 open_behind count _ = count
 
--- where so many are open, no more than these are from there on
+-- where `count` brackets are open before these tokens, at most LEVEL_LIMIT are open behind each of them
 abbrev pub is_shallow_behind : (count : ℕ) → List Token → Bool
 is_shallow_behind count [] = true
 is_shallow_behind count (t ∷ ts) = nat_le (open_behind count t) LEVEL_LIMIT && is_shallow_behind (open_behind count t) ts

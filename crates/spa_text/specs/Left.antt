@@ -38,7 +38,7 @@ AreAround (b ∷ bs) ts rest =
 abbrev pub IsWithin : Begun → List Begun → List Token → List Token → Type 0
 IsWithin inner around ts rest = (mid : List Token) × IsLeft inner.left ts mid × AreAround around mid rest
 
--- what is written: where what follows it reads so, all from its front on reads so
+-- tokens `ts` are appended: where the tokens behind them read by `P`, those and they together read by `Q`
 pub record Continues (P Q : List Token → List Token → Type 0) (old new : List Token) : Type 0 where
   pub ts : List Token
   pub appended : new ≡ old ++ ts
@@ -62,7 +62,7 @@ abbrev pub around_tokens : List Begun → List Token
 around_tokens [] = []
 around_tokens (b ∷ bs) = closing b.braced ++ (left_tokens b.left ++ around_tokens bs)
 
--- what is written, and the rest behind it, are the whole, where that has no float
+-- where `P` says that no float is in `whole`, the appended tokens and `rest` are those of `whole`, and `Q` says that no float is in `rest`
 abbrev pub Leaves : (P : Type 0) (whole : List Token) (Q : Type 0) (rest old new : List Token) → Type 0
 Leaves P whole Q rest old new = P → Q × (new ++ rest ≡ old ++ whole)
 

@@ -54,7 +54,7 @@ abbrev pub name_or_digits : Option (List ℕ) → ℕ → Token
 name_or_digits (Some name) n = Token.string name
 name_or_digits None n = Token.number (decimal n)
 
--- what stands for a number of this table
+-- the token of a number, by its name in this table
 abbrev pub name_token : Table → ℕ → Token
 name_token t n = name_or_digits (name_of t n) n
 
@@ -67,7 +67,7 @@ abbrev pub key_or_digits : Option (List ℕ) → ℕ → List ℕ
 key_or_digits None k = decimal k
 key_or_digits (Some name) k = unless_number name k (unsigned_number name)
 
--- what stands for a key of this table
+-- the text of a key, by its name in this table
 abbrev pub key_text : Table → ℕ → List ℕ
 key_text t k = key_or_digits (name_of t k) k
 
@@ -105,7 +105,7 @@ abbrev pub two_tokens : List ℕ → ℕ → List ℕ → ℕ → List Token
 two_tokens first m second n =
     Token.begin_object ∷ Token.key first ∷ Token.number (decimal m) ∷ Token.key second ∷ Token.number (decimal n) ∷ Token.end_object ∷ []
 
--- a value of fixed size; nothing is said of a float
+-- the tokens of a value of fixed size; which a float has isn't stated, and no clause asks for it
 abbrev pub fixed_tokens : Expected → Fixed → List Token
 fixed_tokens c none = Token.null ∷ []
 fixed_tokens c (bool b) = Token.boolean b ∷ []
@@ -118,7 +118,7 @@ fixed_tokens c (fraction m n) = two_tokens (codes "num") m (codes "denom") n
 fixed_tokens c (float n) = []
 fixed_tokens c (double n) = []
 
--- several, one behind the other
+-- the tokens of several such values, one after another
 abbrev pub list_tokens : Expected → List Fixed → List Token
 list_tokens c [] = []
 list_tokens c (x ∷ xs) = fixed_tokens c x ++ list_tokens c xs

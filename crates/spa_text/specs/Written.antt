@@ -1,4 +1,4 @@
--- What is written behind other tokens: what is read of it, and of what has no float which tokens. Only the private clauses cite it.
+-- Tokens that are appended to others: as what they are read, and, where no float is printed, which tokens they are. Only private clauses cite this.
 use Rattle.std.specs.Prelude.{◌≡◌, ◌≢◌, ◌⊎◌, ℕ, List, [], ◌∷◌, ◌++◌, Bool, true, false, Option, Some, codes, map}
 use Rattle.json.specs.Token.{Token}
 use Rattle.spa_format.specs.Kind.{Kind, Fixed}
@@ -13,7 +13,7 @@ use Rattle.spa_text.specs.Printed.{AreNoFloats, HasNoFloat, flags_end, flags_fro
 use Rattle.spa_text_read.specs.Tokens.{head, number_by_name}
 use Rattle.spa_text_read.specs.declared.tag.Scalar.{Scalar}
 
--- one token, which says this
+-- one token was appended, which says this
 pub record Puts {A : Type 0} (says : Token → Option A) (x : A) (old new : List Token) : Type 0 where
   pub token : Token
   pub appended : new ≡ old ++ token ∷ []
@@ -81,7 +81,7 @@ PutsType expected type old new =
     ⊎ ((x : Token) × (new ≡ old ++ Token.key (codes "of") ∷ x ∷ []) × (number_by_name Types x ≡ Some type) × (x ≡ name_token Types type)
     × (expected ≢ type))
 
--- the shape of a choice's values, and what they say, the default first
+-- a choice's shape, and its values, the default first
 abbrev pub shape_in : {T : Type 0} → ChoiceEnum T → Shape
 shape_in (E.None x) = none_choice
 shape_in (E.Range x a b) = range_choice

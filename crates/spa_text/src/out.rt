@@ -1,4 +1,4 @@
-//! What tokens are written to.
+//! A writer of tokens over a buffer of its own.
 ghost use Rattle.std.specs.Prelude.{◌≡◌, ◌∷◌, ◌++◌, [], List, ℕ, IsTrue, OnOk, Some, decimal};
 ghost use Rattle.std.specs.Float.{float_is_finite};
 ghost use Rattle.std.specs.Fmt.{signed_decimal};
@@ -36,7 +36,7 @@ impl Model for Out {
 }
 
 impl Out {
-    /// Nothing is written yet; the text goes to this buffer.
+    /// A writer without tokens yet, whose text goes to this empty buffer.
     pub(crate) fn new(buffer: Vec<u8>) -> Out
         requires { buffer.items ≡ [] }
         ensures { result.tokens ≡ [] }

@@ -95,7 +95,7 @@ impl Printed for Fraction {
     }
 }
 
-/// Begins an object of this first key.
+/// Begins a JSON object, and writes its first key.
 pub(crate) fn begin_keyed_object(out: &mut Out, name: &str) -> Result<(), AllocError>
     ensures { OnOk result (out.new.tokens ≡ out.old.tokens ++ (token.begin_object ∷ token.key name.now ∷ [])) }
 {
@@ -117,7 +117,8 @@ fn scalar_name(scalar: Scalar) -> &'static str
     }
 }
 
-/// Begins a number of this type: with an object of its name, unless it is expected. Whether a brace follows it.
+/// Begins a number of this type: with a JSON object whose key is the type's name, unless a bare number is read as that type here. Answers whether
+/// a brace has to close it.
 #[inline(always)]
 fn begin_number(out: &mut Out, scalar: Scalar, expected: u32) -> Result<bool, AllocError>
     ensures { IfOk result (λ braced. BeginsNumber braced expected scalar out.old.tokens out.new.tokens) }

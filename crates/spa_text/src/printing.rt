@@ -28,7 +28,7 @@ use spa_value::{Object, Property, Value};
 use std::alloc::{AllocError, Global};
 use std::mem;
 
-/// What is left of a struct or of an object that is begun.
+/// The members or properties of an open struct or object that aren't printed yet.
 #[derive(Clone, Copy)]
 enum Left<'a> {
     Members(&'a [Value]),
@@ -47,9 +47,9 @@ struct Begun<'a> {
 enum Next<'a> {
     /// Its end.
     Ended,
-    /// A value, and this is left.
+    /// A value was printed, and this is left.
     Printed(Begun<'a>),
-    /// What stands before the members of a value, and this is left around it and in it.
+    /// A struct or object in it was opened: what is left of the one around it, and of itself.
     Begun(Begun<'a>, Begun<'a>),
 }
 

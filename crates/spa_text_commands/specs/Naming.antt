@@ -18,7 +18,7 @@ table_of named.Keys type = keys_of (record { 0 = type })
 abbrev pub IsName : Named → (name : List ℕ) → Type 0
 IsName what name = (type : ℕ) × (number : ℕ) × (number < 2 ^ 32) × (is_named (table_of what type) number name ≡ true)
 
--- each of several names is so one's
+-- each of several names is one of a type, an id or a key
 abbrev pub AreNames : Named → (names : List ℕ) → Type 0
 AreNames what names = All (IsName what) (names_in names)
 

@@ -1,4 +1,4 @@
-//! Where what is made goes.
+//! Where what is made is written to.
 ghost use Rattle.std.specs.Prelude.{ℕ, IfErr, OnErr, OnOk, take, ◌≡◌};
 ghost use Rattle.std.specs.Io.KnownBytes.{Appends, Keeps};
 ghost use Rattle.spa_text_commands.specs.declared.answer.Failure as Failure;

@@ -391,7 +391,7 @@ fn is_video(members: &[(&str, Json<'_>)]) -> bool {
     false
 }
 
-/// What `pw-dump` prints of a key: the same of some keys of audio and of video.
+/// The name by which `pw-dump` prints a key. Some keys of audio and of video have the same.
 fn key_shown<'a>(video: bool, key: &'a str) -> &'a str {
     if !video {
         return key;

@@ -37,7 +37,7 @@ shape_by_keys ms =
 abbrev pub shape_in : Members → Option (List ℕ)
 shape_in ms = if has_default ms then shape_by_keys ms else None
 
--- where a value of a choice comes by its key: alternatives and flags stay in their order
+-- the turn in which a value of a choice is written, by its key: alternatives and flags share the last one, and stay in their order
 abbrev pub turn : List ℕ → ℕ
 turn s =
     if bytes_eq s (codes "default") then 0 else if bytes_eq s (codes "min") then 1 else if bytes_eq s (codes "max") then 2
@@ -47,7 +47,7 @@ turn s =
 abbrev pub turns : ℕ
 turns = 5
 
--- of these values those of one turn; and those of the turns below one, turn by turn
+-- the tokens of the values of one turn, and of those of all turns below one, turn by turn
 abbrev pub values_at : ℕ → Members → List Token
 values_at r no_members = []
 values_at r (member k j ms) = if turn k == r then ordered Strict anywhere j ++ values_at r ms else values_at r ms
@@ -63,14 +63,14 @@ choice_head shape =
 abbrev pub choice_in : (shape : List ℕ) → Members → List Token
 choice_in shape ms = choice_head shape ++ (values_below turns ms ++ Token.end_array ∷ Token.end_object ∷ [])
 
--- a choice where the keys are one's; else the keys in the grammar's order
+-- an object with these members: a choice of this shape, else with its keys in the grammar's order
 abbrev pub choice_or : FullType → Option (List ℕ) → Members → List Token
 choice_or w (Some shape) ms = choice_in shape ms
 choice_or w None ms = ordered Strict (Wants w) (object ms)
 
 -- ---- Objects
 
--- it is a format of video
+-- the value of mediaType says video; among the members there is such a one
 abbrev pub is_video_type : Json → Bool
 is_video_type (string s) = bytes_eq s (codes "video")
 is_video_type _ = false
@@ -79,7 +79,7 @@ abbrev pub is_video : Members → Bool
 is_video no_members = false
 is_video (member k j ms) = if bytes_eq k (codes "mediaType") then is_video_type j else is_video ms
 
--- pw-dump prints the same of some keys of audio and of video: the key that is meant
+-- pw-dump prints some keys of audio and of video by one name: the grammar's name of the key, for formats of video and for other objects
 abbrev pub key_meant : (video : Bool) → List ℕ → List ℕ
 key_meant false s = s
 key_meant true s =

@@ -33,7 +33,7 @@ abbrev pub rank_in : Place → List ℕ → ℕ
 rank_in (Properties t) s = 0
 rank_in (Wants w) s = rank s
 
--- nothing is known of what belongs there
+-- the place of a value of which no type is known
 abbrev pub anywhere : Place
 anywhere = Wants (full 0 0)
 
@@ -66,7 +66,7 @@ place_under (Properties of) t s = Wants (wanted_under of s)
 place_under (Wants w) t s =
     if bytes_eq s (codes "props") then Properties t else if bytes_eq s (codes "value") then Wants w else anywhere
 
--- the type of the elements, where a list there is an array: only a strict reader takes it so
+-- the element type of the array that a list at this place stands for; None where it stands for a struct, as for a reader that isn't strict
 abbrev pub element_in : Strictness → Place → Option ℕ
 element_in Plain p = None
 element_in Strict (Properties t) = None
@@ -85,7 +85,7 @@ list_end (Some n) = Token.end_object ∷ []
 abbrev pub list_in : Option ℕ → List Token → List Token
 list_in e ts = list_head e ++ (ts ++ list_end e)
 
--- of these keys, each with the tokens of its value, those of one rank; and those of the ranks below one, rank by rank
+-- of keys with the tokens of their values: the tokens of those of one rank, and of those of all ranks below one, rank by rank
 abbrev pub at_rank : (List ℕ → ℕ) → ℕ → List (List ℕ × List Token) → List Token
 at_rank f r [] = []
 at_rank f r (x ∷ xs) = if f x.0 == r then Token.key x.0 ∷ (x.1 ++ at_rank f r xs) else at_rank f r xs
@@ -128,12 +128,12 @@ abbrev pub are_places : Members → Bool
 are_places no_members = true
 are_places (member k j ms) = is_place k j && are_places ms
 
--- they are a place, and one under `value`
+-- the members are those of a place, and one more under `value`
 abbrev pub has_place : Members → Bool
 has_place no_members = false
 has_place (member k j ms) = if is_place k j then has_place ms else bytes_eq k (codes "value") && are_places ms
 
--- what stands beside a place: the first other one
+-- the first member that is none of a place's
 abbrev pub beside_place : Members → Option Json
 beside_place no_members = None
 beside_place (member k j ms) = if is_place k j then beside_place ms else Some j
@@ -141,7 +141,7 @@ beside_place (member k j ms) = if is_place k j then beside_place ms else Some j
 abbrev pub placed_in : Members → Option Json
 placed_in ms = if has_place ms then beside_place ms else None
 
--- a value without its place; others are as they are
+-- the value of an object that has nothing but a value and its place; any other JSON as it is
 abbrev pub without_place : Json → Json
 without_place (object ms) = unwrap_or (placed_in ms) (object ms)
 without_place j = j

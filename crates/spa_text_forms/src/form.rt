@@ -13,10 +13,10 @@ use json::{Error, Scratch, Value, Writer};
 use spa_text_read::Strictness;
 use std::alloc::{AllocError, Global};
 
-/// What texts are written in, and how they are read.
+/// The form of a text, and how strictly it is read.
 #[derive(Clone, Copy)]
 pub enum Form {
-    /// The grammar of named values, read so.
+    /// JSON with names, read with this strictness.
     Named(Strictness),
     /// What `pw-dump` prints of params, which are objects. It is read strictly.
     Dump {

@@ -37,7 +37,7 @@ type_under type key = if has_indexes type key then full array_type (type_number 
 abbrev pub is_open : ℕ → Bool
 is_open type = type == 0 || type == types.Pod.0
 
--- the types of objects, which are events, commands and parameters, have numbers above this one
+-- the types of objects, which are events, commands and parameters, have numbers above this one, 0x20000
 abbrev pub object_types : ℕ
 object_types = 131072
 

@@ -100,7 +100,7 @@ pub(crate) fn type_under(type_: u32, key: u32) -> FullType
     wanted_under(type_, key, expected_under(keys_of(type_), key))
 }
 
-/// The same, where the table of the object's keys expects this under the key.
+/// The type that belongs under a key of an object of this type, where `expected` is the key's entry in the table of the object's keys.
 pub(crate) fn wanted_under(type_: u32, key: u32, expected: Expected) -> FullType
     requires { expected ≡ names.expected_under (names.keys_of type_) key }
     ensures { result ≡ spec.type_under type_ key }

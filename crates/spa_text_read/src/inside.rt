@@ -64,7 +64,7 @@ pub(crate) enum Opened {
     Begun(Inside),
 }
 
-/// What is next in a value that is begun.
+/// What follows inside an open value.
 pub(crate) enum Next<'a> {
     /// It has ended.
     Ended,
@@ -154,7 +154,8 @@ impl Inside {
         }
     }
 
-    /// What its last property has in place of the type that belongs under the key, where it is an object that is read strictly.
+    /// The type of the last property's value and the one that belongs under its key, where this is an object that is read strictly, and the two don't
+    /// fit.
     pub(crate) fn misfit(&self, strictness: Strictness) -> Option<Misfit>
         ensures { MatchOption result (AdmitsLast strictness (frame_of self.now))
             (λ _. ¬ (AdmitsLast strictness (frame_of self.now))) }
@@ -168,7 +169,7 @@ impl Inside {
         }
     }
 
-    /// Takes apart what is read, by a loop: it may be nested deep.
+    /// Drops what was read, by a loop, since it may be nested deep.
     pub(crate) fn give_up(self) {
         match self {
             Inside::Struct { members, .. } => discard(Value::Struct(members)),
@@ -183,7 +184,7 @@ impl Inside {
     }
 }
 
-/// What is expected of an element.
+/// What is expected of the next element behind these: their type; an Id is of this table.
 fn element(ids: Table, values: &ValueArray) -> Expected
     ensures { result ≡ grammar.element ids (kind_in values.now) }
 {

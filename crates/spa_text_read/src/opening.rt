@@ -1,4 +1,4 @@
-//! What begins with a token.
+//! Reads what begins with a token: a whole value, or the beginning of one with others in it.
 ghost use Rattle.std.specs.Prelude.{◌≡◌, ◌≢◌, ◌≤◌, IfErr, IfOk, IfSome, MatchOption, MatchResult, length, option_map, Some, None, []};
 ghost use Rattle.json.specs.Reads.{token_of};
 ghost use Rattle.spa_utils.specs.declared.types.SpaTypes as types;

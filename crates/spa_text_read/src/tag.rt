@@ -14,7 +14,7 @@ pub enum Scalar {
     Fd,
 }
 
-/// What an object is, by its first key.
+/// Which kind of value a JSON object stands for, by its first key.
 #[derive(Clone, Copy)]
 pub enum Tag {
     Scalar(Scalar),

@@ -10,7 +10,7 @@ use spa_pod::parts::spa_rewrite::{Rejected, find_fault};
 use spa_pod::parts::spa_utils::SpaTypes;
 use spa_pod::shims::memory::AllocError;
 
-/// What becomes of a refused pod.
+/// Whether a refused pod is left out or kept.
 #[derive(Clone, Copy, Debug)]
 pub enum Refused {
     /// It is left out.

@@ -159,7 +159,7 @@ fn put_choices(out: &mut Vec<u8>, a: &[u8], b: &[u8]) -> Result<(), Refused> {
 }
 
 /// Appends the canonical pod of the value to which the choices of two bodies filter, the first of which is over the type `T`, whose bodies have
-/// `N` bytes. In `room` values are kept that both admit.
+/// `N` bytes. Values that both admit are collected in `room`.
 fn put_over<T: Element, const N: usize>(
     out: &mut Vec<u8>,
     a: &[u8],

@@ -61,12 +61,12 @@ pub(crate) fn is_value_of<T: Element, const N: usize>(x: &T, body: &[u8]) -> Opt
     Some(is_one(x, values))
 }
 
-/// What one choice of a pair admits.
+/// One choice of a pair, by what it admits.
 #[derive(Clone, Copy)]
 enum Side<'a, T, const N: usize> {
-    /// The values with these bodies, with this default among them: of an Enum.
+    /// An Enum: its default, and the bodies of its values, among them the default's.
     Values(T, Chunks<'a, N>),
-    /// What an offer admits.
+    /// A choice that was read as an offer.
     Offered(Offer<'a, T>),
 }
 
@@ -142,7 +142,7 @@ fn shared_default<T: Element, const N: usize>(
 }
 
 /// Appends the canonical pod of what two choices both admit, which is what an Enum of these values and the other choice admit: of an element where
-/// one of the two is a None choice, else of an Enum. The values that are admitted are kept in `room`, whatever is there.
+/// one of the two is a None choice, else of an Enum. The values that are admitted are written over those in `room`.
 fn put_sides<T: Element, const N: usize>(
     out: &mut Vec<u8>,
     a: &Side<'_, T, N>,
@@ -166,7 +166,7 @@ fn put_sides<T: Element, const N: usize>(
     put_enum_of::<T>(out, &default, kept)
 }
 
-/// As `enum_view`, of at most so many values. None: the Enum has more, too.
+/// What `enum_view` gives of an Enum of at most `most` values. None: it isn't the body of such an Enum, or has more values.
 fn short_view<T: Element, const N: usize>(body: &[u8], most: usize) -> Option<(T, Chunks<'_, N>)> {
     let found = enum_view::<T, N>(body)?;
     if found.1.len() > most {
@@ -213,7 +213,7 @@ pub(crate) fn put_enum_first<T: Element, const N: usize>(
 }
 
 /// Appends the canonical pod of the value to which the choices of two bodies filter, the second of which is an Enum, and the first over the type `T`.
-/// Where `room` is for fewer values than it has, they are read.
+/// Where the Enum has more values than `room`, both choices are read first, which takes memory.
 pub(crate) fn put_enum_second<T: Element, const N: usize>(
     out: &mut Vec<u8>,
     a: &[u8],

@@ -140,7 +140,7 @@ fn is_among(size: usize, values: &[u8], value: &[u8]) -> bool {
     false
 }
 
-/// Whether the offer is of a supported value, and admits a value of its type.
+/// Whether the offer has a supported shape, and admits this value of its type. `false` promises nothing.
 fn admits(offer: &OfferView<'_>, value: &[u8]) -> bool {
     let size = offer.size;
     match offer.shape {

@@ -99,7 +99,7 @@ fn no_object(input: &[u8]) -> NoObject {
     }
 }
 
-/// What a front is that nests too deep to be looked into: it is rewritten to see.
+/// Why a front that nests too deep to be looked into isn't an object, which rewriting it tells.
 fn deep_no_object(input: &[u8]) -> NoObject {
     let Err(why) = rewritten(input) else {
         return NoObject::Other;

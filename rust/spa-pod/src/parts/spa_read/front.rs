@@ -4,7 +4,8 @@
 use crate::parts::spa_read::lenient::read_as;
 use crate::parts::spa_bytes::{Front, HEADER_LEN, open};
 
-/// Opens the pod that the first size word names, and adds 1 to `opened` where the 8 bytes of its header are there. None: the front isn't there.
+/// Opens the pod at the front of the input, and adds 1 to `opened` where the 8 bytes of its header are there. None: the input is shorter than a
+/// header, or than its size word says.
 #[cfg_attr(not(debug_assertions), inline(always))]
 fn open_counted<'de>(input: &'de [u8], opened: &mut u64) -> Option<Front<'de>> {
     if input.len() >= HEADER_LEN {

@@ -88,7 +88,7 @@ impl Printed for Fraction {
     }
 }
 
-/// Begins an object of this first key.
+/// Begins a JSON object, and writes its first key.
 pub(crate) fn begin_keyed_object(out: &mut Out, name: &str) -> Result<(), AllocError> {
     out.begin_object()?;
     out.key(name)
@@ -106,7 +106,8 @@ fn scalar_name(scalar: Scalar) -> &'static str {
     }
 }
 
-/// Begins a number of this type: with an object of its name, unless it is expected. Whether a brace follows it.
+/// Begins a number of this type: with a JSON object whose key is the type's name, unless a bare number is read as that type here. Answers whether
+/// a brace has to close it.
 #[cfg_attr(not(debug_assertions), inline(always))]
 fn begin_number(out: &mut Out, scalar: Scalar, expected: u32) -> Result<bool, AllocError> {
     if bare(expected) == scalar {

@@ -21,7 +21,7 @@ pub(crate) enum Place {
     Properties(u32),
 }
 
-/// Where nothing is known.
+/// The place of a value of which no type is known.
 pub(crate) const ANYWHERE: Place = Place::Wants(FullType {
     type_: SpaTypes(0),
     element: SpaTypes(0),

@@ -82,7 +82,7 @@ impl Nest {
         }
     }
 
-    /// Takes apart what is read, by loops: it may be nested deep.
+    /// Drops what was read, by loops, since it may be nested deep.
     pub(crate) fn give_up(self) {
         let Nest { inner, outer } = self;
         for around in outer {

@@ -287,16 +287,16 @@ def refuse_in_tests(library, crates, limit):
 
 
 def built(ending):
-    """The crates whose names end so and that are built."""
-    found = sorted(it.parents[1].name for it in HERE.parent.glob(f"crates/*{ending}/out/*{ending}"))
-    found = [it for it in found if (HERE.parent / f"crates/{it}/out/{it}{'_tests' if ending == '_tests' else ''}").is_file()]
+    """The crates of tests that are built: those with tests, where their programs end so, and else those with rows."""
+    found = sorted(it.name for it in HERE.parent.glob("crates/*_*") if it.name.endswith(("_rows", "_tests")))
+    found = [it for it in found if (HERE.parent / f"crates/{it}/out/{it}{ending}").is_file()]
     return found or sys.exit("refuse.py: no crate of these is built: rt ci of the Rattle kit does so; what cargo builds is tried by refuse in rust/beside")
 
 
 def main(words):
     kinds = {
         "programs": (refuse_in_programs, lambda: PROGRAMS),
-        "rows": (refuse_in_rows, lambda: built("_rows")),
+        "rows": (refuse_in_rows, lambda: built("")),
         "tests": (refuse_in_tests, lambda: built("_tests")),
     }
     limit = float(words[1]) if words[:1] == ["within"] else 0

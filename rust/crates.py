@@ -15,10 +15,9 @@ PROGRAMS = {'podtool', 'pod'}
 EXPORTED = 'spav'
 # The crates of spa-pod that are behind its feature `text`.
 OF_TEXT = {'spa_text_read', 'spa_text', 'spa_text_forms'}
-# The package of tests, made by rust/check. Crates of tests are those whose names end so, and programs that answer rows, each of which becomes a test.
+# The package of tests, made by rust/check. Crates of tests are those whose names end so. Those of them that are programs answer rows, which become a test.
 TESTS = 'tests'
 TEST_SUFFIXES = ('_tests', '_rows')
-ROWS_SUFFIX = '_rows'
 # The kit's crates, and the std's modules, for which shims stand: the package and the module in its src/shims. thiserror's derive needs none.
 SHIMS = {
     'bitflags': ('spa-pod', 'flags'), 'arrayvec': ('spa-pod', 'array'), 'std::alloc': ('spa-pod', 'memory'), 'std::collections': ('spa-pod', 'sorted'),

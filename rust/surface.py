@@ -57,7 +57,7 @@ PLACES = {
          '            DeserializeError::OutOfMemory => write!(f, "out of memory"),\n'
          '            DeserializeError::TooDeep => write!(f, "values nest deeper than the limit"),\n'),
     ],
-    'spa-pod/src/parts/spa_in_place/in_place.rs': [
+    'spa-pod/src/parts/spa_rewrite/in_place.rs': [
         ('        DeserializeError::OutOfMemory => DeserializeError::OutOfMemory,\n',
          '        DeserializeError::OutOfMemory => DeserializeError::OutOfMemory,\n'
          '        DeserializeError::TooDeep => DeserializeError::TooDeep,\n'),
@@ -74,7 +74,7 @@ PLACES = {
     'spa-pod/src/parts/spa_read/lenient.rs': [
         ('CHOICE_HEADER_LEN + u32_at(body, HEADER_LEN) as usize', '(u32_at(body, HEADER_LEN) as usize).saturating_add(CHOICE_HEADER_LEN)'),
     ],
-    'spa-pod/src/parts/spa_scan/array.rs': [
+    'spa-pod/src/parts/spa_canonical/array.rs': [
         ('RANGE_SHAPE => 3 * size', 'RANGE_SHAPE => size.saturating_mul(3)'), ('STEP_SHAPE => 4 * size', 'STEP_SHAPE => size.saturating_mul(4)'),
     ],
     'spa-pod/src/parts/spa_write/size.rs': [

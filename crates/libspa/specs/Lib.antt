@@ -47,13 +47,13 @@ pub use Rattle.spa_typed_write.specs.Listed
 pub use Rattle.spa_typed_write.specs.Complete
 pub use Rattle.spa_typed_write.specs.Parts as WrittenParts
 pub use Rattle.spa_write.specs.DeepValues
-pub use Rattle.spa_scan.specs.Canonical
-pub use Rattle.spa_scan.specs.Depth
-pub use Rattle.spa_rewrite.specs.Rewriting
-pub use Rattle.spa_rewrite.specs.Look
+pub use Rattle.spa_canonical.specs.Canonical
+pub use Rattle.spa_canonical.specs.Depth
+pub use Rattle.spa_canonical.specs.Rewriting
+pub use Rattle.spa_canonical.specs.Look
 pub use Rattle.spa_rewrite.specs.Memory
-pub use Rattle.spa_rewrite.specs.Shorter
-pub use Rattle.spa_in_place.specs.InPlace
+pub use Rattle.spa_canonical.specs.Shorter
+pub use Rattle.spa_rewrite.specs.InPlace
 pub use Rattle.spa_lenient.specs.Rewriting as LenientRewriting
 pub use Rattle.spa_view.specs.View as Seen
 pub use Rattle.spa_view.specs.Tests

@@ -30,16 +30,17 @@ pub mod utils {
 
 /// Pods: values and their rewriting, and borrowed views.
 pub mod pod {
+    pub use spa_canonical::{Rejected, all_nest_within, nests_within};
     pub use spa_fixed_sized::{CanonicalFixedSizedPod, ChoiceElement, FixedSizedPod};
     pub use spa_format::{laws, view_laws};
-    pub use spa_in_place::{rewrite_in_place, rewrite_into};
     pub use spa_lenient::{
         rewrite_all_leniently, rewrite_in_place_leniently, rewrite_into_leniently,
         rewrite_leniently,
     };
     pub use spa_print::Printed;
-    pub use spa_rewrite::{Rejected, accept_all, find_fault, is_canonical, rewrite, rewrite_all};
-    pub use spa_scan::{all_nest_within, nests_within};
+    pub use spa_rewrite::{
+        accept_all, find_fault, is_canonical, rewrite, rewrite_all, rewrite_in_place, rewrite_into,
+    };
     pub use spa_utils::Frame;
     pub use spa_value::{
         Bitmap, ChoiceValue, Held, Object, Property, PropertyFlags, Value, ValueArray, discard,

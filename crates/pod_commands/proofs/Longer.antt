@@ -26,7 +26,7 @@ use Rattle.spa_recordings.proofs.Holding.{nothing_longer}
 use Rattle.spa_recordings.specs.Reading.{IsAccepted, IsLeftOf, IsNoPod, IsNothing}
 use Rattle.spa_recordings.specs.declared.reading.Reading.{Reading}
 use Rattle.spa_recordings.specs.declared.reading.Reading.TheVariants.{Exact, Lenient}
-use Rattle.spa_refusals.specs.Paths.{HaveRead, HoldsMember, HoldsValue, IsInnermost, LeadsTo, StepsTo, cut_off, further, holds_none, itself, member, members_read, number_of, properties_read, property, short_object, step_limit, type_name, type_number, type_text}
+use Rattle.spa_refusals.specs.Paths.{HaveRead, HoldsMember, HoldsValue, IsInnermost, LeadsTo, StepsTo, cut_off, further, holds_none, itself, member, members_read, number_of, properties_read, property, short_object, type_name, type_number, type_text}
 use Rattle.spa_refusals.specs.Refusals.{IsCutOf, IsFirstRefusal, IsRefusalOf, IsUnreadFor, LeadsBy, StandsBy, wanted}
 use Rattle.spa_refusals.specs.declared.refusal.Cut.{Cut}
 use Rattle.spa_refusals.specs.declared.refusal.Refusal.{Refusal}
@@ -110,14 +110,14 @@ module _ (pod more : List ℕ) (f : HasFront pod) where
       property front_longer (type_longer ∙ t) (subst (λ b. HoldsValue b path inner new) (sym body_longer) h)
 
   -- a path leads to the pod itself, or to the same one inside
-  leads_longer : (n : ℕ) (path inner : List ℕ) → LeadsTo pod n path inner →
-      ((inner ≡ pod) × LeadsTo (pod ++ more) n path (pod ++ more)) ⊎ LeadsTo (pod ++ more) n path inner
-  leads_longer n path inner itself = inl (refl, itself)
-  leads_longer n path inner (further m before new next last leads step) =
-      elim (leads_longer m before next leads) [
-        | inl l ↦ inr (further m before new (pod ++ more) last l.1
+  leads_longer : (path inner : List ℕ) → LeadsTo pod path inner →
+      ((inner ≡ pod) × LeadsTo (pod ++ more) path (pod ++ more)) ⊎ LeadsTo (pod ++ more) path inner
+  leads_longer path inner itself = inl (refl, itself)
+  leads_longer path inner (further before new next last leads step) =
+      elim (leads_longer before next leads) [
+        | inl l ↦ inr (further before new (pod ++ more) last l.1
             (step_longer before last new (subst (λ z. StepsTo z before last new) l.0 step)))
-        | inr l ↦ inr (further m before new next last l step)
+        | inr l ↦ inr (further before new next last l step)
       ]
 
   -- a fault is in it, at the same place or at the front
@@ -243,15 +243,10 @@ module _ (pod more : List ℕ) (f : HasFront pod) where
   leads_by : (reading : Reading) (path inner : List ℕ) → LeadsBy reading pod path inner →
       ((inner ≡ pod) × LeadsBy reading (pod ++ more) path (pod ++ more)) ⊎ LeadsBy reading (pod ++ more) path inner
   leads_by Exact path inner h =
-      elim (leads_longer h.steps path inner h.leads) [
-        | inl l ↦ inl (l.0, record { steps = h.steps; leads = l.1; ends = ends h.steps inner l.0 h.ends })
-        | inr l ↦ inr (record { steps = h.steps; leads = l; ends = h.ends })
+      elim (leads_longer path inner h.leads) [
+        | inl l ↦ inl (l.0, record { leads = l.1; ends = innermost_longer (subst IsInnermost l.0 h.ends) })
+        | inr l ↦ inr (record { leads = l; ends = h.ends })
       ]
-    where
-      ends : (steps : ℕ) (inner : List ℕ) → inner ≡ pod → ((steps ≡ step_limit) ⊎ IsInnermost inner) →
-          (steps ≡ step_limit) ⊎ IsInnermost (pod ++ more)
-      ends steps inner is (inl e) = inl e
-      ends steps inner is (inr i) = inr (innermost_longer (subst IsInnermost is i))
   leads_by Lenient path inner h = inl (h.1, (h.0, refl))
 
   pub refusal_longer : (reading : Reading) (r : Refusal) → IsRefusalOf reading pod r → IsRefusalOf reading (pod ++ more) r

@@ -22,12 +22,12 @@ use crate::refusing::{
 };
 use crate::request::{Making, Printing, Style, Texts};
 use crate::streaming::check_all;
-use spa_in_place::rewrite_in_place;
 use spa_meet_commands::settling::settle_all;
 use spa_pod_commands::making::{check, fixated};
 use spa_recordings::going_on::{Made, Maker, Manner, Overlap, Progress, Refused, make_each};
 use spa_recordings::reading::Reading;
 use spa_refusals::{NamedRefusal, add_refusals};
+use spa_rewrite::rewrite_in_place;
 use spa_text_commands::answer::Failure as TextFailure;
 use spa_text_commands::hexadecimal::read_hexadecimal;
 use spa_text_commands::params::{Unprinted, print_params};

@@ -11,8 +11,8 @@ use pod_commands::screen::Screen;
 use spa_meet_commands::progress::Unwatched;
 use std::alloc::Global;
 use std::io::{self, Cursor, Error, ErrorKind, Write};
+use test_bytes::streams::{ALL, Device, OneLine, Source, Words};
 use test_bytes::{SpellingError, bytes_spelled};
-use test_streams::{ALL, Device, OneLine, Source, Words};
 
 /// Files whose names spell their bytes, with commas between the words. Another name is none of a file. What is written is kept, but to
 /// a name with a stroke, of which there is none.

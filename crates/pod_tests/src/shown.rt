@@ -6,7 +6,7 @@ use spa_meet_commands::progress::Unwatched;
 use std::alloc::{AllocError, Global};
 use std::io::ErrorKind;
 use test_bytes::nested_structs;
-use test_streams::{ALL, Device, PIECE, Source};
+use test_bytes::streams::{ALL, Device, PIECE, Source};
 
 /// What is wanted of a run: the end of what it writes, what it says, and its status.
 type Wanted<'a> = (&'a [u8], &'a [u8], u8);

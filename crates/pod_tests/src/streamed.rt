@@ -4,7 +4,7 @@ use pod_commands::answer::report;
 use pod_commands::run::run;
 use spa_meet_commands::progress::Unwatched;
 use std::alloc::{AllocError, Global};
-use test_streams::{ALL, Device, PIECE, Source};
+use test_bytes::streams::{ALL, Device, PIECE, Source};
 
 /// A struct of a Bool of 7 with padding that is no zeros, which is rewritten as `CLEAN`. A block ends within one of them,
 /// since 24 doesn't divide 65536.

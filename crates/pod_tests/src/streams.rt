@@ -7,7 +7,7 @@ use spa_meet_commands::progress::Unwatched;
 use std::alloc::{AllocError, Global};
 use std::io::{self, Error, ErrorKind};
 use std::process::Abort;
-use test_streams::{Device, PIECE, Source};
+use test_bytes::streams::{Device, PIECE, Source};
 
 /// A file `broken`, which can't be read for want of memory, and no other. None can be written.
 #[derive(Drop)]

@@ -7,7 +7,7 @@ use spa_meet_commands::progress::Unwatched;
 use std::alloc::{AllocError, Global};
 use std::cell::Cell;
 use std::io::{self, Error, ErrorKind};
-use test_streams::{ALL, Device, PIECE, Source};
+use test_bytes::streams::{ALL, Device, PIECE, Source};
 
 /// A Bool of 7 with padding that is no zeros, and one that is rewritten as it is.
 const BEFORE: &[u8] = &[

@@ -7,8 +7,8 @@
 use spa_pod_commands::run::run;
 use std::alloc::{AllocError, Global};
 use std::io::{self, Error, ErrorKind};
+use test_bytes::streams::{Device, OneLine, PIECE, Source, Words};
 use test_bytes::{SpellingError, bytes_spelled};
-use test_streams::{Device, OneLine, PIECE, Source, Words};
 
 /// Prints the answer of each row.
 fn main(rt: HostRuntime) -> io::Result<()> {

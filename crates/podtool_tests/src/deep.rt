@@ -3,7 +3,7 @@ use crate::streams::{Wanted, assert_run};
 use std::alloc::{AllocError, Global};
 use std::process::Abort;
 use test_bytes::nested_pods;
-use test_streams::{ALL, Device, Source};
+use test_bytes::streams::{ALL, Device, Source};
 
 /// How many structs or objects are nested in one another: a stack that grows with each level doesn't suffice for them.
 const DEEP: u32 = 20_000;

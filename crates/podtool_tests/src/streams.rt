@@ -3,7 +3,7 @@ use spa_pod_commands::run::run;
 use std::alloc::{AllocError, Global};
 use std::io::ErrorKind;
 use std::process::Abort;
-use test_streams::{Device, PIECE, Source};
+use test_bytes::streams::{Device, PIECE, Source};
 
 /// What is said where memory is refused.
 const WANTING: &str = "podtool: out of memory\n";

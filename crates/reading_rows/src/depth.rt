@@ -3,8 +3,8 @@ use crate::changes::push_dispute;
 use crate::front::push_front;
 use crate::headers::answer_headers;
 use spa_bodies::error_at;
-use spa_rewrite::{Rejected, find_fault, is_canonical, look_at_pod};
-use spa_scan::nests_within;
+use spa_canonical::{Rejected, look_at_pod, nests_within};
+use spa_rewrite::{find_fault, is_canonical};
 use std::alloc::{AllocError, Global};
 use test_bytes::{nested_pods, nested_structs, push_words};
 

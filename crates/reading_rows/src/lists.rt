@@ -1,8 +1,8 @@
 //! Rewriting lists of pods, by the calls that take a list.
 use spa_bodies::error_at;
+use spa_canonical::{Rejected, canonical_stretch, look_at_pods};
 use spa_fixed_sized::DeserializeError;
-use spa_in_place::rewrite_in_place;
-use spa_rewrite::{Rejected, accept_all, canonical_stretch, look_at_pods, rewrite_all};
+use spa_rewrite::{accept_all, rewrite_all, rewrite_in_place};
 use std::alloc::{AllocError, Global};
 use test_bytes::push_spelling;
 

@@ -1,12 +1,12 @@
 -- A pod that is at hand: where its value may come next, and what its bytes say of it.
 use Rattle.std.proofs.Common.{◌≡◌, ◌≢◌, ℕ, ◌+◌, ◌<◌, List, [], ◌∷◌, length, refl, sym, ap, ◌∙◌, subst, arith, Bool, true, false, inl, inr, Err}
-use Rattle.std.specs.Prelude.{Option, Some, None, Result, is_some, nat_lt}
+use Rattle.std.specs.Prelude.{Option, Some, None, Result, is_some}
 use Rattle.std.proofs.lemmas.List.{take_all}
 use Rattle.spa_format.specs.Faults.{Fault, Stands}
 use Rattle.spa_format.specs.Faults as fault
 use Rattle.spa_format.specs.Kind.{Fixed, Kind, kind_of, type_number}
 use Rattle.spa_format.specs.Tree.{Tree, Trees, fixed, type_of}
-use Rattle.spa_format.specs.Words.{extent, size_limit, word_at}
+use Rattle.spa_format.specs.Words.{extent, word_at}
 use Rattle.spa_format.specs.Pod.{IsPod, IsWhole}
 use Rattle.spa_format.specs.Encoding.{encoded_body, encoding_of}
 use Rattle.spa_format.specs.Front.{Begins, front_of, rest_of}
@@ -19,11 +19,11 @@ use Rattle.spa_format.proofs.Shapes.{fixed_only}
 use Rattle.spa_format.proofs.Unique.{one_value}
 use Rattle.spa_fixed_sized.specs.declared.fault.Refusal.{Refusal}
 use Rattle.spa_fixed_sized.specs.declared.fault.Refusal.TheVariants as R
-use Rattle.spa_scan.specs.Canonical.{BeginsCanonical}
-use Rattle.spa_scan.specs.Depth.{depth_of, levels_looked_into}
+use Rattle.spa_canonical.specs.Canonical.{BeginsCanonical}
+use Rattle.spa_canonical.specs.Depth.{depth_of, levels_looked_into}
 use Rattle.spa_read.specs.Nesting.{RefusesAt}
 use Rattle.spa_builder.specs.State.{Partial, State}
-use Rattle.spa_builder.specs.Step.{add, has_nul, state_with_value, outcome_if_fits, step}
+use Rattle.spa_builder.specs.Step.{add, has_nul, state_with_value, outcome_with_value, step}
 use Rattle.spa_builder.specs.Fields.{BuilderFields, all_so_far, what_of}
 use Rattle.spa_builder.specs.Innermost.{has_elements, innermost_of, takes_element, takes_elements}
 use Rattle.spa_builder.specs.Answers.{IsCopied, Makes, MakesPod, MakesValue}
@@ -139,8 +139,7 @@ refused_read b place n R.OutOfMemory l m f = absurd (m refl)
 
 pub copied_step : (s : State) (b rest : List ℕ) (old new : BuilderFields) (r : Result (Unit {0}) Errno) →
     IsBytes b → length b ≡ extent (word_at b 0) → (c : BeginsCanonical b rest) →
-    Makes (outcome_if_fits (nat_lt (length (encoded_body c.value)) size_limit)
-    (state_with_value s.closed s.opened c.value)) old new r → Makes (step s (add c.value)) old new r
+    Makes (outcome_with_value s c.value) old new r → Makes (step s (add c.value)) old new r
 copied_step s b rest old new r h l c m =
     let w = writable b c.value h (own_pod b c.value l c.begins.begins) in
     without_nul (has_nul c.value) _ old new r (clean c.value w.no_nul) m

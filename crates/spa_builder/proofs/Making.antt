@@ -9,7 +9,7 @@ use Rattle.spa_format.specs.Tree.{Shape, Tree, fixed, string, bytes, bitmap, arr
 use Rattle.spa_format.specs.Encoding.{encoded_body, encoding_of, member_encodings, property_encodings}
 use Rattle.spa_format.specs.Writable.{SomeValueHasNul, IsTooLarge, SomeValueTooLarge, IsWritable}
 use Rattle.spa_builder.specs.State.{Partial, open_struct, open_object, open_property, open_array, open_choice, State, start, with_tree, with_property}
-use Rattle.spa_builder.specs.Step.{Call, abandon, state_after_abandon, tree_with_value, closed_value, push_array, push_choice, shape_of, Outcome, Accepts, Inval, Nospc, add, add_prop, all_fit, state_with_tree, state_after_pop, has_nul, state_with_key, own_size, state_with_value, pop, push_object, push_struct, outcome_if_fits, some_has_nul, some_value_has_nul, step, outcome_of, takes_trees}
+use Rattle.spa_builder.specs.Step.{Call, abandon, state_after_abandon, tree_with_value, closed_value, push_array, push_choice, shape_of, Outcome, Accepts, Inval, Nospc, add, add_prop, all_fit, state_with_tree, state_after_pop, has_nul, state_with_key, own_size, state_with_value, pop, push_object, push_struct, outcome_if_fits, outcome_with_tree, outcome_with_value, some_has_nul, some_value_has_nul, step, outcome_of, takes_trees}
 use Rattle.spa_builder.specs.Fields.{BuilderFields, IsAt}
 use Rattle.spa_builder.specs.Innermost.{trees_with_value}
 use Rattle.spa_builder.specs.Answers.{Makes}
@@ -165,7 +165,7 @@ sized_by o t e f = ap (outcome_if_fits true) e ∙ ap (λ b. cond b (Accepts t) 
 
 adds : (s t : State) (v : Tree) → Added s t v → step s (add v) ≡ Accepts t
 adds s t v a =
-    ap (λ b. cond b Inval (outcome_if_fits (nat_lt (length (encoded_body v)) size_limit) (state_with_value s.closed s.opened v))) a.nul
+    ap (λ b. cond b Inval (outcome_with_value s v)) a.nul
     ∙ ap (λ b. outcome_if_fits b (state_with_value s.closed s.opened v)) (lt_test (length (encoded_body v)) size_limit a.small)
     ∙ sized_by (state_with_value s.closed s.opened v) t a.place a.fit
 
@@ -187,7 +187,7 @@ takes_it s t v n e = takes_by (takes_trees s.opened) (λ h. absurd (none_some t 
 -- ---- what is begun, keyed and closed
 
 starts : (s : State) (p : Partial) → takes_trees s.opened ≡ true → all_fit 0 (p ∷ s.opened) ≡ true →
-    outcome_if_fits true (state_with_tree p s) ≡ Accepts (record { closed = s.closed; opened = p ∷ s.opened })
+    outcome_with_tree s p ≡ Accepts (record { closed = s.closed; opened = p ∷ s.opened })
 starts s p h f = sized_by (state_with_tree p s) (record { closed = s.closed; opened = p ∷ s.opened }) (begun_is s p h) f
 
 abbrev inside : Trees → Partial → List Partial → State
@@ -422,7 +422,7 @@ open_begun true s p u e = let l = open_in (inside s.closed p s.opened) u e in om
 open_begun false s p u e = absurd (cc)
 
 open_choice_begun : (o : Option Shape) (f : ℕ) (s u : State) →
-    (elim o as (λ _. Outcome) [ Some h ↦ outcome_if_fits true (state_with_tree (open_choice h f []) s) | None ↦ Inval ]) ≡ Accepts u →
+    (elim o as (λ _. Outcome) [ Some h ↦ outcome_with_tree s (open_choice h f []) | None ↦ Inval ]) ≡ Accepts u →
     length u.opened ≡ length s.opened + 1
 open_choice_begun (Some h) f s u e =
     open_begun (takes_trees s.opened) s (open_choice h f []) u (sized_some (state_with_tree (open_choice h f []) s) u e)

@@ -1,15 +1,15 @@
 -- A value that isn't an element, by what the test for it says.
 use Rattle.std.proofs.Common.{◌≡◌, ℕ, ◌<◌, ◌≤◌, ◌++◌, length, refl, sym, ap, ◌∙◌, subst, Bool, true, false, ◌&&◌, Ok, Err, inl, inr}
-use Rattle.std.specs.Prelude.{nat_lt, IsErrAnd, Result, None}
+use Rattle.std.specs.Prelude.{IsErrAnd, Result}
 use Rattle.std.proofs.lemmas.Result.{err_from_is_err_and}
 use Rattle.spa_format.specs.Words.{extent, size_limit}
 use Rattle.spa_format.specs.Tree.{Tree}
 use Rattle.spa_format.specs.Encoding.{encoded_body, encoding_of, member_encodings}
 use Rattle.spa_builder.specs.State.{State}
-use Rattle.spa_builder.specs.Step.{all_fit, state_with_value, outcome_if_fits, takes_trees}
+use Rattle.spa_builder.specs.Step.{all_fit, outcome_with_value, takes_trees}
 use Rattle.spa_builder.specs.Fields.{BuilderFields, IsAt, frames_of}
 use Rattle.spa_builder.specs.Innermost.{trees_with_value}
-use Rattle.spa_builder.specs.Answers.{IsAdmitted, Makes}
+use Rattle.spa_builder.specs.Answers.{IsAdmitted, IsNoElement, Makes}
 use Rattle.spa_utils.specs.declared.errno.Errno.{Errno}
 use Rattle.spa_utils.specs.declared.errno.TheConstants.Errno.{NOMEM}
 use Rattle.spa_builder.proofs.Members.{not_above}
@@ -25,24 +25,16 @@ left_false true c e = absurd (cc)
 left_false false c e = refl
 
 refused_so : (s : State) (v : Tree) (old : BuilderFields) (n : ℕ) (e : Errno) → IsAt old s → IsSizeOf n v →
-    (takes_trees s.opened ≡ false → state_with_value s.closed s.opened v ≡ None) →
-    IsAdmitted n s.opened (Err e) →
-    Makes {A = Unit {0}} (outcome_if_fits (nat_lt (length (encoded_body v)) size_limit)
-    (state_with_value s.closed s.opened v)) old old (Err e)
+    IsNoElement s v →
+    IsAdmitted n s.opened (Err e) → Makes {A = Unit {0}} (outcome_with_value s v) old old (Err e)
 refused_so s v old n e at size none (inl h) =
-    subst (λ x. Makes {A = Unit {0}}
-    (outcome_if_fits (nat_lt (length (encoded_body v)) size_limit) (state_with_value s.closed s.opened v)) old old
-    (Err x)) (sym h.0) (sized_inval _ _ _ old (none h.1))
+    subst (λ x. Makes {A = Unit {0}} (outcome_with_value s v) old old (Err x)) (sym h.0) (sized_inval _ _ _ old (none h.1))
 refused_so s v old n e at size none (inr (h, t, inl l)) =
-    subst (λ x. Makes {A = Unit {0}}
-    (outcome_if_fits (nat_lt (length (encoded_body v)) size_limit) (state_with_value s.closed s.opened v)) old old
-    (Err x)) (sym h)
+    subst (λ x. Makes {A = Unit {0}} (outcome_with_value s v) old old (Err x)) (sym h)
     (sized_nospc _ _ _ (after s.closed s.opened v) old (placed_is s.closed s.opened v t)
     (left_false _ _ (not_above _ _ (size.large l))))
 refused_so s v old n e at size none (inr (h, t, inr (l, r))) =
-    subst (λ x. Makes {A = Unit {0}}
-    (outcome_if_fits (nat_lt (length (encoded_body v)) size_limit) (state_with_value s.closed s.opened v)) old old
-    (Err x)) (sym h)
+    subst (λ x. Makes {A = Unit {0}} (outcome_with_value s v) old old (Err x)) (sym h)
     (sized_nospc _ _ _ (after s.closed s.opened v) old (placed_is s.closed s.opened v t)
     (and_false _ _ (added_fit s.opened v (extent n) (ap extent (size.exact l)) t at.nested
     ∙ r)))
@@ -53,21 +45,16 @@ passed r e h = let p = err_from_is_err_and r h in rw (p.1, p.2) refl
 -- refused by the test
 pub not_admitted : (s : State) (v : Tree) (old : BuilderFields) (n : ℕ) (e : Errno)
     (r : Result (Unit {0}) Errno) → IsErrAnd r (λ y. y ≡ e) → IsAt old s → IsSizeOf n v →
-    (takes_trees s.opened ≡ false → state_with_value s.closed s.opened v ≡ None) →
-    IsAdmitted n s.opened (Err e) →
-    Makes {A = Unit {0}} (outcome_if_fits (nat_lt (length (encoded_body v)) size_limit)
-    (state_with_value s.closed s.opened v)) old old r
+    IsNoElement s v →
+    IsAdmitted n s.opened (Err e) → Makes {A = Unit {0}} (outcome_with_value s v) old old r
 not_admitted s v old n e r h at size none k =
-    subst (Makes {A = Unit {0}}
-    (outcome_if_fits (nat_lt (length (encoded_body v)) size_limit) (state_with_value s.closed s.opened v)) old old)
-    (sym (passed r e h)) (refused_so s v old n e at size none k)
+    subst (Makes {A = Unit {0}} (outcome_with_value s v) old old) (sym (passed r e h)) (refused_so s v old n e at size none k)
 
 -- admitted, and refused for lack of memory
 pub admitted_nomem : (s : State) (v : Tree) (old new : BuilderFields) (n : ℕ) (x : Unit {0})
     (r : Result (Unit {0}) Errno) → IsAt old s → IsSizeOf n v → IsAdmitted n s.opened (Ok x) →
     r ≡ Err NOMEM → new ≡ old →
-    Makes (outcome_if_fits (nat_lt (length (encoded_body v)) size_limit) (state_with_value s.closed s.opened v)) old new
-    r
+    Makes (outcome_with_value s v) old new r
 admitted_nomem s v old new n x r at size k e f =
     sized_nomem _ _ (after s.closed s.opened v) old new r
     (lt_test _ _ (subst (λ m. m < size_limit) (size.exact k.1) k.1))
@@ -78,9 +65,7 @@ admitted_nomem s v old new n x r at size k e f =
 pub admitted : (s : State) (v : Tree) (old new : BuilderFields) (n : ℕ) (x y : Unit {0}) → IsAt old s →
     IsSizeOf n v → IsAdmitted n s.opened (Ok x) → new.bytes ≡ old.bytes ++ encoding_of v →
     (takes_trees s.opened ≡ true → new.frames ≡ frames_of (length (member_encodings s.closed))
-    (trees_with_value s.opened v)) → Makes
-    (outcome_if_fits (nat_lt (length (encoded_body v)) size_limit) (state_with_value s.closed s.opened v)) old new
-    (Ok y)
+    (trees_with_value s.opened v)) → Makes (outcome_with_value s v) old new (Ok y)
 admitted s v old new n x y at size k b f =
     let fit : all_fit 0 (trees_with_value s.opened v) ≡ true =
     added_fit s.opened v (extent n) (ap extent (size.exact k.1)) k.0 at.nested ∙ k.2 in

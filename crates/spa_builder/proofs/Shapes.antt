@@ -3,7 +3,7 @@ use Rattle.std.proofs.Common.{◌≡◌, ◌≤◌, ◌⊎◌, inl, inr, ℕ, []
 use Rattle.std.specs.Prelude.{Option, Some, None, Result}
 use Rattle.spa_format.specs.Tree.{Shape, none_choice, range_choice, step_choice, enum_choice, flags_choice, shape_number}
 use Rattle.spa_builder.specs.State.{State, open_choice}
-use Rattle.spa_builder.specs.Step.{Outcome, Inval, state_with_tree, push_choice, shape_of, outcome_if_fits, step}
+use Rattle.spa_builder.specs.Step.{Outcome, Inval, push_choice, shape_of, outcome_with_tree, step}
 use Rattle.spa_builder.specs.Fields.{BuilderFields}
 use Rattle.spa_builder.specs.Answers.{Makes}
 use Rattle.spa_utils.specs.declared.errno.Errno.{Errno}
@@ -25,12 +25,8 @@ shape_with n h = with_shape n (is_one n h)
 
 -- what is begun with a shape is begun with its number
 pub begun_with : {A : Type 0} (n f : ℕ) (h : Shape) (s : State) (old new : BuilderFields)
-    (r : Result A Errno) → shape_of n ≡ Some h → Makes (outcome_if_fits true (state_with_tree (open_choice h f []) s))
+    (r : Result A Errno) → shape_of n ≡ Some h → Makes (outcome_with_tree s (open_choice h f []))
     old new r → Makes (step s (push_choice n f)) old new r
 begun_with {A = A} n f h s old new r e m =
     subst (λ (o : Option Shape). Makes {A = A}
-    (elim o as (λ _. Outcome) [
-      | Some k ↦ outcome_if_fits true (state_with_tree (open_choice k f []) s)
-      | None ↦
-          Inval
-    ]) old new r) (sym e) m
+    (elim o as (λ _. Outcome) [ Some k ↦ outcome_with_tree s (open_choice k f []) | None ↦ Inval ]) old new r) (sym e) m

@@ -1,17 +1,18 @@
 -- The answer of a call, and the builder after it, by the outcome of the model's step.
-use Rattle.std.specs.Prelude.{◌≡◌, ◌≢◌, ◌<◌, ◌≤◌, ◌⊎◌, ℕ, List, [], ◌++◌, true, false, None, Result, Ok, Err, IsErrAnd}
+use Rattle.std.specs.Prelude.{◌≡◌, ◌≢◌, ◌<◌, ◌≤◌, ◌⊎◌, ℕ, List, [], ◌++◌, length, true, false, None, Result, Ok, Err, IsErrAnd}
 use Rattle.spa_format.specs.Words.{extent, size_limit}
-use Rattle.spa_format.specs.Encoding.{encoding_of, member_encodings}
+use Rattle.spa_format.specs.Encoding.{encoded_body, encoding_of, member_encodings}
+use Rattle.spa_format.specs.Kind.{Fixed, fixed_body, kind_of, type_number}
 use Rattle.spa_format.specs.Pod.{IsPod}
-use Rattle.spa_format.specs.Tree.{Tree}
+use Rattle.spa_format.specs.Tree.{Tree, fixed, type_of}
 use Rattle.spa_format.specs.Writable.{HasNul, IsTooLarge}
-use Rattle.spa_scan.specs.Depth.{depth_of, levels_looked_into}
+use Rattle.spa_canonical.specs.Depth.{depth_of, levels_looked_into}
 use Rattle.spa_sink.specs.declared.gen_error.GenError.{GenError}
 use Rattle.spa_sink.specs.declared.gen_error.GenError.TheVariants.{Full, TooLarge, NulInText, WrongCount, Failed, Io, OutOfMemory}
 use Rattle.spa_builder.specs.State.{Partial, State}
-use Rattle.spa_builder.specs.Step.{Outcome, Accepts, Inval, Nospc, add, state_with_value, step, takes_trees}
+use Rattle.spa_builder.specs.Step.{Call, Outcome, Accepts, Inval, Nospc, add, outcome_with_value, state_with_value, step, takes_trees}
 use Rattle.spa_builder.specs.Fields.{BuilderFields, IsAt}
-use Rattle.spa_builder.specs.Innermost.{has_room_for}
+use Rattle.spa_builder.specs.Innermost.{has_room_for, takes_elements}
 use Rattle.spa_utils.specs.declared.errno.Errno.{Errno}
 use Rattle.spa_utils.specs.declared.errno.TheConstants.Errno.{NOMEM, INVAL, NOSPC}
 
@@ -23,6 +24,29 @@ Makes Inval old new (Ok x) = ⊥
 Makes Inval old new (Err e) = (e ≡ INVAL) × (new ≡ old)
 Makes Nospc old new (Ok x) = ⊥
 Makes Nospc old new (Err e) = (e ≡ NOSPC) × (new ≡ old)
+
+-- where the builder is at a state, the call's answer and effect are those of the model's step
+abbrev pub MakesStep : {A : Type 0} → Call → BuilderFields → BuilderFields → Result A Errno → Type 0
+MakesStep c old new r = (s : State) → IsAt old s → Makes (step s c) old new r
+
+-- the value is allowed next only where a tree of any type is: it is no element
+abbrev pub IsNoElement : State → Tree → Type 0
+IsNoElement s v = takes_trees s.opened ≡ false → state_with_value s.closed s.opened v ≡ None
+
+-- a value of this type and with this body, if it is no element, is added as the model adds it
+abbrev pub AddsBody : (type : ℕ) → List ℕ → BuilderFields → BuilderFields → Result (Unit {0}) Errno → Type 0
+AddsBody type body old new r = (s : State) (v : Tree) → IsAt old s → type_of v ≡ type → encoded_body v ≡ body → IsNoElement s v →
+    Makes (outcome_with_value s v) old new r
+
+-- a value with a body of this size and this encoding, if it is no element, is added as the model adds it
+abbrev pub AddsEncoding : (size : ℕ) → List ℕ → BuilderFields → BuilderFields → Result (Unit {0}) Errno → Type 0
+AddsEncoding size encoding old new r = (s : State) (v : Tree) → IsAt old s → length (encoded_body v) ≡ size → encoding_of v ≡ encoding →
+    IsNoElement s v → Makes (outcome_with_value s v) old new r
+
+-- where elements are taken, a value of fixed size with this type and this body is added as the model adds it
+abbrev pub AddsElement : (type : ℕ) → List ℕ → BuilderFields → BuilderFields → Result (Unit {0}) Errno → Type 0
+AddsElement type body old new r = (s : State) (x : Fixed) → IsAt old s → type_number (kind_of x) ≡ type → fixed_body x ≡ body →
+    takes_elements s.opened ≡ true → Makes (outcome_with_value s (fixed x)) old new r
 
 -- A value that is allowed next is walked, and the first obstacle is answered: want of memory, or a size in it that doesn't fit a word
 -- of 32 bits. Nothing is changed.

@@ -1,10 +1,12 @@
 -- Values that are built call by call: docs/FORMAT.md, "Making pods call by call".
-use Rattle.std.specs.Prelude.{◌≡◌, ℕ, ◌+◌, ◌-◌, List, [], ◌∷◌, ◌++◌, length, Some}
+use Rattle.std.specs.Prelude.{◌≡◌, ℕ, ◌+◌, ◌-◌, List, [], ◌∷◌, ◌++◌, length, Some, Result, MatchResult}
 use Rattle.spa_format.specs.Tree.{Tree, fixed, struct, object, Trees, no_trees, member, Properties, no_properties, property}
 use Rattle.spa_builder.specs.State.{State}
 use Rattle.spa_builder.specs.Step.{Call, abandon, add, add_prop, pop, push_array, push_choice, push_object, push_struct}
 use Rattle.spa_builder.specs.Fields.{BuilderFields, IsAt}
 use Rattle.spa_builder.specs.Replay.{state_from}
+use Rattle.spa_utils.specs.declared.errno.Errno.{Errno}
+use Rattle.spa_utils.specs.declared.errno.TheConstants.Errno.{NOMEM}
 
 -- the state with this value closed, no other value, and no open tree
 abbrev pub state_of_value : Tree → State
@@ -42,6 +44,10 @@ pub record ComesTo (n : ℕ) (t : State) (calls : List Call) (builder : BuilderF
   pub at : IsAt builder state
   pub depth : length state.opened ≡ n
   pub run : state_from state calls ≡ Some t
+
+-- after `Ok` the calls behind this one bring the builder to this state; a refusal is for want of memory, and changes nothing
+abbrev pub GoesOn : {A : Type 0} → ℕ → State → Call → List Call → BuilderFields → BuilderFields → Result A Errno → Type 0
+GoesOn n t c cs old new r = MatchResult r (λ _. ComesTo (open_behind n c) t cs new) (λ e. (e ≡ NOMEM) × (new ≡ old))
 
 -- each value is of fixed size
 abbrev pub AreFixed : Properties → Type 0

@@ -151,6 +151,14 @@ abbrev pub outcome_if_fits : Bool → Option State → Outcome
 outcome_if_fits fits None = Inval
 outcome_if_fits fits (Some s) = cond (fits && all_fit 0 s.opened) (Accepts s) Nospc
 
+-- the outcome of adding this value, where no text in it holds NUL
+abbrev pub outcome_with_value : State → Tree → Outcome
+outcome_with_value s v = outcome_if_fits (nat_lt (length (encoded_body v)) size_limit) (state_with_value s.closed s.opened v)
+
+-- the outcome of opening this tree
+abbrev pub outcome_with_tree : State → Partial → Outcome
+outcome_with_tree s p = outcome_if_fits true (state_with_tree p s)
+
 -- the outcome: the next state where there is one, else INVAL
 abbrev pub outcome_of : Option State → Outcome
 outcome_of None = Inval
@@ -169,11 +177,11 @@ state_after_abandon closed (p ∷ ps) frame = cond (nat_eq frame (length (p ∷ 
 -- the outcome of a call in a state: of `push_struct` and then `add (fixed (int 3))` from the start, Accepts of a state with one open struct, which has the
 -- member Int 3; of `pop 2` then Inval, as the struct's frame is 1
 abbrev pub step : State → Call → Outcome
-step s (add v) = cond (has_nul v) Inval (outcome_if_fits (nat_lt (length (encoded_body v)) size_limit) (state_with_value s.closed s.opened v))
+step s (add v) = cond (has_nul v) Inval (outcome_with_value s v)
 step s (add_prop k f) = outcome_if_fits true (state_with_key s.closed s.opened k f)
-step s push_struct = outcome_if_fits true (state_with_tree (open_struct no_trees) s)
-step s (push_object t i) = outcome_if_fits true (state_with_tree (open_object t i no_properties) s)
-step s push_array = outcome_if_fits true (state_with_tree (open_array []) s)
-step s (push_choice n f) = elim (shape_of n) as (λ _. Outcome) [ Some h ↦ outcome_if_fits true (state_with_tree (open_choice h f []) s) | None ↦ Inval ]
+step s push_struct = outcome_with_tree s (open_struct no_trees)
+step s (push_object t i) = outcome_with_tree s (open_object t i no_properties)
+step s push_array = outcome_with_tree s (open_array [])
+step s (push_choice n f) = elim (shape_of n) as (λ _. Outcome) [ Some h ↦ outcome_with_tree s (open_choice h f []) | None ↦ Inval ]
 step s (pop frame) = outcome_of (state_after_pop s.closed s.opened frame)
 step s (abandon frame) = outcome_of (state_after_abandon s.closed s.opened frame)

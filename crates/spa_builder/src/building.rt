@@ -1,19 +1,19 @@
 //! The calls of a builder, over its bytes and its frames.
-ghost use Rattle.std.specs.Prelude.{◌≡◌, ◌+◌, ◌*◌, ◌<◌, ◌≤◌, ◌∷◌, ◌++◌, [], List, ℕ, None, IsTrue, false, length, map, nat_lt, Decides, IfOk, true};
-ghost use Rattle.spa_format.specs.Kind.{Fixed, kind_of, type_number, fixed_body};
+ghost use Rattle.std.specs.Prelude.{◌≡◌, ◌+◌, ◌*◌, ◌<◌, ◌≤◌, ◌∷◌, ◌++◌, [], List, ℕ, None, IsTrue, false, length, map, Decides, IfOk, true};
+ghost use Rattle.spa_format.specs.Kind.{Fixed};
 ghost use Rattle.spa_fixed_sized.specs.Choices.{choice_tree};
 ghost use Rattle.spa_fixed_sized.specs.Reading.{AreWhole};
 ghost use Rattle.spa_format.specs.Pod.{AreElements};
-ghost use Rattle.spa_format.specs.Tree.{Tree, array, fixed, type_of};
-ghost use Rattle.spa_format.specs.Encoding.{encoded_body, encoding_of};
+ghost use Rattle.spa_format.specs.Tree.{array, fixed};
+ghost use Rattle.spa_format.specs.Encoding.{encoded_body};
 ghost use Rattle.spa_format.specs.Words.{header_size, size_limit, word_bytes};
 ghost use Rattle.spa_value.specs.View.{array_view};
 ghost use Rattle.spa_builder.specs.State.{Partial, State};
-ghost use Rattle.spa_builder.specs.Step.{state_after_abandon, add, state_with_tree, state_after_pop, state_with_key, state_with_value, outcome_if_fits, step, outcome_of, takes_trees};
+ghost use Rattle.spa_builder.specs.Step.{state_after_abandon, add, state_after_pop, state_with_key, outcome_if_fits, outcome_with_tree, step, outcome_of};
 ghost use Rattle.spa_builder.specs.Fields.{IsAt, IsFair, HasState, fields_of, so_far, what_of};
 ghost use Rattle.spa_builder.specs.Framed.{is_nothing};
 ghost use Rattle.spa_builder.specs.Innermost.{takes_elements};
-ghost use Rattle.spa_builder.specs.Answers.{Makes};
+ghost use Rattle.spa_builder.specs.Answers.{AddsBody, AddsElement, AddsEncoding, Makes};
 
 use crate::begun::{BegunPod, Stage, What};
 use crate::bytes::{put_bodies, put_fixed_pod, put_padding, put_pod};
@@ -36,11 +36,8 @@ pub(crate) fn add_body(
 ) -> Result<(), Errno>
     requires holds { HasState (fields_of bytes.old frames.old) }
     requires back { length back.now ≤ header_size }
-    ensures { (s : State) (v : Tree) → IsAt (fields_of bytes.old frames.old) s
-        → type_of v ≡ type_ → encoded_body v ≡ front.now ++ back.now
-        → (takes_trees s.opened ≡ false → state_with_value s.closed s.opened v ≡ None)
-        → Makes (outcome_if_fits (nat_lt (length (encoded_body v)) size_limit) (state_with_value s.closed s.opened v))
-        (fields_of bytes.old frames.old) (fields_of bytes.new frames.new) result }
+    ensures { AddsBody type_ (front.now ++ back.now) (fields_of bytes.old frames.old)
+        (fields_of bytes.new frames.new) result }
 {
     let innermost = frames.innermost();
     let size = front.len().saturating_add(back.len());
@@ -59,11 +56,8 @@ pub(crate) fn add_encoding(
     encoding: &[u8],
 ) -> Result<(), Errno>
     requires holds { HasState (fields_of bytes.old frames.old) }
-    ensures { (s : State) (v : Tree) → IsAt (fields_of bytes.old frames.old) s
-        → length (encoded_body v) ≡ size → encoding_of v ≡ encoding.now
-        → (takes_trees s.opened ≡ false → state_with_value s.closed s.opened v ≡ None)
-        → Makes (outcome_if_fits (nat_lt (length (encoded_body v)) size_limit) (state_with_value s.closed s.opened v))
-        (fields_of bytes.old frames.old) (fields_of bytes.new frames.new) result }
+    ensures { AddsEncoding size encoding.now (fields_of bytes.old frames.old)
+        (fields_of bytes.new frames.new) result }
 {
     let innermost = frames.innermost();
     admit(bytes.len(), frames, size)?;
@@ -245,10 +239,7 @@ fn add_element(
 ) -> Result<(), Errno>
     requires holds { HasState (fields_of bytes.old frames.old) }
     requires body { length body.now ≤ header_size }
-    ensures { (s : State) (x : Fixed) → IsAt (fields_of bytes.old frames.old) s
-        → type_number (kind_of x) ≡ type_ → fixed_body x ≡ body.now → takes_elements s.opened ≡ true
-        → Makes (outcome_if_fits (nat_lt (length (fixed_body x)) size_limit)
-        (state_with_value s.closed s.opened (fixed x))) (fields_of bytes.old frames.old)
+    ensures { AddsElement type_ body.now (fields_of bytes.old frames.old)
         (fields_of bytes.new frames.new) result }
 {
     let Some(open) = frames.innermost() else {
@@ -324,7 +315,7 @@ pub(crate) fn begin_tree<const N: usize>(
     requires size { length head ≡ N }
     ensures step { (s : State) (p : Partial) → IsAt (fields_of bytes.old frames.old) s
         → what ≡ what_of p → head.entry ≡ so_far p → IsFair p
-        → Makes (outcome_if_fits true (state_with_tree p s)) (fields_of bytes.old frames.old)
+        → Makes (outcome_with_tree s p) (fields_of bytes.old frames.old)
         (fields_of bytes.new frames.new) result }
     ensures frame { (s : State) → IsAt (fields_of bytes.old frames.old) s
         → IfOk result (λ f. f.0 ≡ length s.opened + 1) }

@@ -1,13 +1,13 @@
 //! Laws of building, over the definitions alone. Each function does nothing: its contract is the law.
-ghost use Rattle.std.specs.Prelude.{◌≡◌, ◌<◌, ◌^◌, ◌∷◌, [], ℕ, List, IfErr, MatchResult, OnOk, Result, Some, length};
+ghost use Rattle.std.specs.Prelude.{◌≡◌, ◌<◌, ◌^◌, ◌∷◌, [], ℕ, List, IfErr, OnOk, Result, Some, length};
 ghost use Rattle.spa_format.specs.Tree.{Properties, Tree, object, property_node_count};
 ghost use Rattle.spa_format.specs.Writable.{IsWritable};
 ghost use Rattle.spa_builder.specs.State.{State, start};
 ghost use Rattle.spa_builder.specs.Step.{Accepts, Call, add, pop, step};
 ghost use Rattle.spa_builder.specs.Fields.{BuilderFields, IsAt};
-ghost use Rattle.spa_builder.specs.Answers.{Makes};
+ghost use Rattle.spa_builder.specs.Answers.{MakesStep};
 ghost use Rattle.spa_builder.specs.Replay.{state_after_calls, state_from};
-ghost use Rattle.spa_builder.specs.Making.{AreFixed, ComesTo, state_of_value, calls_for, open_behind};
+ghost use Rattle.spa_builder.specs.Making.{AreFixed, ComesTo, GoesOn, state_of_value, calls_for};
 ghost use Rattle.spa_utils.specs.declared.errno.Errno.{Errno};
 ghost use Rattle.spa_utils.specs.declared.frame.Frame.{Frame};
 ghost use Rattle.spa_utils.specs.declared.errno.TheConstants.Errno.{NOMEM};
@@ -26,13 +26,13 @@ pub fn values_are_made_call_by_call()
 pub fn calls_go_on()
     ensures answered { (n : ℕ) (t : State) (c : Call) (cs : List Call) (old new : BuilderFields)
         (r : Result (Unit {0}) Errno) → ComesTo n t (c ∷ cs) old
-        → ((s : State) → IsAt old s → Makes (step s c) old new r)
-        → MatchResult r (λ _. ComesTo (open_behind n c) t cs new) (λ e. (e ≡ NOMEM) × (new ≡ old)) }
+        → MakesStep c old new r
+        → GoesOn n t c cs old new r }
     ensures begun { (n : ℕ) (t : State) (c : Call) (cs : List Call) (old new : BuilderFields) (r : Result Frame Errno)
-        → ComesTo n t (c ∷ cs) old → ((s : State) → IsAt old s → Makes (step s c) old new r)
-        → MatchResult r (λ _. ComesTo (open_behind n c) t cs new) (λ e. (e ≡ NOMEM) × (new ≡ old)) }
+        → ComesTo n t (c ∷ cs) old → MakesStep c old new r
+        → GoesOn n t c cs old new r }
     ensures last { (n : ℕ) (t : State) (c : Call) (old new : BuilderFields) (r : Result (Unit {0}) Errno)
-        → ComesTo n t (c ∷ []) old → ((s : State) → IsAt old s → Makes (step s c) old new r) → OnOk r (IsAt new t)
+        → ComesTo n t (c ∷ []) old → MakesStep c old new r → OnOk r (IsAt new t)
         × IfErr r (λ e. e ≡ NOMEM) }
     // A pod is closed by the frame that opening it answered.
     ensures frame { (n m frame : ℕ) (t : State) (cs : List Call) (b : BuilderFields) → frame ≡ m

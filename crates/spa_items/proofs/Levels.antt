@@ -12,8 +12,8 @@ use Rattle.spa_format.specs.Walk.{extent_behind, walk, walk_at_most, walk_behind
 use Rattle.spa_format.specs.Words.{body_of, word_at}
 use Rattle.spa_format.proofs.WalkLemmas.{length-take_extent}
 use Rattle.spa_format.proofs.WordLemmas.{word_at-drop}
-use Rattle.spa_scan.specs.Depth.{IsDeepBody, NestsDeeper, SomeOf}
-use Rattle.spa_scan.proofs.Deeper.{of_body}
+use Rattle.spa_canonical.specs.Depth.{IsDeepBody, NestsDeeper, SomeOf}
+use Rattle.spa_canonical.proofs.Deeper.{of_body}
 use Rattle.spa_items.specs.Items.{head, items_along, items_in, items_inside, items_of, items_within, overlaid}
 use Rattle.spa_items.specs.Puts.{ArePut}
 use Rattle.spa_items.specs.declared.item.Item.{Item}

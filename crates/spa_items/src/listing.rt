@@ -9,14 +9,14 @@ ghost use Rattle.spa_format.specs.Words.{header_size, padded_size, word_at};
 ghost use Rattle.spa_events.specs.Inside.{key_size};
 ghost use Rattle.spa_items.specs.Items.{head, items_in, items_of, overlaid};
 ghost use Rattle.spa_items.specs.Puts.{ArePut, IsFirst, IsFirstListed, item_of};
-ghost use Rattle.spa_scan.specs.Depth.{NestsDeeper, SomeOf, levels_looked_into, member_depth};
+ghost use Rattle.spa_canonical.specs.Depth.{NestsDeeper, SomeOf, levels_looked_into, member_depth};
 
 use crate::contents::{child_and_flags, content};
 use crate::elements::{put, put_elements};
 use crate::item::Item;
 use spa_bytes::{HEADER_LEN, SECOND_WORD, u32_at};
+use spa_canonical::{LEVELS, all_nest_within};
 use spa_events::{Inside, inside_of, key_len, open_first};
-use spa_scan::{LEVELS, all_nest_within};
 
 /// How many levels of containers can wait in the short array.
 const FEW: usize = 8;

@@ -10,7 +10,7 @@ use Rattle.spa_bodies.specs.Reading.{MayLackMemory, OnMemory}
 use Rattle.spa_bodies.specs.Refusing.{error_of}
 use Rattle.spa_read.specs.Reading.{RefusesInput}
 use Rattle.spa_read.proofs.Conveying.{conveys_pod}
-use Rattle.spa_rewrite.specs.Rewriting.{IsRewriting}
+use Rattle.spa_canonical.specs.Rewriting.{IsRewriting}
 use Rattle.spa_lenient.specs.Rewriting.{IsLenientRewriting, RefusesFront}
 
 -- what is rewritten exactly

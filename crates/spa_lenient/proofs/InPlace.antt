@@ -11,10 +11,10 @@ use Rattle.spa_format.specs.Typed.{IsBytes}
 use Rattle.spa_format.proofs.Exacted.{no_longer_conveyed}
 use Rattle.spa_format.proofs.Origin.{IsBytes-first, IsBytes-others}
 use Rattle.spa_bodies.specs.Reading.{OnMemory}
-use Rattle.spa_in_place.specs.InPlace as exact
-use Rattle.spa_rewrite.specs.Rewriting.{AreRewritten}
-use Rattle.spa_rewrite.specs.Shorter.{AreRewrittenAs}
-use Rattle.spa_rewrite.proofs.Written.{further_behind}
+use Rattle.spa_rewrite.specs.InPlace as exact
+use Rattle.spa_canonical.specs.Rewriting.{AreRewritten}
+use Rattle.spa_canonical.specs.Shorter.{AreRewrittenAs}
+use Rattle.spa_canonical.proofs.Written.{further_behind}
 use Rattle.spa_lenient.specs.Rewriting.{AreRewrittenLeniently, AreRewrittenLenientlyAs, RefusesList, RefusesListAt}
 use Rattle.spa_lenient.proofs.Causes.{named_memory}
 use Rattle.spa_lenient.proofs.Fronts.{lacks_memory}

@@ -14,7 +14,7 @@ use Rattle.spa_format.proofs.Fronts.{front_and_rest, front_of_whole}
 use Rattle.spa_bodies.specs.Reading.{OnFault}
 use Rattle.spa_read.specs.Reading.{ConveysNothing}
 use Rattle.spa_read.proofs.Conveying.{members_joined, none_behind}
-use Rattle.spa_rewrite.specs.Rewriting.{AreRewritten, IsLeft}
+use Rattle.spa_canonical.specs.Rewriting.{AreRewritten, IsLeft}
 use Rattle.spa_write.proofs.MemberLists.{member_encodings_join}
 use Rattle.spa_lenient.specs.Rewriting.{AppendsFirst, AppendsFront, AreRewrittenLeniently, IsLeftLeniently, RefusesFront, RefusesList}
 

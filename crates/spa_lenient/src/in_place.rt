@@ -1,15 +1,15 @@
 //! Rewrites all pods of a buffer leniently, in place or into a buffer of the caller's.
 ghost use Rattle.std.specs.Prelude.{◌≡◌, ◌<◌, ◌≤◌, ◌++◌, [], List, ℕ, IfErr, IfOk, OnErr, drop, length, take};
 ghost use Rattle.std.specs.Borrow.{Bor};
-ghost use Rattle.spa_in_place.specs.InPlace.{IsFaultOf};
+ghost use Rattle.spa_rewrite.specs.InPlace.{IsFaultOf};
 ghost use Rattle.spa_bodies.specs.Refusing.{error_of};
 ghost use Rattle.spa_lenient.specs.Rewriting.{AreRewrittenLeniently, AreRewrittenLenientlyAs, RefusesList, RefusesListAt};
-ghost use Rattle.spa_rewrite.specs.Shorter.{ArePodsWithin};
-ghost use Rattle.spa_scan.specs.Depth.{levels_looked_into};
+ghost use Rattle.spa_canonical.specs.Shorter.{ArePodsWithin};
+ghost use Rattle.spa_canonical.specs.Depth.{levels_looked_into};
 
 use crate::rewriting::{append_all, rewrite_all_leniently};
 use spa_fixed_sized::{DeserializeError, Fault, FaultKind, Refusal};
-use spa_in_place::{rewrite_in_place, rewrite_into};
+use spa_rewrite::{rewrite_in_place, rewrite_into};
 use std::alloc::Global;
 
 /// Rewrites all pods that the bytes consist of leniently in place, and answers the length of the outcome in bytes: never more than there were. What

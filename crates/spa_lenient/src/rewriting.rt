@@ -8,7 +8,7 @@ ghost use Rattle.spa_format.specs.Writable.{IsWritable};
 ghost use Rattle.spa_value.specs.View.{view};
 ghost use Rattle.spa_bodies.specs.Refusing.{error_of};
 ghost use Rattle.spa_lenient.specs.Rewriting.{AppendsFirst, AppendsFront, AppendsStruct, AreRewrittenLeniently, Grows, IsLenientRewriting, RefusesFront, RefusesList};
-ghost use Rattle.spa_rewrite.specs.Rewriting.{IsLeft};
+ghost use Rattle.spa_canonical.specs.Rewriting.{IsLeft};
 
 use spa_bodies::{close, error_at};
 use spa_bytes::{open, two_words};

@@ -14,7 +14,7 @@ use Rattle.spa_format.proofs.FixedKinds.{same_kind}
 use Rattle.spa_format.proofs.Shapes.{choice_only, fixed_only}
 use Rattle.spa_format.proofs.WordLemmas.{IsBytes-take, word_at-take, word_at-drop}
 use Rattle.spa_bytes.specs.Opening.{Opens}
-use Rattle.spa_scan.proofs.Words.{word_there, wide_back, wide_of_take}
+use Rattle.spa_canonical.proofs.Words.{word_there, wide_back, wide_of_take}
 use Rattle.spa_filter_offers.specs.Admits.{AdmitsContent}
 use Rattle.spa_filter_elements.specs.Order.{IsAtMost}
 use Rattle.spa_negotiate.specs.Admits.{Admits, IsRangeKind, IsSupported, plain_of}

@@ -13,7 +13,7 @@ use Rattle.spa_format.proofs.Back.{encoding_is_pod}
 use Rattle.spa_format.proofs.FixedKinds.{kind_of_content, typed_content, same_kind}
 use Rattle.spa_format.proofs.Unique.{one_value}
 use Rattle.spa_format.proofs.WordLemmas.{IsBytes-take, length-word_bytes, word_at-take}
-use Rattle.spa_scan.proofs.Words.{content_kept, word_there, wide_back, wide_of_take}
+use Rattle.spa_canonical.proofs.Words.{content_kept, word_there, wide_back, wide_of_take}
 use Rattle.spa_negotiate.specs.Admits.{Admits, IsPlain, plain_of}
 use Rattle.spa_keyed_objects.specs.Keys.{Offered, offered}
 use Rattle.spa_negotiate.specs.Meeting.{IsMetAt}

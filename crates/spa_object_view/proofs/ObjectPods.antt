@@ -13,13 +13,13 @@ use Rattle.spa_format.proofs.Unique.{one_value}
 use Rattle.spa_bytes.specs.Opening.{Opens}
 use Rattle.spa_fixed_sized.specs.declared.fault.Refusal.{Refusal}
 use Rattle.spa_bodies.specs.Reading.{TakesMemory}
-use Rattle.spa_scan.specs.Canonical.{BeginsCanonical}
-use Rattle.spa_scan.specs.Depth.{NestsDeeper, levels_looked_into}
-use Rattle.spa_scan.proofs.Deeper.{its_container}
-use Rattle.spa_rewrite.specs.Look.{IsRejected}
-use Rattle.spa_rewrite.specs.Rewriting.{IsRewriting}
-use Rattle.spa_rewrite.specs.declared.look.Rejected.{Rejected}
-use Rattle.spa_rewrite.specs.declared.look.Rejected.TheVariants as rejected
+use Rattle.spa_canonical.specs.Canonical.{BeginsCanonical}
+use Rattle.spa_canonical.specs.Depth.{NestsDeeper, levels_looked_into}
+use Rattle.spa_canonical.proofs.Deeper.{its_container}
+use Rattle.spa_canonical.specs.Look.{IsRejected}
+use Rattle.spa_canonical.specs.Rewriting.{IsRewriting}
+use Rattle.spa_canonical.specs.declared.look.Rejected.{Rejected}
+use Rattle.spa_canonical.specs.declared.look.Rejected.TheVariants as rejected
 use Rattle.std.specs.Borrow.{Bor}
 use Rattle.std.specs.Prelude.{IfOk, Result, Ok, Err}
 use Rattle.spa_object_view.specs.Fronts.{BeginsObject, BeginsObjectIn, BeginsObjectOf, BeginsOther, BeginsView, IsNoObject, IsObject, IsObjectBody, IsUnread}

@@ -11,8 +11,8 @@ use Rattle.spa_format.proofs.Shapes.{object_only}
 use Rattle.spa_format.proofs.WordLemmas.{length-word_bytes}
 use Rattle.spa_bytes.specs.Opening.{Opens}
 use Rattle.spa_bodies.proofs.Steps.{pod_read}
-use Rattle.spa_scan.specs.Canonical.{AreCanonicalProperties, BeginsCanonical}
-use Rattle.spa_scan.proofs.Made.{made_body}
+use Rattle.spa_canonical.specs.Canonical.{AreCanonicalProperties, BeginsCanonical}
+use Rattle.spa_canonical.proofs.Made.{made_body}
 use Rattle.spa_object_view.specs.declared.object_view.ObjectView.{ObjectView}
 use Rattle.spa_object_view.specs.Fronts.{BeginsView, IsObjectBody}
 use Rattle.spa_object_view.specs.Written.{BeginsWritten}

@@ -4,7 +4,7 @@ use Rattle.std.proofs.lemmas.List.{length-take-le, length-drop, take-append-drop
 use Rattle.spa_format.specs.Typed.{IsBytes}
 use Rattle.spa_format.specs.Words.{wide_at, wide_bytes}
 use Rattle.spa_format.proofs.WordLemmas.{IsBytes-drop, IsBytes-take, wide_at-drop}
-use Rattle.spa_scan.proofs.Words.{wide_back, wide_of_take}
+use Rattle.spa_canonical.proofs.Words.{wide_back, wide_of_take}
 
 halves : (b : List ℕ) → IsBytes b → length b ≡ 16 → b ≡ wide_bytes (wide_at b 0) ++ wide_bytes (wide_at b 8)
 halves b h l =

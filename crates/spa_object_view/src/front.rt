@@ -5,15 +5,15 @@ ghost use Rattle.spa_format.specs.Words.{header_size, size_limit, word_at};
 ghost use Rattle.spa_bytes.specs.Opening.{Opens};
 ghost use Rattle.spa_object_view.specs.Fronts.{BeginsObjectIn, BeginsObjectOf, BeginsView, IsNoObject, IsObjectBody, IsUnread, IsViewIn};
 ghost use Rattle.spa_bodies.specs.Reading.{TakesMemory};
-ghost use Rattle.spa_scan.specs.Canonical.{AreCanonicalProperties};
-ghost use Rattle.spa_scan.specs.Depth.{NestsDeeper, levels_looked_into};
-ghost use Rattle.spa_rewrite.specs.Rewriting.{IsRewriting};
+ghost use Rattle.spa_canonical.specs.Canonical.{AreCanonicalProperties};
+ghost use Rattle.spa_canonical.specs.Depth.{NestsDeeper, levels_looked_into};
+ghost use Rattle.spa_canonical.specs.Rewriting.{IsRewriting};
 
 use crate::object_view::ObjectView;
 use spa_bytes::{Front, HEADER_LEN, SECOND_WORD, open, u32_at};
+use spa_canonical::{Rejected, canonical_front, leaf_properties, look_at_pod};
 use spa_fixed_sized::DeserializeError;
-use spa_rewrite::{Rejected, canonical_front, look_at_pod, rewrite};
-use spa_scan::leaf_properties;
+use spa_rewrite::rewrite;
 use spa_utils::SpaTypes;
 use std::alloc::Global;
 

@@ -11,7 +11,7 @@ use Rattle.spa_bodies.specs.Reading.{OnFault}
 use Rattle.spa_fixed_sized.specs.Faults.{kind_text}
 use Rattle.spa_fixed_sized.specs.declared.fault.DeserializeError.{DeserializeError}
 use Rattle.spa_fixed_sized.specs.declared.fault.DeserializeError.TheVariants as error
-use Rattle.spa_rewrite.specs.Rewriting.{IsLeft, RefusesFront}
+use Rattle.spa_canonical.specs.Rewriting.{IsLeft, RefusesFront}
 use Rattle.spa_device.specs.Whole.{IsAllOf}
 use Rattle.spa_pod_commands.specs.Answers.{Answers, BeginsToWrite, FailsFor, IsCutOff, IsNotListed, IsRefusalAt, IsUndone, IsUnmade, OnAnswer, Writes}
 use Rattle.spa_pod_commands.specs.declared.answer.Answer.{Answer}

@@ -8,7 +8,7 @@ use Rattle.spa_format.specs.Tree.{Trees}
 use Rattle.spa_format.specs.Pod.{AreMembers}
 use Rattle.spa_format.specs.Walk.{HasObject, walk}
 use Rattle.spa_format.specs.Fixation.{fixated_bytes, walk_size}
-use Rattle.spa_rewrite.specs.Rewriting.{AreRewritten, IsLeft, RefusesFront}
+use Rattle.spa_canonical.specs.Rewriting.{AreRewritten, IsLeft, RefusesFront}
 use Rattle.spa_fixed_sized.specs.Faults.{kind_text}
 use Rattle.spa_fixed_sized.specs.declared.fault.DeserializeError.{DeserializeError}
 use Rattle.spa_fixed_sized.specs.declared.fault.DeserializeError.TheVariants as error

@@ -7,8 +7,7 @@ ghost use Rattle.spa_pod_commands.specs.Answers.{FailsFor, Fixates, IsUnmade, Re
 use crate::answer::Failure;
 use crate::pods::fixate_all;
 use spa_fixed_sized::DeserializeError;
-use spa_in_place::rewrite_in_place;
-use spa_rewrite::accept_all;
+use spa_rewrite::{accept_all, rewrite_in_place};
 use std::alloc::Global;
 
 /// The rewritings of the pods that the bytes consist of, made in place.

@@ -14,7 +14,7 @@ AreWholeFirst n k b = (walk_size (walk_at_most n k b) ≡ length b) ⊎ (length 
 abbrev pub looked_at : ℕ
 looked_at = 64
 
--- the types of objects of PipeWire's parameters, which are 0x40001 and those that follow it
+-- the types of objects of PipeWire's parameters: 262145, which is 0x40001 (`SPA_TYPE_OBJECT_PropInfo`), and those that follow it, below 0x41000
 abbrev pub IsParameter : ℕ → Type 0
 IsParameter type = (262145 ≤ type) × (type < 266240)
 

@@ -14,8 +14,8 @@ use Rattle.spa_lenient.specs.Rewriting as lenient
 use Rattle.spa_pod_commands.specs.declared.answer.Failure.{Failure}
 use Rattle.spa_pod_commands.specs.declared.answer.Failure.TheVariants.{Pod, OutOfMemory}
 use Rattle.spa_read.specs.Reading.{ConveysNothing, StandsLeniently}
-use Rattle.spa_rewrite.specs.Rewriting.{IsLeft}
-use Rattle.spa_rewrite.specs.Rewriting as exact
+use Rattle.spa_canonical.specs.Rewriting.{IsLeft}
+use Rattle.spa_canonical.specs.Rewriting as exact
 use Rattle.spa_recordings.specs.declared.reading.Reading.{Reading}
 use Rattle.spa_recordings.specs.declared.reading.Reading.TheVariants.{Exact, Lenient}
 

@@ -10,7 +10,8 @@ use crate::blocks::whole_of;
 use crate::plausible::{is_plausible, next_plausible};
 use crate::reading::{Reading, Unread, first_unread, read_as};
 use spa_bytes::{HEADER_LEN, open};
-use spa_rewrite::{Rejected, find_fault};
+use spa_canonical::Rejected;
+use spa_rewrite::find_fault;
 use spa_utils::SpaTypes;
 use std::alloc::{AllocError, Global};
 

@@ -10,9 +10,9 @@ ghost use Rattle.spa_recordings.specs.Streaming.{AreRead, IsEnded, IsFound, IsNo
 use crate::blocks::{Blocks, whole_of};
 use crate::reading::{Reading, first_unread};
 use spa_fixed_sized::DeserializeError;
-use spa_in_place::rewrite_in_place;
 use spa_lenient::rewrite_in_place_leniently;
 use spa_pod_commands::output::write;
+use spa_rewrite::rewrite_in_place;
 use std::alloc::Global;
 use std::io::{Read, Write};
 
@@ -192,15 +192,12 @@ pub fn stream<B: BlockWriter, R: Read, W: Write>(
         let Some(behind) = before.place.checked_add(whole.len) else {
             return Err(Stop::ReadFailed);
         };
-        match write_front(
-            alloc,
-            reading,
-            writer,
+        let block = Block {
             before,
-            whole.len,
-            blocks.buffer.as_mut_slice(),
-            output,
-        ) {
+            len: whole.len,
+        };
+        let buffer = blocks.buffer.as_mut_slice();
+        match write_front(alloc, reading, writer, block, buffer, output) {
             Ok(written) => {
                 made.refused += written.made.refused;
                 made.nothing = made.nothing & written.made.nothing;
@@ -226,6 +223,15 @@ struct Before {
     place: usize,
     /// How many bytes the pods take as which these are read.
     made: usize,
+}
+
+/// A block of whole pods.
+#[derive(Clone, Copy)]
+struct Block {
+    /// What of the input stands before it.
+    before: Before,
+    /// How many bytes it takes.
+    len: usize,
 }
 
 /// Nothing is passed.
@@ -270,29 +276,29 @@ fn end(alloc: Global, before: Before, made: Made, held: &[u8]) -> Result<Made, S
     }
 }
 
-/// Writes what is made of the pods of the block that takes so many bytes of the buffer.
+/// Writes what is made of the pods of the block at the front of the buffer.
 fn write_front<B: BlockWriter, W: Write>(
     alloc: Global,
     reading: Reading,
     writer: &B,
-    before: Before,
-    len: usize,
+    block: Block,
     buffer: &mut [u8],
     output: &mut W,
 ) -> Result<Written, Stop>
-    requires within { len ≤ length buffer.old }
-    requires count { before.count + len < 2 ^ 64 }
-    requires place { before.place + len < 2 ^ 64 }
-    requires made { before.made ≤ before.place }
+    requires within { block.len ≤ length buffer.old }
+    requires count { block.before.count + block.len < 2 ^ 64 }
+    requires place { block.before.place + block.len < 2 ^ 64 }
+    requires made { block.before.made ≤ block.before.place }
     ensures long { length buffer.new ≡ length buffer.old }
-    ensures behind { drop len buffer.new ≡ drop len buffer.old }
-    ensures written { IfOk result (WritesRead reading (B.makes writer.now before.count before.made) (take len buffer.old)
-        (W.contents output.old) (W.contents output.new)) }
+    ensures behind { drop block.len buffer.new ≡ drop block.len buffer.old }
+    ensures written { IfOk result (WritesRead reading (B.makes writer.now block.before.count block.before.made)
+        (take block.len buffer.old) (W.contents output.old) (W.contents output.new)) }
     ensures stopped { IfErr result (StopsInBlock reading (MayStop reading (B.refuses writer.now))
-        (MakesAs reading (B.makes writer.now before.count before.made)) before (take len buffer.old)
+        (MakesAs reading (B.makes writer.now block.before.count block.before.made)) block.before (take block.len buffer.old)
         (W.contents output.old) (W.contents output.new)) }
 {
-    write_or_stop(alloc, reading, writer, before, &mut buffer[..len], output)
+    let pods = &mut buffer[..block.len];
+    write_or_stop(alloc, reading, writer, block.before, pods, output)
 }
 
 /// Writes what is made of the pods of a block, or of those before the first that isn't read.

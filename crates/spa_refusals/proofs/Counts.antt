@@ -1,7 +1,5 @@
 -- Pods counted one after another.
-use Rattle.std.proofs.Common.{◌≡◌, ◌+◌, ◌*◌, ◌≤◌, ℕ, List, [], length, ap, arith, inl, inr, length-drop, sym}
-use Rattle.std.proofs.lemmas.Bool.{cases_lt}
-use Rattle.std.proofs.lemmas.List.{drop_all}
+use Rattle.std.proofs.Common.{◌≡◌, ◌+◌, ◌*◌, ◌≤◌, ℕ, List, length, ap, arith, length-drop}
 use Rattle.spa_format.specs.Front.{HasFront, rest_of}
 use Rattle.spa_format.specs.Walk.{walk}
 use Rattle.spa_format.specs.Words.{extent, word_at}
@@ -37,10 +35,3 @@ ends all left count so none = let w = ap length (walk-end left none) in let o = 
 
 pub few : (all left : List ℕ) (count : ℕ) → Counted all left count → count * 8 ≤ length all
 few all left count so = let m = so.room in omega (arith, m)
-
--- nothing follows a front that isn't there
-pub none_behind : (left : List ℕ) → ¬ (HasFront left) → [] ≡ rest_of left
-none_behind left none = elim (cases_lt (length left) (extent (word_at left 0))) [
-  | inl l ↦ sym (drop_all (extent (word_at left 0)) left (omega (arith, l)))
-  | inr l ↦ absurd (none (record { header = omega (arith, l); whole = l }))
-]

@@ -1,4 +1,5 @@
 mod Counts
+mod Descending
 mod Listing
 mod Passing
 mod Saying

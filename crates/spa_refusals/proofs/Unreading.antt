@@ -4,7 +4,7 @@ use Rattle.std.proofs.lemmas.Bool.{cases_lt}
 use Rattle.std.proofs.lemmas.List.{drop_at}
 use Rattle.std.specs.Borrow.{Bor}
 use Rattle.std.specs.Option.{SomeIff}
-use Rattle.std.specs.Prelude.{Option, Some, None, Result, Ok, Err, IfNone, IfOk, IfSome, codes}
+use Rattle.std.specs.Prelude.{Option, Some, None, Result, Ok, Err, IfOk, codes}
 use Rattle.spa_fixed_sized.specs.Faults.{fault_kind_text, kind_text}
 use Rattle.spa_fixed_sized.specs.declared.fault.DeserializeError.{DeserializeError}
 use Rattle.spa_fixed_sized.specs.declared.fault.DeserializeError.TheVariants as error
@@ -64,19 +64,19 @@ not_accepted Exact input left e r n h = fault_of _ e n r.refused h.0 h.1
 not_accepted Lenient input left e r n h = fault_of _ e n r.refused h.0 h.1
 
 -- bytes that are no whole pod have nothing inside
-leads_nowhere : (pod : List ℕ) → ¬ (HasFront pod) → (n : ℕ) (path inner : List ℕ) → LeadsTo pod n path inner → inner ≡ pod
-leads_nowhere pod none n path inner itself = refl
-leads_nowhere pod none n path inner (further m before new next last leads (member there type holds)) =
-    absurd (none (subst HasFront (leads_nowhere pod none m before next leads) there))
-leads_nowhere pod none n path inner (further m before new next last leads (property there type holds)) =
-    absurd (none (subst HasFront (leads_nowhere pod none m before next leads) there))
+leads_nowhere : (pod : List ℕ) → ¬ (HasFront pod) → (path inner : List ℕ) → LeadsTo pod path inner → inner ≡ pod
+leads_nowhere pod none path inner itself = refl
+leads_nowhere pod none path inner (further before new next last leads (member there type holds)) =
+    absurd (none (subst HasFront (leads_nowhere pod none before next leads) there))
+leads_nowhere pod none path inner (further before new next last leads (property there type holds)) =
+    absurd (none (subst HasFront (leads_nowhere pod none before next leads) there))
 
 named_short : (pod kind : List ℕ) (e : DeserializeError (Bor (List ℕ))) → IsShortAt pod e → kind ≡ kind_text e → kind ≡ codes "Short"
 named_short pod kind (error.Nom f) h e = e ∙ ap fault_kind_text h.0
 named_short pod kind _ h e = absurd h
 
 leads_to_itself : (reading : Reading) (pod path inner : List ℕ) → LeadsBy reading pod path inner → ¬ (HasFront pod) → inner ≡ pod
-leads_to_itself Exact pod path inner h none = leads_nowhere pod none h.steps path inner h.leads
+leads_to_itself Exact pod path inner h none = leads_nowhere pod none path inner h.leads
 leads_to_itself Lenient pod path inner h none = h.1
 
 -- and are short
@@ -96,17 +96,6 @@ placed (Ok x) reading input pod place number within is e p n h = record {
   its = subst (λ z. IsRefusalOf reading z x) (e ∙ ap (λ z. drop z input) (sym p)) h;
 }
 placed (Err w) reading input pod place number within is e p n h = tt
-
--- what is found implies more
-pub some_more : {A E : Type 0} (r : Result (Option A) E) (P Q : A → Type 0) → ((x : A) → P x → Q x) → IfOk r (λ f. IfSome f P) → IfOk r (λ f. IfSome f Q)
-some_more (Ok (Some x)) P Q more h = more x h
-some_more (Ok None) P Q more h = tt
-some_more (Err e) P Q more h = tt
-
-pub none_more : {A E : Type 0} (r : Result (Option A) E) (P Q : Type 0) → (P → Q) → IfOk r (λ f. IfNone f P) → IfOk r (λ f. IfNone f Q)
-none_more (Ok (Some x)) P Q more h = tt
-none_more (Ok None) P Q more h = more h
-none_more (Err e) P Q more h = tt
 
 -- the first refused pod of an input
 pub first_said : (reading : Reading) (input left : List ℕ) (e : DeserializeError (Bor (List ℕ))) (r : Refusal) (place : ℕ) →

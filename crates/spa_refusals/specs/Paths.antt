@@ -1,11 +1,15 @@
 -- The path from a refused pod to the malformed one inside it: docs/TEXT.md, "What is said of a refused pod".
-use Rattle.std.specs.Prelude.{◌≡◌, ◌≢◌, ◌≤◌, ◌<◌, ◌+◌, ◌⊎◌, ◌&&◌, if◌then◌else◌, ℕ, codes, List, [], ◌++◌, Option, Some, None, length, drop, nat_eq, nat_le, nat_lt, unwrap_or}
+use Rattle.std.specs.Prelude.{◌≡◌, ◌≢◌, ◌≤◌, ◌<◌, ◌+◌, ◌&&◌, if◌then◌else◌, ℕ, codes, List, [], ◌++◌, Option, Some, None, length, drop, nat_eq, nat_le, nat_lt, unwrap_or}
 use Rattle.std.specs.Fmt.{decimal}
-use Rattle.spa_format.specs.Front.{Begins, HasFront}
+use Rattle.spa_fixed_sized.specs.declared.fault.Refusal.{Refusal}
+use Rattle.spa_format.specs.Faults.{Fault, Stands}
+use Rattle.spa_format.specs.Front.{HasFront, rest_of}
 use Rattle.spa_format.specs.Pod.{AreMembers, AreProperties}
-use Rattle.spa_format.specs.Tree.{Tree, Trees, Properties, object_type, struct_type}
+use Rattle.spa_format.specs.Tree.{Trees, Properties, object_type, struct_type}
 use Rattle.spa_format.specs.Walk.{walk}
-use Rattle.spa_format.specs.Words.{body_of, header_size, word_at}
+use Rattle.spa_format.specs.Words.{body_of, extent, header_size, word_at}
+use Rattle.spa_bodies.specs.Refusing.{Says, StandsInMembers, StandsInProperties}
+use Rattle.spa_canonical.specs.Offsets.{Scope, StandsAt, from_members, from_pod, from_properties}
 use Rattle.spa_names.specs.Lookup.{keys_of, name_of}
 use Rattle.spa_names.specs.declared.table.Table.TheVariants.{Types}
 use Rattle.spa_refusals.specs.declared.names.TypeName.{TypeName}
@@ -85,19 +89,15 @@ pub data StepsTo (pod path inner new : List ℕ) : Type 0 where
   member : HasFront pod → word_at pod 4 ≡ struct_type → HoldsMember (body_of pod) path inner new → StepsTo pod path inner new
   property : HasFront pod → word_at pod 4 ≡ object_type → HoldsValue (body_of pod) path inner new → StepsTo pod path inner new
 
--- so many steps lead by this path to a pod inside
-pub data LeadsTo (pod : List ℕ) : ℕ → (path inner : List ℕ) → Type 0 where
-  itself : LeadsTo pod 0 [] pod
-  further : (n : ℕ) (path new next inner : List ℕ) → LeadsTo pod n path next → StepsTo next path inner new → LeadsTo pod (n + 1) new inner
+-- steps lead by this path to a pod inside
+pub data LeadsTo (pod : List ℕ) : (path inner : List ℕ) → Type 0 where
+  itself : LeadsTo pod [] pod
+  further : (path new next inner : List ℕ) → LeadsTo pod path next → StepsTo next path inner new → LeadsTo pod new inner
 
 -- all properties are read, and too few bytes for another one follow
 abbrev pub HaveRead : List ℕ → Type 0
 HaveRead properties =
     (ps : Properties) × (first : List ℕ) × (left : List ℕ) × (properties ≡ first ++ left) × AreProperties ps first × (length left < header_size)
-
--- a pod is read at the front
-abbrev pub BeginsPod : List ℕ → Type 0
-BeginsPod bytes = (v : Tree) × Begins bytes v
 
 -- no pod inside the one at the front is refused
 pub data IsInnermost (pod : List ℕ) : Type 0 where
@@ -107,12 +107,30 @@ pub data IsInnermost (pod : List ℕ) : Type 0 where
   short_object : word_at pod 4 ≡ object_type → length (body_of pod) < header_size → IsInnermost pod
   properties_read : word_at pod 4 ≡ object_type → HaveRead (drop header_size (body_of pod)) → IsInnermost pod
 
--- how many steps a path has at most
-abbrev pub step_limit : ℕ
-step_limit = 32
-
--- the path to the innermost refused pod, or to the one so many steps deep
+-- the path to the innermost refused pod
 pub record IsPath (pod path inner : List ℕ) : Type 0 where
-  pub steps : ℕ
-  pub leads : LeadsTo pod steps path inner
-  pub ends : (steps ≡ step_limit) ⊎ IsInnermost inner
+  pub leads : LeadsTo pod path inner
+  pub ends : IsInnermost inner
+
+-- ---- Only private clauses cite these.
+
+-- a fault stands at this place in the pod at the front, in members, or in properties
+abbrev pub StandsIn : Scope → (bytes place : List ℕ) → Fault → Type 0
+StandsIn from_pod bytes place fault = Stands fault place bytes
+StandsIn from_members bytes place fault = StandsInMembers bytes place fault
+StandsIn from_properties bytes place fault = StandsInProperties bytes place fault
+
+-- the refusal names one that stands there, and at this offset
+abbrev pub IsFaultIn : Scope → (bytes place : List ℕ) → (at : ℕ) → Refusal → Type 0
+IsFaultIn scope bytes place at = Says (λ fault. StandsIn scope bytes place fault × StandsAt fault scope at bytes) ⊥
+
+-- the fault at this offset is no further than the end of the pod at the front, and there only where nothing is left at its place
+abbrev pub IsWithin : (pod place : List ℕ) → (at : ℕ) → Type 0
+IsWithin pod place at = HasFront pod → (at ≤ extent (word_at pod 0)) × (at ≡ extent (word_at pod 0) → place ≡ [])
+
+-- the fault at this offset is behind the pod at the front, and so far into what follows it
+pub record IsBehind (pod place : List ℕ) (at : ℕ) (rest : List ℕ) (further : ℕ) : Type 0 where
+  pub there : HasFront pod
+  pub follows : rest ≡ rest_of pod
+  pub offset : at ≡ extent (word_at pod 0) + further
+  pub past : further ≡ 0 → place ≢ []

@@ -1,6 +1,5 @@
 //! How many pods stand in a row.
 ghost use Rattle.std.specs.Prelude.{◌≡◌, ◌≤◌, ◌*◌, length};
-ghost use Rattle.spa_format.specs.Front.{rest_of};
 ghost use Rattle.spa_format.specs.Walk.{walk};
 ghost use Rattle.spa_format.specs.Words.{header_size};
 
@@ -19,15 +18,4 @@ pub(crate) fn count(bytes: &[u8]) -> usize
         left = front.rest;
     }
     count
-}
-
-/// What follows the pod at the front; nothing where none is whole.
-#[tactic(auto, using(crate::proofs::Counts::none_behind))]
-pub(crate) fn behind_front(bytes: &[u8]) -> &[u8]
-    ensures { result.now ≡ rest_of bytes.now }
-{
-    match open(bytes) {
-        Some(front) => front.rest,
-        None => &[],
-    }
 }

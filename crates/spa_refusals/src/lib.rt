@@ -2,6 +2,7 @@
 #![tactic(auto)]
 
 mod counting;
+mod descent;
 mod inside;
 mod names;
 mod refusal;

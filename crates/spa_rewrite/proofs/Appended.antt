@@ -1,7 +1,7 @@
 -- Bytes that are appended to a vector and then written over.
 use Rattle.std.proofs.Common.{◌≡◌, ℕ, ◌+◌, ◌-◌, ◌≤◌, List, [], ◌++◌, length, take, drop, ap, sym, ◌∙◌, append_assoc}
 use Rattle.std.proofs.lemmas.List.{append-nil, drop_at, nil_from_length, take-append-drop, take_all, take_at}
-use Rattle.spa_rewrite.proofs.Lengths.{lengths}
+use Rattle.spa_canonical.proofs.Lengths.{lengths}
 
 -- bytes that were appended, of which those behind a place were written over
 pub record IsWrittenBehind (old added written all : List ℕ) (from k : ℕ) : Type 0 where

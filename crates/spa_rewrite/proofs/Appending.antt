@@ -7,11 +7,11 @@ use Rattle.spa_format.specs.Encoding.{encoding_of, member_encodings}
 use Rattle.spa_format.specs.Front.{front_of}
 use Rattle.spa_format.proofs.Unique.{same_members}
 use Rattle.spa_bodies.specs.Reading.{BeginsWith}
-use Rattle.spa_scan.specs.Canonical.{AreCanonical, BeginsCanonical}
-use Rattle.spa_rewrite.specs.Look.{AreChanged}
-use Rattle.spa_rewrite.specs.Rewriting.{AppendsFront, AreRewritten}
-use Rattle.spa_rewrite.proofs.Rewritten.{alone, parted}
-use Rattle.spa_rewrite.proofs.Stretches.{both_rewritten, canonical_rewritten}
+use Rattle.spa_canonical.specs.Canonical.{AreCanonical, BeginsCanonical}
+use Rattle.spa_canonical.specs.Look.{AreChanged}
+use Rattle.spa_canonical.specs.Rewriting.{AppendsFront, AreRewritten}
+use Rattle.spa_canonical.proofs.Rewritten.{alone, parted}
+use Rattle.spa_canonical.proofs.Stretches.{both_rewritten, canonical_rewritten}
 
 -- canonical pods are copied, and others replaced behind them
 pub appended_behind : (pods old over new : List ℕ) (canonical len : ℕ) → AreCanonical (take canonical pods) →

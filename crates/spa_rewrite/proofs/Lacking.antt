@@ -6,17 +6,17 @@ use Rattle.spa_format.specs.Front.{Begins, HasFront}
 use Rattle.spa_format.specs.Pod.{AreMembers, IsBody, IsPod}
 use Rattle.spa_format.specs.Tree.{Tree, Trees, no_trees, member, join_members, type_of}
 use Rattle.spa_format.proofs.Sequences.{members_joined}
-use Rattle.spa_scan.specs.Canonical.{AreCanonical}
-use Rattle.spa_rewrite.specs.Look.{AreChanged}
-use Rattle.spa_rewrite.proofs.Changed.{changed_members}
+use Rattle.spa_canonical.specs.Canonical.{AreCanonical}
+use Rattle.spa_canonical.specs.Look.{AreChanged}
+use Rattle.spa_canonical.proofs.Changed.{changed_members}
 use Rattle.spa_format.proofs.Fronts.{front_of_whole}
 use Rattle.spa_fixed_sized.specs.declared.fault.Refusal.{Refusal}
 use Rattle.spa_fixed_sized.specs.declared.fault.Refusal.TheVariants as refusal
 use Rattle.spa_bodies.specs.Reading.{OnMemory}
 use Rattle.spa_bodies.specs.Refusing.{Says, error_of}
 use Rattle.spa_rewrite.specs.Memory.{FrontAsksMemory, IsRefusal}
-use Rattle.spa_rewrite.proofs.Accepted.{fault_front}
-use Rattle.spa_rewrite.proofs.Refusals.{front_refused}
+use Rattle.spa_canonical.proofs.Accepted.{fault_front}
+use Rattle.spa_canonical.proofs.Refusals.{front_refused}
 
 -- a list that isn't empty begins with a pod
 pub begins_all : (vs : Trees) (input : List ℕ) → AreMembers vs input → 0 < length input → (v : Tree) × Begins input v

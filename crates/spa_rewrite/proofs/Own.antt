@@ -3,8 +3,8 @@ use Rattle.std.proofs.Common.{◌≡◌, ℕ, List, refl, sym, ap, ◌∙◌}
 use Rattle.spa_format.specs.Encoding.{encoding_of}
 use Rattle.spa_format.specs.Front.{front_of, rest_of}
 use Rattle.spa_format.proofs.Unique.{one_value}
-use Rattle.spa_scan.specs.Canonical.{BeginsCanonical}
-use Rattle.spa_rewrite.specs.Rewriting.{IsRewriting}
+use Rattle.spa_canonical.specs.Canonical.{BeginsCanonical}
+use Rattle.spa_canonical.specs.Rewriting.{IsRewriting}
 
 -- a front that is the rewriting
 pub same_is_own : (input out : List ℕ) → IsRewriting input out → front_of input ≡ out → BeginsCanonical input (rest_of input)

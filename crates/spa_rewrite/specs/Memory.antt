@@ -5,8 +5,8 @@ use Rattle.spa_fixed_sized.specs.declared.fault.DeserializeError.{DeserializeErr
 use Rattle.spa_format.specs.Front.{Begins}
 use Rattle.spa_format.specs.Tree.{Tree}
 use Rattle.spa_bodies.specs.Reading.{OnMemory}
-use Rattle.spa_scan.specs.Depth.{NestsDeeper, levels_looked_into}
-use Rattle.spa_rewrite.specs.Rewriting.{IsLeft, RefusesFront}
+use Rattle.spa_canonical.specs.Depth.{NestsDeeper, levels_looked_into}
+use Rattle.spa_canonical.specs.Rewriting.{IsLeft, RefusesFront}
 
 -- the front is a pod, whose encoding takes memory, or nests too deep to be looked into
 abbrev pub FrontAsksMemory : List ℕ → Type 0

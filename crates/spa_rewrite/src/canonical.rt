@@ -2,11 +2,11 @@
 ghost use Rattle.std.specs.Prelude.{Decides, ◌<◌, IfErr, IfOk};
 ghost use Rattle.spa_format.specs.Front.{Begins, rest_of};
 ghost use Rattle.spa_format.specs.Tree.{Tree};
-ghost use Rattle.spa_scan.specs.Canonical.{BeginsCanonical};
-ghost use Rattle.spa_scan.specs.Depth.{NestsDeeper, depth_of, levels_looked_into};
+ghost use Rattle.spa_canonical.specs.Canonical.{BeginsCanonical};
+ghost use Rattle.spa_canonical.specs.Depth.{NestsDeeper, depth_of, levels_looked_into};
 
-use crate::look::{Rejected, look_at_pod};
 use crate::rewriting::rewrite;
+use spa_canonical::{Rejected, look_at_pod};
 use spa_fixed_sized::DeserializeError;
 use std::alloc::{AllocError, Global};
 

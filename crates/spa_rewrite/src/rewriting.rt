@@ -9,20 +9,16 @@ ghost use Rattle.spa_format.specs.Pod.{AreMembers};
 ghost use Rattle.spa_format.specs.Tree.{Tree, Trees};
 ghost use Rattle.spa_bodies.specs.Reading.{BeginsWith, IsShortAt, Names, OnFault, OnMemory};
 ghost use Rattle.spa_bodies.specs.Refusing.{error_of};
-ghost use Rattle.spa_rewrite.specs.Look.{AreChanged, IsRejected};
+ghost use Rattle.spa_canonical.specs.Look.{AreChanged, IsRejected};
 ghost use Rattle.spa_rewrite.specs.Memory.{FrontAsksMemory, IsRefusal};
-ghost use Rattle.spa_rewrite.specs.Rewriting.{AppendsFront, AreRewritten, IsLeft, IsRewriting, RefusesList};
-ghost use Rattle.spa_rewrite.specs.Shorter.{ArePodsWithin};
-ghost use Rattle.spa_scan.specs.Canonical.{AreCanonical};
-ghost use Rattle.spa_scan.specs.Depth.{NestsDeeper, levels_looked_into};
+ghost use Rattle.spa_canonical.specs.Rewriting.{AppendsFront, AreRewritten, IsLeft, IsRewriting, RefusesList};
+ghost use Rattle.spa_canonical.specs.Shorter.{ArePodsWithin};
+ghost use Rattle.spa_canonical.specs.Canonical.{AreCanonical};
+ghost use Rattle.spa_canonical.specs.Depth.{NestsDeeper, levels_looked_into};
 
-use crate::emitting::encode_pods;
-use crate::inside::few_frames;
-use crate::look::{
-    Rejected, accept_deep, accept_front, canonical_front, canonical_stretch, changed_pods,
-    find_fault,
-};
+use crate::deep::{accept_deep, changed_pods, find_fault};
 use spa_bodies::error_at;
+use spa_canonical::{Rejected, accept_pod, canonical_front, canonical_stretch, encode_pods};
 use spa_fixed_sized::{DeserializeError, Refusal};
 use std::alloc::Global;
 
@@ -129,7 +125,7 @@ struct Refused<'a> {
 }
 
 /// The refusal of a pod that isn't accepted: for its fault, or for want of memory where it nests too deep.
-#[tactic(auto, using(spa_scan::proofs::Deeper::its_front, crate::proofs::Lacking::fault_memory, crate::proofs::Lacking::is_fault, crate::proofs::Lacking::lacks))]
+#[tactic(auto, using(spa_canonical::proofs::Deeper::its_front, crate::proofs::Lacking::fault_memory, crate::proofs::Lacking::is_fault, crate::proofs::Lacking::lacks))]
 fn refusal_of<'a>(pod: &'a [u8], rejected: Rejected<'a>) -> Refused<'a>
     requires { IsRejected pod.now rejected }
     ensures refused { IsRefusal pod.now (error_of result.place result.why) }
@@ -174,7 +170,7 @@ fn accept_any(alloc: Global, input: &[u8]) -> Result<&[u8], Rejected<'_>>
     ensures accepted { IfOk result (λ rest. (v : Tree) × BeginsWith input.now v rest.now) }
     ensures rejected { IfErr result (IsRejected input.now) }
 {
-    match accept_front(input, &mut few_frames(input)) {
+    match accept_pod(input) {
         Ok((rest, _)) => Ok(rest),
         Err(rejected) => match rejected {
             Rejected::Fault(_, _, _) => Err(rejected),

@@ -57,18 +57,36 @@ message_in vs = None
 
 -- ---- Heads
 
--- a number by so many digits, with zeros in front
+-- a number by so many digits, with zeros in front, as `{:0COUNT}` prints it: the fill is a blank (32), 0 is no alignment, 4 the flag `0`, and the last
+-- number no precision
 abbrev pub by_digits : (count n : ℕ) → List ℕ
 by_digits count n = styled_decimal (format_spec 32 0 4 count (2 ^ 64 - 1)) n
 
--- the time of the day in UTC of this many nanoseconds since 1970, as 12:01:03.0412
+-- how many nanoseconds are a day, an hour, a minute, a second, and one in the last digit that is shown
+abbrev pub day : ℕ
+day = 86400000000000
+
+abbrev pub hour : ℕ
+hour = 3600000000000
+
+abbrev pub minute : ℕ
+minute = 60000000000
+
+abbrev pub second : ℕ
+second = 1000000000
+
+abbrev pub last_digit : ℕ
+last_digit = 100000
+
+-- the time of the day in UTC of this many nanoseconds since midnight, as 12:01:03.0412
 abbrev pub day_text : (nanoseconds : ℕ) → List ℕ
 day_text time =
-    by_digits 2 (time / 3600000000000) ++ (codes ":" ++ (by_digits 2 (time % 3600000000000 / 60000000000) ++ (codes ":"
-    ++ (by_digits 2 (time % 60000000000 / 1000000000) ++ (codes "." ++ by_digits 4 (time % 1000000000 / 100000))))))
+    by_digits 2 (time / hour) ++ (codes ":" ++ (by_digits 2 (time % hour / minute) ++ (codes ":"
+    ++ (by_digits 2 (time % minute / second) ++ (codes "." ++ by_digits 4 (time % second / last_digit))))))
 
+-- the time of the day in UTC of this many nanoseconds since 1970
 abbrev pub time_text : ℤ → List ℕ
-time_text time = day_text (unsigned_abs (int_rem_euclid time (pos 86400000000000)))
+time_text time = day_text (unsigned_abs (int_rem_euclid time (pos day)))
 
 -- the method's name, or its opcode
 abbrev pub method_text : Option (List ℕ) → (opcode : ℤ) → List ℕ

@@ -22,8 +22,9 @@ IsName what name = (type : ℕ) × (number : ℕ) × (number < 2 ^ 32) × (is_na
 abbrev pub AreNames : Named → (names : List ℕ) → Type 0
 AreNames what names = All (IsName what) (names_in names)
 
--- Types, ids and keys that have names are counted from these numbers on, and there are fewer than 32 from each. Only
--- private clauses cite these.
+-- Types, ids and keys that have names are counted from 0 and from the starts of PipeWire's headers, `SPA_PROP_START_Device`,
+-- `SPA_TYPE_COMMAND_START` and their like: 0x100, 0x10000, 0x20000, 0x30000, 0x40000, 0x80000. There are fewer than 32 from each. Only private
+-- clauses cite these.
 abbrev pub is_counted_from : (start number : ℕ) → Bool
 is_counted_from start number = nat_le start number && nat_lt number (start + 32)
 

@@ -8,7 +8,7 @@ use Rattle.spa_format.specs.Pod.{AreMembers}
 use Rattle.spa_format.specs.Encoding.{member_encodings}
 use Rattle.spa_format.specs.Front.{IsRefused}
 use Rattle.spa_format.specs.Writable.{HasNul, IsTooLarge}
-use Rattle.spa_rewrite.specs.Rewriting.{IsLeft}
+use Rattle.spa_canonical.specs.Rewriting.{IsLeft}
 use Rattle.spa_text_read.specs.Grammar.{IsTextOf}
 use Rattle.spa_text.specs.Indented.{indented}
 use Rattle.spa_text.specs.Line.{HasNoEnd}

@@ -1,15 +1,16 @@
 //! What is looked for in a pod, at any depth: values under keys, objects.
-ghost use Rattle.std.specs.Prelude.{◌≡◌, ◌≤◌, ◌+◌, ◌<◌, ◌^◌, IfNone, IfOk, IfSome, drop, length};
+ghost use Rattle.std.specs.Prelude.{◌≡◌, ◌≤◌, ◌+◌, ◌<◌, ◌^◌, ◌++◌, IfNone, IfOk, IfSome, OnOk, drop, length, string_bytes};
 ghost use Rattle.spa_events.specs.Events.{events_of};
 ghost use Rattle.spa_format.specs.Front.{HasFront, front_of};
 ghost use Rattle.spa_text_commands.specs.Lines.{AddsParts};
 ghost use Rattle.spa_text_commands.specs.Numbers.{AreNumbers};
 ghost use Rattle.spa_text_commands.specs.Paths as in_list;
+ghost use Rattle.spa_text_commands.specs.Paths.{path_to, step_limit};
 ghost use Rattle.spa_text_commands.specs.Selection as spec;
 ghost use Rattle.spa_text_commands.specs.Selection.{found_at, found_in};
 ghost use Rattle.spa_view.specs.View.{pod_bytes};
 
-use crate::listing::add_part;
+use crate::listing::{Part, add_part};
 use crate::page::Page;
 use crate::paths::{
     OBJECT_LEN, STEP_LIMIT, event_at, is_keyed, is_object_in, numbers_of, put_path,
@@ -22,6 +23,22 @@ use spa_utils::SpaTypes;
 use spa_view::{Pod, split_first, whole_bytes};
 use std::alloc::{AllocError, Global};
 use std::fmt::Write;
+
+/// A top-level pod in which something is looked for.
+#[derive(Clone, Copy)]
+struct Searched<'a> {
+    pod: Pod<'a>,
+    /// How many top-level pods precede it.
+    count: usize,
+    /// The byte of the input where it begins.
+    place: usize,
+    /// Its bytes.
+    bytes: &'a [u8],
+    /// The events of it and of all pods inside it.
+    events: &'a [Event],
+    /// How many pods precede each of these in the same one.
+    numbers: &'a [usize],
+}
 
 /// Adds what is printed of what is looked for in the pod, which so many pods and bytes of the input stand before, and answers how many of those are
 /// refused.
@@ -44,12 +61,17 @@ pub(crate) fn add_found(
     let listed = list_inside(alloc, bytes)?;
     let events = listed.as_slice();
     let numbered = numbers_of(alloc, events)?;
-    let numbers = numbered.as_slice();
+    let searched = Searched {
+        pod,
+        count,
+        place,
+        bytes,
+        events,
+        numbers: numbered.as_slice(),
+    };
     let mut refused: usize = 0;
     for number in 0..events.len() {
-        refused += add_if_found(
-            alloc, page, printout, bytes, events, numbers, number, count, place, pod,
-        )?;
+        refused += add_if_found(alloc, page, printout, searched, number)?;
     }
     Ok(refused)
 }
@@ -82,80 +104,80 @@ fn add_if_found(
     alloc: Global,
     page: &mut Page,
     printout: Printout<'_>,
-    bytes: &[u8],
-    events: &[Event],
-    numbers: &[usize],
+    searched: Searched<'_>,
     number: usize,
-    count: usize,
-    place: usize,
-    outer: Pod<'_>,
 ) -> Result<usize, AllocError>
-    requires numbers { AreNumbers events.now numbers.now }
-    requires number { number < length events.now }
-    requires count { count + 1 < 2 ^ 64 }
-    requires place { place + length bytes.now < 2 ^ 64 }
+    requires numbers { AreNumbers searched.events.now searched.numbers.now }
+    requires number { number < length searched.events.now }
+    requires count { searched.count + 1 < 2 ^ 64 }
+    requires place { searched.place + length searched.bytes.now < 2 ^ 64 }
     ensures added { IfOk result
         (AddsParts printout.entry.form
-        (found_at printout.entry.selection count place bytes.now events.now number (in_list.event_at events.now number))
+        (found_at printout.entry.selection searched.entry.count searched.entry.place searched.entry.bytes.now searched.entry.events.now number
+        (in_list.event_at searched.entry.events.now number))
         page.old.lines.items page.new.lines.items) }
     ensures few { IfOk result (λ refused. refused ≤ 1) }
 {
-    let event = event_at(events, number);
-    let sought = is_sought(
-        alloc,
-        bytes,
-        printout.selection,
-        count,
-        events,
-        numbers,
-        number,
-        event,
-    )?;
+    let event = event_at(searched.events, number);
+    let sought = is_sought(alloc, printout.selection, searched, number, event)?;
     if !sought {
         return Ok(0);
     }
-    let Some(value) = pod_at(bytes, event.at) else {
+    let Some(pod) = pod_at(searched.bytes, event.at) else {
         return Ok(0);
     };
-    let ids = ids_at(bytes, event_at(events, event.parent), event.at);
+    let holder = event_at(searched.events, event.parent);
     let mut path = String::new(alloc);
-    put_path(&mut path, STEP_LIMIT, bytes, events, numbers, number)?;
-    add_part(
-        alloc,
-        page,
-        printout.form,
-        value,
-        ids,
-        count,
-        place + event.at,
-        path.as_str(),
-        outer,
-    )
+    put_steps(&mut path, searched, number)?;
+    let part = Part {
+        pod,
+        ids: ids_at(searched.bytes, holder, event.at),
+        count: searched.count,
+        place: searched.place + event.at,
+        path: path.as_str(),
+        outer: searched.pod,
+    };
+    add_part(alloc, page, printout.form, part)
 }
 
 /// Whether the pod of the event of this number is looked for.
 fn is_sought(
     alloc: Global,
-    bytes: &[u8],
     selection: Selection<'_>,
-    count: usize,
-    events: &[Event],
-    numbers: &[usize],
+    searched: Searched<'_>,
     number: usize,
     event: Event,
 ) -> Result<bool, AllocError>
-    requires count { count + 1 < 2 ^ 64 }
-    requires numbers { AreNumbers events.now numbers.now }
-    requires number { number < length events.now }
-    ensures { IfOk result (λ is. is ≡ spec.is_sought selection.entry.path selection.entry count bytes.now events.now number event) }
+    requires numbers { AreNumbers searched.events.now searched.numbers.now }
+    requires number { number < length searched.events.now }
+    requires count { searched.count + 1 < 2 ^ 64 }
+    ensures { IfOk result (λ is. is
+        ≡ spec.is_sought selection.entry.path selection.entry searched.entry.count searched.entry.bytes.now searched.entry.events.now number event) }
 {
     let Some(wanted) = selection.path else {
-        return Ok(is_found(bytes, selection, events, event));
+        return Ok(is_found(searched.bytes, selection, searched.events, event));
     };
     let mut path = String::new(alloc);
-    write!(path, "{}", count + 1)?;
-    put_path(&mut path, STEP_LIMIT, bytes, events, numbers, number)?;
+    write!(path, "{}", searched.count + 1)?;
+    put_steps(&mut path, searched, number)?;
     Ok(path.as_str() == wanted)
+}
+
+/// Writes the steps to the pod of the event of this number.
+fn put_steps(text: &mut String, searched: Searched<'_>, number: usize) -> Result<(), AllocError>
+    requires numbers { AreNumbers searched.events.now searched.numbers.now }
+    requires number { number < length searched.events.now }
+    ensures { OnOk result (string_bytes text.new
+        ≡ string_bytes text.old ++ path_to step_limit searched.entry.events.now searched.entry.bytes.now number) }
+{
+    put_path(
+        text,
+        STEP_LIMIT,
+        searched.bytes,
+        searched.events,
+        searched.numbers,
+        number,
+    )
 }
 
 /// Whether the pod of this event is looked for, without a path.

@@ -18,7 +18,7 @@ use crate::message::{head_of, put_head};
 use crate::page::Page;
 use crate::parts::{Parts, Shown};
 use crate::paths::numbered;
-use crate::printing::{Layout, add_texts, begin_at};
+use crate::printing::{Layout, Position, add_texts, begin_at};
 use crate::selection::{Form, Printout};
 use spa_fixed_sized::DeserializeError;
 use spa_names::Table;
@@ -31,6 +31,22 @@ const FRONT_LEN: usize = 8;
 
 /// The refusal where fewer bytes are left than a pod takes.
 const SHORT: &str = "Short";
+
+/// A pod that is printed.
+#[derive(Clone, Copy)]
+pub(crate) struct Part<'a> {
+    pub(crate) pod: Pod<'a>,
+    /// The names of ids in it.
+    pub(crate) ids: Table,
+    /// How many top-level pods precede it, or the one that it is in.
+    pub(crate) count: usize,
+    /// The byte of the input where it begins.
+    pub(crate) place: usize,
+    /// The steps to it from the top-level pod, which has none itself.
+    pub(crate) path: &'a str,
+    /// The top-level pod that it is in, or itself.
+    pub(crate) outer: Pod<'a>,
+}
 
 /// A top-level pod that is being shown.
 #[derive(Drop)]
@@ -65,44 +81,34 @@ pub(crate) fn add_selected(
     if printout.selection.looks_inside() {
         return add_found(alloc, page, printout, pod, count, place);
     }
-    add_part(
-        alloc,
-        page,
-        printout.form,
+    let part = Part {
         pod,
-        Table::Nothing,
+        ids: Table::Nothing,
         count,
         place,
-        "",
-        pod,
-    )
+        path: "",
+        outer: pod,
+    };
+    add_part(alloc, page, printout.form, part)
 }
 
-/// Adds what is printed of a pod, which so many pods and bytes of the input stand before, where ids have these names, and to which these steps lead in
-/// this top-level one, and answers 1 where it is refused, else 0.
+/// Adds what is printed of a pod, and answers 1 where it is refused, else 0.
 pub(crate) fn add_part(
     alloc: Global,
     page: &mut Page,
     form: Form,
-    pod: Pod<'_>,
-    ids: Table,
-    count: usize,
-    place: usize,
-    path: &str,
-    outer: Pod<'_>,
+    part: Part<'_>,
 ) -> Result<usize, AllocError>
-    requires count { count + 1 < 2 ^ 64 }
-    requires place { place + length (pod_bytes pod) < 2 ^ 64 }
+    requires count { part.count + 1 < 2 ^ 64 }
+    requires place { part.place + length (pod_bytes part.pod) < 2 ^ 64 }
     ensures added { IfOk result
-        (AddsParts form (part_of count place path.now (pod_bytes pod.entry) ∷ [])
+        (AddsParts form (part_of part.entry.count part.entry.place part.entry.path.now (pod_bytes part.entry.pod) ∷ [])
         page.old.lines.items page.new.lines.items) }
     ensures few { IfOk result (λ refused. refused ≤ 1) }
 {
-    let refusal = refusal_of(alloc, pod)?;
+    let refusal = refusal_of(alloc, part.pod)?;
     let refused = count_of(refusal);
-    print_part(
-        alloc, page, form, pod, ids, refusal, refused, count, place, path, outer,
-    )?;
+    print_part(alloc, page, form, part, refusal, refused)?;
     Ok(refused)
 }
 
@@ -111,38 +117,37 @@ fn print_part(
     alloc: Global,
     page: &mut Page,
     form: Form,
-    pod: Pod<'_>,
-    ids: Table,
+    part: Part<'_>,
     refusal: Option<&'static str>,
     refused: usize,
-    count: usize,
-    place: usize,
-    path: &str,
-    outer: Pod<'_>,
 ) -> Result<(), AllocError>
-    requires count { count + 1 < 2 ^ 64 }
-    requires place { place + length (pod_bytes pod) < 2 ^ 64 }
+    requires count { part.count + 1 < 2 ^ 64 }
+    requires place { part.place + length (pod_bytes part.pod) < 2 ^ 64 }
     ensures { OnOk result
-        (AddsPart form (part_of count place path.now (pod_bytes pod.entry)) refused
+        (AddsPart form (part_of part.entry.count part.entry.place part.entry.path.now (pod_bytes part.entry.pod)) refused
         page.old.lines.items page.new.lines.items) }
 {
     match form {
-        Form::Lines => list(alloc, page, pod, ids, refusal, count, place, path, outer),
+        Form::Lines => list(alloc, page, part, refusal),
         Form::LinesAndBytes => {
-            list(alloc, page, pod, ids, refusal, count, place, path, outer)?;
-            add_rows(&mut page.lines, place, whole_bytes(&pod))
+            list(alloc, page, part, refusal)?;
+            add_rows(&mut page.lines, part.place, whole_bytes(&part.pod))
         }
         Form::Text(layout) => {
             if refused > 0 {
                 return Ok(());
             }
-            let path = numbered(alloc, count, path)?;
-            add_pod_text(alloc, &mut page.lines, layout, path.as_str(), outer, pod)
+            let path = numbered(alloc, part.count, part.path)?;
+            let position = Position {
+                path: path.as_str(),
+                outer: Some(part.outer),
+            };
+            add_pod_text(alloc, &mut page.lines, layout, position, part.pod)
         }
-        Form::Pods => page.lines.extend_from_slice(whole_bytes(&pod)),
+        Form::Pods => page.lines.extend_from_slice(whole_bytes(&part.pod)),
         Form::Bytes => {
-            let path = numbered(alloc, count, path)?;
-            add_string(&mut page.lines, path.as_str(), whole_bytes(&pod))
+            let path = numbered(alloc, part.count, part.path)?;
+            add_string(&mut page.lines, path.as_str(), whole_bytes(&part.pod))
         }
     }
 }
@@ -157,20 +162,19 @@ fn count_of(refusal: Option<&'static str>) -> usize
     }
 }
 
-/// Adds the text of an accepted pod, which stands at this path in this top-level one.
+/// Adds the text of an accepted pod, which is at this position.
 fn add_pod_text(
     alloc: Global,
     lines: &mut Vec<u8>,
     layout: Layout,
-    path: &str,
-    outer: Pod<'_>,
+    position: Position<'_>,
     pod: Pod<'_>,
 ) -> Result<(), AllocError>
     ensures { OnOk result
-        (AddsTexts (IsTextAt layout path.now) (pod_bytes pod.entry) lines.old.items lines.new.items) }
+        (AddsTexts (IsTextAt layout position.entry.path.now) (pod_bytes pod.entry) lines.old.items lines.new.items) }
 {
     // What is accepted isn't printed for lack of memory alone.
-    match add_texts(alloc, layout, path, Some(outer), whole_bytes(&pod), lines) {
+    match add_texts(alloc, layout, position, whole_bytes(&pod), lines) {
         Ok(()) => Ok(()),
         Err(_) => Err(AllocError),
     }
@@ -195,17 +199,12 @@ fn add_string(lines: &mut Vec<u8>, path: &str, bytes: &[u8]) -> Result<(), Alloc
 fn list(
     alloc: Global,
     page: &mut Page,
-    pod: Pod<'_>,
-    ids: Table,
+    part: Part<'_>,
     refusal: Option<&'static str>,
-    count: usize,
-    place: usize,
-    path: &str,
-    outer: Pod<'_>,
 ) -> Result<(), AllocError>
-    requires { count + 1 < 2 ^ 64 }
+    requires { part.count + 1 < 2 ^ 64 }
     ensures { OnOk result
-        (AddsPodLines (part_of count place path.now (pod_bytes pod.entry))
+        (AddsPodLines (part_of part.entry.count part.entry.place part.entry.path.now (pod_bytes part.entry.pod))
         page.old.lines.items page.new.lines.items) }
 {
     let levels = Vec::new(alloc);
@@ -214,8 +213,13 @@ fn list(
         refusal,
         alloc,
     };
-    page.add_head(count, place, path)?;
-    listing.add_pod(page, Shown::of_pod(pod, ids), place, outer)
+    page.add_head(part.count, part.place, part.path)?;
+    listing.add_pod(
+        page,
+        Shown::of_pod(part.pod, part.ids),
+        part.place,
+        part.outer,
+    )
 }
 
 impl<'a> Listing<'a> {

@@ -3,15 +3,15 @@ use Rattle.std.proofs.Common.{◌≡◌, ℕ, ◌<◌, ◌≤◌, List, sym, ap,
 use Rattle.spa_format.specs.Tree.{Tree, Properties, join_properties, no_properties, property}
 use Rattle.spa_format.specs.Pod.{AreProperties}
 use Rattle.spa_format.proofs.Sequences.{props_left}
-use Rattle.spa_scan.specs.Depth.{NestsDeeper, depth_of, levels_looked_into, property_depth}
+use Rattle.spa_canonical.specs.Depth.{NestsDeeper, depth_of, levels_looked_into, property_depth}
 use Rattle.std.specs.Borrow.{Bor}
 use Rattle.spa_format.specs.Faults.{Fault, Stands}
 use Rattle.spa_fixed_sized.specs.declared.fault.Refusal.{Refusal}
 use Rattle.spa_fixed_sized.specs.declared.fault.Refusal.TheVariants as refusal
 use Rattle.spa_bodies.specs.Reading.{MayLackMemory, OnMemory, RefusesInput}
 use Rattle.spa_bodies.specs.Refusing.{Says, error_of}
-use Rattle.spa_rewrite.proofs.Accepted.{fault_front}
-use Rattle.spa_scan.proofs.Depths.{deep_begun}
+use Rattle.spa_canonical.proofs.Accepted.{fault_front}
+use Rattle.spa_canonical.proofs.Depths.{deep_begun}
 use Rattle.spa_typed_read.specs.Lookup.{HoldsDeep}
 use Rattle.spa_typed_read.proofs.Lookups.{first_of_all, some_long}
 

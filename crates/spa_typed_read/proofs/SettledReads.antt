@@ -8,8 +8,8 @@ use Rattle.spa_format.specs.Tree.{Tree}
 use Rattle.spa_format.specs.Pod.{IsPod}
 use Rattle.spa_format.specs.Front.{Begins, front_of}
 use Rattle.spa_format.proofs.Conveyed.{one_value, pod_conveys}
-use Rattle.spa_scan.specs.Depth.{NestsDeeper, levels_looked_into}
-use Rattle.spa_scan.proofs.Deeper.{its_container}
+use Rattle.spa_canonical.specs.Depth.{NestsDeeper, levels_looked_into}
+use Rattle.spa_canonical.proofs.Deeper.{its_container}
 use Rattle.spa_bodies.specs.Refusing as refusing
 use Rattle.spa_bodies.specs.Refusing.{error_of}
 use Rattle.spa_typed_read.specs.Exactly.{BeginsChoice, RefusesSettled, malformed}

@@ -16,7 +16,7 @@ use Rattle.spa_format.specs.Faults.{Stands}
 use Rattle.spa_fixed_sized.specs.declared.fault.DeserializeError.TheVariants as error
 use Rattle.spa_bodies.specs.Refusing.{StandsInMembers, StandsInProperties}
 use Rattle.spa_typed_read.specs.Exactly.{AreNoMembers, RefusesMembers}
-use Rattle.spa_scan.specs.Depth.{NestsDeeper, levels_looked_into}
+use Rattle.spa_canonical.specs.Depth.{NestsDeeper, levels_looked_into}
 use Rattle.spa_typed_read.specs.Lookup.{HoldsDeep, RefusesProperties}
 use Rattle.spa_typed_read.specs.ExactlyLaws.{fault_to, memory_there, memory_to}
 use Rattle.spa_typed_read.proofs.Causes.{names_to, short_named, short_no_memory}

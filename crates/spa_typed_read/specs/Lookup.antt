@@ -8,7 +8,7 @@ use Rattle.spa_format.specs.Front.{HasFront, rest_of}
 use Rattle.spa_fixed_sized.specs.declared.fault.DeserializeError.{DeserializeError}
 use Rattle.spa_bodies.specs.Reading.{IsRead, IsShortAt, Names, OnFault, OnMemory}
 use Rattle.spa_bodies.specs.Refusing.{StandsInProperties}
-use Rattle.spa_scan.specs.Depth.{NestsDeeper, levels_looked_into}
+use Rattle.spa_canonical.specs.Depth.{NestsDeeper, levels_looked_into}
 use Rattle.spa_fixed_sized.specs.declared.fault.DeserializeError.TheVariants as error
 use Rattle.spa_typed_read.specs.Asking.{LacksObject}
 use Rattle.spa_typed_read.specs.Members.{ObjectReader, OpensObject}

@@ -12,7 +12,7 @@ ghost use Rattle.spa_format.specs.Tree.{Properties, Tree, Trees, fixed, member, 
 ghost use Rattle.spa_format.specs.Typed.{IsTyped};
 ghost use Rattle.spa_format.specs.Words.{body_of, header_size, word_at};
 ghost use Rattle.spa_format.specs.Writable.{IsWritable};
-ghost use Rattle.spa_scan.specs.Depth.{levels_looked_into, property_depth};
+ghost use Rattle.spa_canonical.specs.Depth.{levels_looked_into, property_depth};
 ghost use Rattle.spa_typed_read.specs.Exactly.{RefusesExactly};
 ghost use Rattle.spa_typed_read.specs.Lookup.{TakesIn};
 ghost use Rattle.spa_typed_read.specs.Members.{ArrayReader, Further, FurtherIn, IsMadeOf, ObjectReader, OpensArray, Reader, TakesElements, list_tree, single_tree};

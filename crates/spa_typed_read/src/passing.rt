@@ -1,14 +1,14 @@
 //! Values that are checked in the input and skipped.
 ghost use Rattle.std.specs.Prelude.{⊤};
 ghost use Rattle.spa_bodies.specs.Reading.{OnMemory, RefusesInput};
-ghost use Rattle.spa_scan.specs.Depth.{NestsDeeper, levels_looked_into};
+ghost use Rattle.spa_canonical.specs.Depth.{NestsDeeper, levels_looked_into};
 ghost use Rattle.spa_typed_read.specs.ExactlyLaws.{passed_exactly};
 
 use crate::deserializer::{DeserializeSuccess, PodDeserialize, PodDeserializer};
 use crate::exact::ExactDeserialize;
 use spa_bodies::error_at;
+use spa_canonical::{Rejected, look_at_pod};
 use spa_fixed_sized::DeserializeError;
-use spa_rewrite::{Rejected, look_at_pod};
 use spa_value::discard;
 
 /// Any value, which is checked in the borrowed input and not kept. Memory is asked for only where the nesting depth, without containers in tail

@@ -10,8 +10,8 @@ ghost use Rattle.spa_view.specs.View.{pod_bytes};
 use crate::deserializer::{DeserializeSuccess, PodDeserialize, PodDeserializer};
 use crate::exact::ExactDeserialize;
 use spa_bodies::error_at;
+use spa_canonical::{Rejected, look_at_pod};
 use spa_fixed_sized::DeserializeError;
-use spa_rewrite::{Rejected, look_at_pod};
 use spa_utils::SpaTypes;
 use spa_view::{FixedPod, FromPod, Pod};
 

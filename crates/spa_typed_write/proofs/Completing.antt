@@ -10,7 +10,7 @@ use Rattle.spa_format.specs.Tree.{Tree, Trees, Properties, member, no_trees, no_
 use Rattle.spa_format.specs.Encoding.{encoded_body, encoding_of, member_encodings, property_encodings}
 use Rattle.spa_format.proofs.Encodings.{key_words, length-encoded_pod, property_encoding, two_words_length, whole_members, whole_properties}
 use Rattle.spa_sink.proofs.Sending.{RefusesAfter, RefusesLonger}
-use Rattle.spa_scan.specs.Depth.{depth_of, member_depth, property_depth}
+use Rattle.spa_canonical.specs.Depth.{depth_of, member_depth, property_depth}
 use Rattle.spa_write.specs.DeepValues.{LacksMemory}
 use Rattle.spa_typed_write.specs.Parts.{ArePropertyParts, AreParts, IsPart, beginning, last_key, last_member, last_value, no_member, no_property, open_object, open_struct, whole_member, whole_property}
 use Rattle.spa_typed_write.specs.Complete.{AreWritten, ArePropertiesWritten, IsWritten, KeepsBytes, RefusesBytes, RefusesMembers, RefusesProperties, RefusesValue}

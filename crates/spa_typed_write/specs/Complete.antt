@@ -8,7 +8,7 @@ use Rattle.spa_format.specs.Encoding.{encoding_of, member_encodings, property_en
 use Rattle.spa_format.specs.Typed.{AllPropertiesTyped, AllTyped, IsTyped}
 use Rattle.spa_format.specs.Writable.{HasNul, IsTooLarge, IsWritable, SomeHasNul, SomeTooLarge, SomeValueHasNul, SomeValueTooLarge}
 use Rattle.spa_bodies.specs.Written.{IsExtended, Refusing}
-use Rattle.spa_scan.specs.Depth.{depth_of, member_depth, property_depth}
+use Rattle.spa_canonical.specs.Depth.{depth_of, member_depth, property_depth}
 use Rattle.spa_write.specs.DeepValues.{LacksMemory}
 
 -- Why a value can't be written: a text in it holds NUL, a size doesn't fit a word of 32 bits, or it nests in more than 512 levels and memory ran

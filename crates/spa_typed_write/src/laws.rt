@@ -6,7 +6,7 @@ ghost use Rattle.spa_sink.specs.declared.gen_error.GenError.TheVariants.{Full, O
 ghost use Rattle.spa_format.specs.Encoding.{encoding_of};
 ghost use Rattle.spa_format.specs.Typed.{IsTyped};
 ghost use Rattle.spa_format.specs.Writable.{HasNul, IsTooLarge, IsWritable};
-ghost use Rattle.spa_scan.specs.Depth.{depth_of};
+ghost use Rattle.spa_canonical.specs.Depth.{depth_of};
 ghost use Rattle.spa_value.specs.View.{view};
 ghost use Rattle.spa_write.specs.DeepValues.{levels_without_memory};
 ghost use Rattle.spa_typed_write.specs.Complete.{RefusesAtLimit};

@@ -7,7 +7,7 @@ use Rattle.spa_value.specs.declared.object.Property.{Property}
 use Rattle.spa_value.specs.View.{view}
 use Rattle.spa_value.specs.Views.{views, property_views}
 use Rattle.spa_value.proofs.ViewLaws.{views-at, property_views-at}
-use Rattle.spa_scan.specs.Depth.{depth_of, member_depth, property_depth}
+use Rattle.spa_canonical.specs.Depth.{depth_of, member_depth, property_depth}
 
 -- a list nests as deep as the members behind some of it
 joined_depth : (vs ws : Trees) → member_depth ws ≤ member_depth (join_members vs ws)

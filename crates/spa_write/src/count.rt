@@ -3,7 +3,7 @@ ghost use Rattle.std.specs.Prelude.{◌≡◌, ◌+◌, ◌<◌, ◌≤◌, IfNo
 ghost use Rattle.spa_format.specs.Encoding.{encoding_of};
 ghost use Rattle.spa_format.specs.Tree as tree;
 ghost use Rattle.spa_format.specs.Tree.{member_node_count, node_count, property_node_count};
-ghost use Rattle.spa_scan.specs.Depth.{depth_of, member_depth, property_depth};
+ghost use Rattle.spa_canonical.specs.Depth.{depth_of, member_depth, property_depth};
 ghost use Rattle.spa_value.specs.View.{view};
 ghost use Rattle.spa_value.specs.Views.{property_views, views};
 

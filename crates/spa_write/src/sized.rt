@@ -5,7 +5,7 @@ ghost use Rattle.spa_sink.specs.declared.gen_error.GenError.TheVariants.{OutOfMe
 ghost use Rattle.spa_format.specs.Encoding.{encoding_of, member_encodings, property_encodings};
 ghost use Rattle.spa_format.specs.Tree as tree;
 ghost use Rattle.spa_format.specs.Writable.{HasNul, IsTooLarge, IsWritable};
-ghost use Rattle.spa_scan.specs.Depth.{depth_of};
+ghost use Rattle.spa_canonical.specs.Depth.{depth_of};
 ghost use Rattle.spa_value.specs.View.{view};
 ghost use Rattle.spa_value.specs.Views.{property_views, views};
 ghost use Rattle.spa_write.specs.Measured.{ArePropertiesPut, ArePut, PropertiesAreWritable};

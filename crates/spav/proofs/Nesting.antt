@@ -6,8 +6,8 @@ use Rattle.spa_format.specs.Tree.{Trees, no_trees, member, type_of}
 use Rattle.spa_format.specs.Walk.{walk}
 use Rattle.spa_format.proofs.Fronts.{front_of_whole}
 use Rattle.spa_format.proofs.WalkLemmas.{walk-end, walk-there}
-use Rattle.spa_scan.specs.Depth.{NestsDeeper, SomeOf, levels_looked_into}
-use Rattle.spa_scan.proofs.Deeper.{of_front}
+use Rattle.spa_canonical.specs.Depth.{NestsDeeper, SomeOf, levels_looked_into}
+use Rattle.spa_canonical.proofs.Deeper.{of_front}
 use Rattle.spav.specs.Faults.{NestsTooDeep}
 
 none_deep : (b : List ℕ) → b ≡ [] → ¬ (SomeOf (NestsDeeper levels_looked_into) (walk b))

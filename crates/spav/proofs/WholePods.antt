@@ -4,8 +4,8 @@ use Rattle.spa_format.specs.Front.{Begins, HasFront, front_of, rest_of}
 use Rattle.spa_format.specs.Pod.{IsBody, IsPod}
 use Rattle.spa_format.specs.Tree.{Tree, type_of}
 use Rattle.spa_format.proofs.Fronts.{front_of_whole}
-use Rattle.spa_scan.specs.Canonical.{MissesOnly}
-use Rattle.spa_scan.specs.Depth.{depth_of, levels_looked_into}
+use Rattle.spa_canonical.specs.Canonical.{MissesOnly}
+use Rattle.spa_canonical.specs.Depth.{depth_of, levels_looked_into}
 use Rattle.spa_view.specs.Tests as t
 use Rattle.spav.specs.Building.{IsPodOf}
 

@@ -5,7 +5,7 @@ use Rattle.std.proofs.lemmas.Slice.{drop-append-drop}
 use Rattle.std.specs.Prelude.{ℤ}
 use Rattle.spa_format.specs.Encoding.{member_encodings}
 use Rattle.spa_format.proofs.Short.{short_members}
-use Rattle.spa_rewrite.specs.Rewriting.{AreRewritten}
+use Rattle.spa_canonical.specs.Rewriting.{AreRewritten}
 use Rattle.spa_lenient.specs.Rewriting.{AreRewrittenLeniently}
 use Rattle.spav.specs.Answers.{IsDone, IsPut}
 use Rattle.spav.specs.Lenient.{ConveyedIsWritten}

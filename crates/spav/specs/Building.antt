@@ -11,7 +11,7 @@ use Rattle.spa_format.specs.Tree.{Tree, array, fixed, string, bytes, pointer, st
 use Rattle.spa_builder.specs.State.{State, start}
 use Rattle.spa_builder.specs.Step as builder
 use Rattle.spa_builder.specs.Step.{Outcome, Accepts, Inval, add, add_prop, pop, push_array, push_choice, push_object, push_struct, step}
-use Rattle.spa_scan.specs.Depth.{depth_of, levels_looked_into}
+use Rattle.spa_canonical.specs.Depth.{depth_of, levels_looked_into}
 use Rattle.spav.specs.declared.building.Call.{Call}
 
 -- the number of a call that adds a key; those of calls that add a value or open a container are the numbers of its type

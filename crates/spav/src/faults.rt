@@ -8,8 +8,8 @@ ghost use Rattle.spav.specs.Answers.{IsDone, IsNested, IsTooDeep};
 ghost use Rattle.spav.specs.Faults.{FaultStands, NestsTooDeep, fault_number};
 
 use crate::answers::{DONE, TOO_DEEP};
+use spa_canonical::{Rejected, look_at_pods};
 use spa_fixed_sized::Refusal;
-use spa_rewrite::{Rejected, look_at_pods};
 
 /// The number that stands for no fault.
 pub(crate) const NO_FAULT: u32 = 0;

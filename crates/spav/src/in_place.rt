@@ -1,15 +1,15 @@
 //! Canonicalizes lists of pods in place, in the caller's memory.
 ghost use Rattle.std.specs.Prelude.{◌≡◌, false, true, ℕ};
 ghost use Rattle.spa_fixed_sized.specs.declared.fault.DeserializeError.TheVariants as refused;
-ghost use Rattle.spa_in_place.specs.InPlace.{RefusesListAt};
-ghost use Rattle.spa_rewrite.specs.Shorter.{ArePodsWithin};
-ghost use Rattle.spa_scan.specs.Depth.{levels_looked_into};
+ghost use Rattle.spa_rewrite.specs.InPlace.{RefusesListAt};
+ghost use Rattle.spa_canonical.specs.Shorter.{ArePodsWithin};
+ghost use Rattle.spa_canonical.specs.Depth.{levels_looked_into};
 ghost use Rattle.spav.specs.Answers.{IsChecked, IsDone, IsInvalid, IsNoMemory};
 ghost use Rattle.spav.specs.Lists.{IsForBytes, ListIsRefused, ListIsWritten};
 
 use crate::answers::{DONE, INVALID, NO_MEMORY};
 use spa_fixed_sized::DeserializeError;
-use spa_in_place::rewrite_in_place;
+use spa_rewrite::rewrite_in_place;
 use std::alloc::Global;
 
 /// Canonicalizes all pods that the bytes consist of, in place: their canonical encodings, one after another, are then the front of the bytes.

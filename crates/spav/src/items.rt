@@ -3,7 +3,7 @@ ghost use Rattle.std.specs.Prelude.{◌≡◌, ◌≤◌, IfNone, IfSome, ℕ};
 ghost use Rattle.spa_format.specs.Front.{HasFront};
 ghost use Rattle.spa_format.specs.Pod.{AreMembers};
 ghost use Rattle.spa_format.specs.Tree.{Trees};
-ghost use Rattle.spa_scan.specs.Depth.{levels_looked_into, member_depth};
+ghost use Rattle.spa_canonical.specs.Depth.{levels_looked_into, member_depth};
 ghost use Rattle.spa_view.specs.View.{pod_bytes};
 ghost use Rattle.spav.specs.Answers.{IsChanged, IsDone, IsFound, IsInvalid, IsListRead, IsMissing, IsNoRoom, IsPut, IsTooDeep};
 ghost use Rattle.spav.specs.Faults.{FaultStands, NestsTooDeep};

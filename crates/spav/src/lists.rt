@@ -2,15 +2,15 @@
 ghost use Rattle.std.specs.Prelude.{◌≡◌, ◌<◌, ◌≤◌, ◌++◌, drop, false, IfNone, IfSome, length, true};
 ghost use Rattle.spa_format.specs.Pod.{AreMembers};
 ghost use Rattle.spa_format.specs.Tree.{Trees};
-ghost use Rattle.spa_rewrite.specs.Shorter.{ArePodsWithin};
-ghost use Rattle.spa_scan.specs.Depth.{AreShallow, levels_looked_into};
+ghost use Rattle.spa_canonical.specs.Shorter.{ArePodsWithin};
+ghost use Rattle.spa_canonical.specs.Depth.{AreShallow, levels_looked_into};
 ghost use Rattle.spav.specs.Answers.{IsChecked, IsDone, IsInvalid, IsNoMemory, IsNoRoom, IsPut, IsRewritten};
 ghost use Rattle.spav.specs.Lists.{ListIsRefused, ListIsWritten, ListLacksRoom};
 
 use crate::answers::{DONE, INVALID, NO_MEMORY, NO_ROOM};
+use spa_canonical::canonical_stretch;
 use spa_fixed_sized::DeserializeError;
-use spa_in_place::rewrite_into;
-use spa_rewrite::{accept_all, canonical_stretch, rewrite_all};
+use spa_rewrite::{accept_all, rewrite_all, rewrite_into};
 use std::alloc::Global;
 
 /// Writes the canonical encodings of all pods that the input consists of, one after another, to the front of `out`.

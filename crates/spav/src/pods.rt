@@ -10,8 +10,7 @@ ghost use Rattle.spav.specs.Building.{AddsPod, IsPodOf, part_of};
 
 use crate::building::{Call, part};
 use spa_builder::Builder;
-use spa_rewrite::canonical_front;
-use spa_scan::{LEVELS, nests_within};
+use spa_canonical::{LEVELS, canonical_front, nests_within};
 use spa_utils::{Errno, SpaTypes};
 use spa_view::Pod;
 

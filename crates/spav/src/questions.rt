@@ -4,16 +4,16 @@ ghost use Rattle.spa_format.specs.Encoding.{member_encodings};
 ghost use Rattle.spa_format.specs.Front.{Begins, rest_of};
 ghost use Rattle.spa_format.specs.Pod.{AreMembers};
 ghost use Rattle.spa_format.specs.Tree.{Tree, Trees};
-ghost use Rattle.spa_scan.specs.Canonical.{BeginsCanonical};
-ghost use Rattle.spa_scan.specs.Depth.{NestsDeeper, depth_of, levels_looked_into};
+ghost use Rattle.spa_canonical.specs.Canonical.{BeginsCanonical};
+ghost use Rattle.spa_canonical.specs.Depth.{NestsDeeper, depth_of, levels_looked_into};
 ghost use Rattle.spav.specs.Answers.{IsAsked, IsChecked, IsDone, IsInvalid, IsNested, IsNoMemory, IsTooDeep};
 ghost use Rattle.spav.specs.Lists.{IsForBytes};
 
 use crate::answers::{DONE, FIRST, INVALID, NO_MEMORY, SECOND, TOO_DEEP};
 use crate::in_place::is_for_bytes;
+use spa_canonical::{LEVELS, nests_within};
 use spa_fixed_sized::DeserializeError;
 use spa_rewrite::{is_canonical, rewrite_all};
-use spa_scan::{LEVELS, nests_within};
 use std::alloc::Global;
 
 /// Whether the pod at the front of the input is canonical. It is where all of it is there and `spav_rewrite` would give the same bytes. The bytes

@@ -1,10 +1,12 @@
-//! Bytes for tests: from the words of a table, from a text that spells them, and of pods nested deep; and a pod's words as a text. There
-//! is nothing here that the library uses.
+//! Bytes for tests: from the words of a table, from a text that spells them, and of pods nested deep; a pod's words as a text; and streams
+//! of bytes. There is nothing here that the library uses.
 #![tactic(auto)]
 
 ghost use Rattle.std.specs.List.{flat_map};
 ghost use Rattle.std.specs.Prelude.{◌≡◌, ◌++◌, IfOk, OnOk};
 ghost use Rattle.spa_format.specs.Words.{word_bytes};
+
+pub mod streams;
 
 use std::alloc::{AllocError, Global};
 

@@ -1,5 +1,5 @@
 //! Texts behind what was there.
-use crate::read::assert_so;
+use crate::texts::assert_so;
 use spa_text::{TextPrinter, print};
 use spa_value::Value;
 use std::alloc::{AllocError, Global};

@@ -1,5 +1,5 @@
 //! Deeply nested texts.
-use crate::read::{assert_so, held, printed};
+use crate::texts::{assert_so, held, printed};
 use spa_text::print_pretty;
 use spa_value::{Held, Value, same};
 use std::alloc::{AllocError, Global};

@@ -1,5 +1,5 @@
 //! Texts with each byte changed to each other one: blanks around them change nothing of what is read, nor whether it is.
-use crate::read::{assert_so, held};
+use crate::texts::{assert_so, held};
 use spa_value::same;
 use std::alloc::{AllocError, Global};
 use std::process::Abort;

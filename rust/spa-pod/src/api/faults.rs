@@ -1,7 +1,8 @@
 //! Where the first fault in a list of pods stands.
 use super::errors::offset_in;
 use crate::parts::spa_bodies::error_at;
-use crate::parts::spa_rewrite::{Rejected, find_fault as first_fault};
+use crate::parts::spa_canonical::Rejected;
+use crate::parts::spa_rewrite::find_fault as first_fault;
 use crate::pod::deserialize::DeserializeError;
 use core::error::Error;
 use core::fmt::{Display, Formatter, Result as Printed};

@@ -4,7 +4,7 @@ use super::errors::offset_in;
 use super::levels::{MOST_LEVELS, Unbounded, within};
 use crate::parts::spa_bodies::error_at;
 use crate::parts::spa_read::{Refused, read_value, read_value_leniently};
-use crate::parts::spa_rewrite::{Rejected, look_at_pod};
+use crate::parts::spa_canonical::{Rejected, look_at_pod};
 use crate::parts::spa_view::whole_bytes;
 use crate::pod::deserialize::{
     DeserializeAs, DeserializeError, DeserializeMembers, DeserializeProperties, FaultKind, ObjectOf, Optional, PodDeserialize, PodDeserializer,

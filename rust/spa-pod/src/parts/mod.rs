@@ -12,6 +12,7 @@ pub mod libspa;
 pub mod spa_bodies;
 pub mod spa_builder;
 pub mod spa_bytes;
+pub mod spa_canonical;
 #[cfg(feature = "std")]
 pub mod spa_device;
 pub mod spa_dict;
@@ -22,7 +23,6 @@ pub mod spa_filter_offers;
 pub mod spa_filter_pods;
 pub mod spa_fixed_sized;
 pub mod spa_format;
-pub mod spa_in_place;
 pub mod spa_keyed_objects;
 pub mod spa_lenient;
 pub mod spa_names;
@@ -33,7 +33,6 @@ pub mod spa_print;
 pub mod spa_read;
 pub mod spa_result;
 pub mod spa_rewrite;
-pub mod spa_scan;
 pub mod spa_sink;
 pub mod spa_spare_capacity;
 #[cfg(feature = "text")]

@@ -88,7 +88,7 @@ returns-in-Err-write_front-clause-stopped g c =
     let blocks = c.next.new.self in
     let len = c.in-Some.whole.len in
     let whole = rw c.in-Some.is at c.in-Ok-next.ensures.whole in
-    let block = ap (take len) c.as_mut_slice.ensures.value ∙ sym (take-take len blocks.held blocks.buffer.items whole.within) in
+    let block = ap (take len) c.as_mut_slice-buffer.ensures.value ∙ sym (take-take len blocks.held blocks.buffer.items whole.within) in
     let reading = c.args.reading in
     let refuses = MayStop reading (g.B.BlockWriter.refuses c.args.writer.now) in
     let makes = g.B.BlockWriter.makes c.args.writer.now in
@@ -119,7 +119,7 @@ loop-preserved g c =
     let items = blocks.buffer.items in
     let len = c.in-Some.whole.len in
     let whole = rw c.in-Some.is at c.in-Ok-next.ensures.whole in
-    let block = ap (take len) c.as_mut_slice.ensures.value ∙ sym (take-take len blocks.held items whole.within) in
+    let block = ap (take len) c.as_mut_slice-buffer.ensures.value ∙ sym (take-take len blocks.held items whole.within) in
     let reading = c.args.reading in
     let refuses = MayStop reading (g.B.BlockWriter.refuses c.args.writer.now) in
     let makes = g.B.BlockWriter.makes c.args.writer.now in
@@ -128,8 +128,8 @@ loop-preserved g c =
     let more =
     c.pass.ensures.ahead
     ∙ ap (λ z. drop len (take blocks.held z)) (with_items_is blocks.buffer c.write_front.new.buffer (search (rules, places)))
-    ∙ same_behind c.as_mut_slice.result.now c.write_front.new.buffer len blocks.held whole.within c.write_front.ensures.behind
-    ∙ ap (λ z. drop len (take blocks.held z)) c.as_mut_slice.ensures.value in
+    ∙ same_behind c.as_mut_slice-buffer.result.now c.write_front.new.buffer len blocks.held whole.within c.write_front.ensures.behind
+    ∙ ap (λ z. drop len (take blocks.held z)) c.as_mut_slice-buffer.ensures.value in
     let within = whole.within in (
       c.pass.ensures.room,
       search rules,

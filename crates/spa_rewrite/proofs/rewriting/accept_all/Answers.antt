@@ -1,8 +1,8 @@
 use Rattle.std.proofs.Common.{subst, sym}
 use Rattle.spa_bodies.specs.Reading.{OnMemory}
-use Rattle.spa_scan.specs.Depth.{NestsDeeper, levels_looked_into}
-use Rattle.spa_rewrite.specs.Rewriting.{RefusesList}
-use Rattle.spa_rewrite.proofs.Stretches.{list_refused}
+use Rattle.spa_canonical.specs.Depth.{NestsDeeper, levels_looked_into}
+use Rattle.spa_canonical.specs.Rewriting.{RefusesList}
+use Rattle.spa_canonical.proofs.Stretches.{list_refused}
 use Rattle.spa_rewrite.proofs.rewriting.accept_all.Goals as goal
 
 pub returns-in-Err-clause-refused : goal.returns-in-Err-clause-refused

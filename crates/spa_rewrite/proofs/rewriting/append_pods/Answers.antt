@@ -1,13 +1,13 @@
 use Rattle.std.proofs.Common.{◌≡◌, ◌+◌, ◌-◌, ◌++◌, ◌∙◌, ap, arith, drop, length, refl, rules, subst, sym, take}
 use Rattle.std.specs.Prelude.{[], vec_len}
 use Rattle.std.proofs.lemmas.List.{with_items_is}
-use Rattle.spa_rewrite.specs.Look.{AreChanged}
-use Rattle.spa_rewrite.specs.Rewriting.{AreRewritten}
+use Rattle.spa_canonical.specs.Look.{AreChanged}
+use Rattle.spa_canonical.specs.Rewriting.{AreRewritten}
 use Rattle.spa_rewrite.proofs.Appended.{written_behind}
 use Rattle.spa_rewrite.proofs.Appending.{appended_behind}
-use Rattle.spa_rewrite.proofs.Written.{take_past}
+use Rattle.spa_canonical.proofs.Written.{take_past}
 use Rattle.spa_rewrite.proofs.rewriting.append_pods.Goals as goal
-use Rattle.spa_rewrite.proofs.Lengths.{lengths}
+use Rattle.spa_canonical.proofs.Lengths.{lengths}
 
 pub encode_pods-len-requires : goal.encode_pods-len-requires
 encode_pods-len-requires c =

@@ -6,7 +6,7 @@ use Rattle.spa_text_commands.proofs.printing.add_text_at.Goals as goal
 
 pub returns-clause-added : goal.returns-clause-added
 returns-clause-added c =
-    let path = c.args.path.now in
+    let path = c.args.position.path.now in
     let begun = c.in_ok-ending.ensures in
     let added = c.in_ok-print_in.ensures in (
       wrapped path begun.0 added.0,

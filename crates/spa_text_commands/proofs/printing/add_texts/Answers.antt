@@ -22,9 +22,9 @@ loop-left-smaller c =
 
 pub loop-left-preserved : goal.loop-left-preserved
 loop-left-preserved c =
-    goes_on (IsTextAt c.args.layout c.args.path.now) c.args.pods.now c.loop-left.left.now c.in_ok-rest.rest.now c.args.lines.now.items c.loop-left.lines.items
+    goes_on (IsTextAt c.args.layout c.args.position.path.now) c.args.pods.now c.loop-left.left.now c.in_ok-rest.rest.now c.args.lines.now.items c.loop-left.lines.items
     c.add_text_at.new.lines.items (view c.in_ok-rest.value) c.loop-left.invariant c.in_ok-rest.ensures.value c.in_ok-rest.ensures.rest
-    (subst (λ value. AddsTextLine (IsTextAt c.args.layout c.args.path.now) (view value) c.loop-left.lines.items c.add_text_at.new.lines.items) c.deref.ensures c.in_ok-add_text_at.ensures.added)
+    (subst (λ value. AddsTextLine (IsTextAt c.args.layout c.args.position.path.now) (view value) c.loop-left.lines.items c.add_text_at.new.lines.items) c.deref.ensures c.in_ok-add_text_at.ensures.added)
 
 pub returns-clause-added : goal.returns-clause-added
 returns-clause-added c =

@@ -1,6 +1,6 @@
 use Rattle.std.proofs.Common.{◌∙◌, ap, sym, arith}
 use Rattle.spa_format.specs.Tree.{object, struct}
-use Rattle.spa_scan.specs.Depth.{depth_of}
+use Rattle.spa_canonical.specs.Depth.{depth_of}
 use Rattle.spa_value.specs.declared.object.Object.{out-Object}
 use Rattle.spa_value.specs.View.{view}
 use Rattle.spa_value.specs.Views.{property_views, views}

@@ -1,6 +1,6 @@
 use Rattle.std.proofs.Common.{◌≤◌}
 use Rattle.spa_format.specs.Tree.{member_node_count}
-use Rattle.spa_scan.specs.Depth.{member_depth}
+use Rattle.spa_canonical.specs.Depth.{member_depth}
 use Rattle.spa_value.specs.Views.{views}
 use Rattle.spa_write.proofs.count.innermost.Given as goal
 

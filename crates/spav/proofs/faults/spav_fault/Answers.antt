@@ -1,7 +1,7 @@
 use Rattle.std.proofs.Common.{length, refl, subst, arith, length-append, ap}
-use Rattle.spa_rewrite.specs.Look.{IsRejected}
+use Rattle.spa_canonical.specs.Look.{IsRejected}
 use Rattle.spav.proofs.FirstFaults.{fault_stands}
-use Rattle.spa_rewrite.proofs.Changed.{accepted_changed, changed_members}
+use Rattle.spa_canonical.proofs.Changed.{accepted_changed, changed_members}
 use Rattle.spav.proofs.faults.spav_fault.Goals as goal
 
 pub overflow_add-at : goal.overflow_add-at

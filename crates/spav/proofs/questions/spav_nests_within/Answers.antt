@@ -1,5 +1,5 @@
 use Rattle.std.proofs.Common.{◌∙◌, sym, true≢false, arith}
-use Rattle.spa_scan.proofs.Deeper.{deeper_than_fewer}
+use Rattle.spa_canonical.proofs.Deeper.{deeper_than_fewer}
 use Rattle.spav.proofs.questions.spav_nests_within.Goals as goal
 
 pub returns-clause-within : goal.returns-clause-within

@@ -11,12 +11,12 @@ use crate::parts::pod_commands::refusing::{
 };
 use crate::parts::pod_commands::request::{Making, Printing, Style, Texts};
 use crate::parts::pod_commands::streaming::check_all;
-use spa_pod::parts::spa_in_place::rewrite_in_place;
 use crate::parts::spa_meet_commands::settling::settle_all;
 use crate::parts::spa_pod_commands::making::{check, fixated};
 use crate::parts::spa_recordings::going_on::{Made, Maker, Manner, Overlap, Progress, Refused, make_each};
 use crate::parts::spa_recordings::reading::Reading;
 use crate::parts::spa_refusals::{NamedRefusal, add_refusals};
+use spa_pod::parts::spa_rewrite::rewrite_in_place;
 use crate::parts::spa_text_commands::answer::Failure as TextFailure;
 use crate::parts::spa_text_commands::hexadecimal::read_hexadecimal;
 use crate::parts::spa_text_commands::params::{Unprinted, print_params};

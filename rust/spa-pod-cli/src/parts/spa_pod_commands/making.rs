@@ -5,8 +5,7 @@ use spa_pod::shims::prelude::*;
 use crate::parts::spa_pod_commands::answer::Failure;
 use crate::parts::spa_pod_commands::pods::fixate_all;
 use spa_pod::parts::spa_fixed_sized::DeserializeError;
-use spa_pod::parts::spa_in_place::rewrite_in_place;
-use spa_pod::parts::spa_rewrite::accept_all;
+use spa_pod::parts::spa_rewrite::{accept_all, rewrite_in_place};
 
 /// The rewritings of the pods that the bytes consist of, made in place.
 pub fn rewritten(mut bytes: Vec<u8>) -> Result<Vec<u8>, Failure> {

@@ -6,7 +6,8 @@ use crate::parts::spa_recordings::blocks::whole_of;
 use crate::parts::spa_recordings::plausible::{is_plausible, next_plausible};
 use crate::parts::spa_recordings::reading::{Reading, Unread, first_unread, read_as};
 use spa_pod::parts::spa_bytes::{HEADER_LEN, open};
-use spa_pod::parts::spa_rewrite::{Rejected, find_fault};
+use spa_pod::parts::spa_canonical::Rejected;
+use spa_pod::parts::spa_rewrite::find_fault;
 use spa_pod::parts::spa_utils::SpaTypes;
 use spa_pod::shims::memory::AllocError;
 

@@ -5,9 +5,9 @@ use spa_pod::shims::prelude::*;
 use crate::parts::spa_recordings::blocks::{Blocks, whole_of};
 use crate::parts::spa_recordings::reading::{Reading, first_unread};
 use spa_pod::parts::spa_fixed_sized::DeserializeError;
-use spa_pod::parts::spa_in_place::rewrite_in_place;
 use spa_pod::parts::spa_lenient::rewrite_in_place_leniently;
 use crate::parts::spa_pod_commands::output::write;
+use spa_pod::parts::spa_rewrite::rewrite_in_place;
 use std::io::{Read, Write};
 
 /// Why the work on an input ends before that does.
@@ -137,14 +137,12 @@ pub fn stream<B: BlockWriter, R: Read, W: Write>(
         let Some(behind) = before.place.checked_add(whole.len) else {
             return Err(Stop::ReadFailed);
         };
-        match write_front(
-            reading,
-            writer,
+        let block = Block {
             before,
-            whole.len,
-            blocks.buffer.as_mut_slice(),
-            output,
-        ) {
+            len: whole.len,
+        };
+        let buffer = blocks.buffer.as_mut_slice();
+        match write_front(reading, writer, block, buffer, output) {
             Ok(written) => {
                 made.refused += written.made.refused;
                 made.nothing = made.nothing & written.made.nothing;
@@ -170,6 +168,15 @@ struct Before {
     place: usize,
     /// How many bytes the pods take as which these are read.
     made: usize,
+}
+
+/// A block of whole pods.
+#[derive(Clone, Copy)]
+struct Block {
+    /// What of the input stands before it.
+    before: Before,
+    /// How many bytes it takes.
+    len: usize,
 }
 
 /// Nothing is passed.
@@ -210,16 +217,16 @@ fn end(before: Before, made: Made, held: &[u8]) -> Result<Made, Stop> {
     }
 }
 
-/// Writes what is made of the pods of the block that takes so many bytes of the buffer.
+/// Writes what is made of the pods of the block at the front of the buffer.
 fn write_front<B: BlockWriter, W: Write>(
     reading: Reading,
     writer: &B,
-    before: Before,
-    len: usize,
+    block: Block,
     buffer: &mut [u8],
     output: &mut W,
 ) -> Result<Written, Stop> {
-    write_or_stop(reading, writer, before, &mut buffer[..len], output)
+    let pods = &mut buffer[..block.len];
+    write_or_stop(reading, writer, block.before, pods, output)
 }
 
 /// Writes what is made of the pods of a block, or of those before the first that isn't read.

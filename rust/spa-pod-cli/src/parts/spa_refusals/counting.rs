@@ -13,11 +13,3 @@ pub(crate) fn count(bytes: &[u8]) -> usize {
     }
     count
 }
-
-/// What follows the pod at the front; nothing where none is whole.
-pub(crate) fn behind_front(bytes: &[u8]) -> &[u8] {
-    match open(bytes) {
-        Some(front) => front.rest,
-        None => &[],
-    }
-}

@@ -2,20 +2,14 @@
 //! The malformed pod inside a refused one, and the path that leads there.
 
 use spa_pod::shims::prelude::*;
-use crate::parts::spa_refusals::counting::{behind_front, count};
-use crate::parts::spa_refusals::names::push_key;
-use spa_pod::parts::spa_bytes::{HEADER_LEN, open, u32_at};
-use spa_pod::parts::spa_events::inside_of;
-use spa_pod::parts::spa_fixed_sized::DeserializeError;
+use crate::parts::spa_refusals::descent::{Fault, descend};
+use spa_pod::parts::spa_bodies::error_at;
+use spa_pod::parts::spa_canonical::Rejected;
+use spa_pod::parts::spa_fixed_sized::{DeserializeError, Refusal};
 use spa_pod::parts::spa_lenient::rewrite_leniently;
 use crate::parts::spa_recordings::reading::Reading;
-use spa_pod::parts::spa_rewrite::accept_all;
-use spa_pod::parts::spa_typed_read::PodDeserializer;
-use spa_pod::parts::spa_value::Held;
+use spa_pod::parts::spa_rewrite::find_fault;
 use spa_pod::shims::memory::AllocError;
-
-/// How many steps a path has at most.
-const STEP_LIMIT: usize = 32;
 
 /// A pod that isn't read, and why.
 pub(crate) struct Unread<'b> {
@@ -25,7 +19,7 @@ pub(crate) struct Unread<'b> {
 }
 
 /// The pod that keeps this one from being read, which isn't, and the path to it: the innermost refused one, and in the lenient reading this
-/// one. A path of 32 steps may end before the innermost.
+/// one.
 pub(crate) fn malformed<'b>(
     reading: Reading,
     pod: &'b [u8],
@@ -52,87 +46,25 @@ fn unread_leniently(pod: &[u8]) -> Result<Unread<'_>, AllocError> {
 
 /// The innermost refused pod inside a refused one, and the path to it.
 fn innermost<'b>(pod: &'b [u8]) -> Result<(String, Unread<'b>), AllocError> {
-    let first = unread_front(pod)?;
-    let Some(mut inner) = first else {
-        unreachable!()
-    };
-    let mut path = String::new();
-    for _step in 0..STEP_LIMIT {
-        let found = inside(inner.pod, &mut path)?;
-        match found {
-            Some(next) => inner = next,
-            None => return Ok((path, inner)),
-        }
-    }
-    Ok((path, inner))
+    let (fault, at) = fault_of(pod)?;
+    let (path, inner) = descend(pod, at, fault)?;
+    let error = error_at(fault.place, fault.why);
+    Ok((path, Unread { pod: inner, error }))
 }
 
-/// The first refused pod directly inside this one, whose step is added to the path.
-fn inside<'b>(
-    pod: &'b [u8],
-    path: &mut String,
-) -> Result<Option<Unread<'b>>, AllocError> {
-    let Some(front) = open(pod) else {
-        return Ok(None);
-    };
-    let Some(inner) = inside_of(front.type_, front.body) else {
-        return Ok(None);
-    };
-    if inner.keyed {
-        return in_properties(u32_at(front.body, 0), inner.pods, path);
-    }
-    in_members(inner.pods, path)
-}
-
-/// The first refused one of the members that these bytes should be.
-fn in_members<'b>(
-    members: &'b [u8],
-    path: &mut String,
-) -> Result<Option<Unread<'b>>, AllocError> {
-    let Err((left, error)) = accept_all(members) else {
-        return Ok(None);
-    };
-    match error {
-        DeserializeError::OutOfMemory => Err(AllocError),
-        error => {
-            let (before, _) = members.split_at(members.len() - left.len());
-            write!(path, "[{}]", count(before))?;
-            Ok(Some(Unread { pod: left, error }))
+/// The fault of a refused pod, and its offset there.
+fn fault_of(pod: &[u8]) -> Result<(Fault<'_>, usize), AllocError> {
+    match find_fault(pod) {
+        Ok(()) => {
+            let none = Fault {
+                place: pod,
+                why: Refusal::Short,
+            };
+            Ok((none, 0))
         }
-    }
-}
-
-/// The first refused one of the values of the properties that these bytes should be, in an object of this type.
-fn in_properties<'b>(
-    type_: u32,
-    properties: &'b [u8],
-    path: &mut String,
-) -> Result<Option<Unread<'b>>, AllocError> {
-    let mut left = properties;
-    while left.len() >= HEADER_LEN {
-        let (words, value) = left.split_at(HEADER_LEN);
-        let found = unread_front(value)?;
-        match found {
-            Some(unread) => {
-                push_key(path, type_, u32_at(words, 0))?;
-                return Ok(Some(unread));
-            }
-            None => left = behind_front(value),
-        }
-    }
-    Ok(None)
-}
-
-/// The pod at the front, unless it is read.
-fn unread_front(bytes: &[u8]) -> Result<Option<Unread<'_>>, AllocError> {
-    match PodDeserializer::deserialize_any_from_unbounded(bytes) {
-        Ok((_, value)) => {
-            let _read = Held::from(value);
-            Ok(None)
-        }
-        Err(error) => match error {
-            DeserializeError::OutOfMemory => Err(AllocError),
-            error => Ok(Some(Unread { pod: bytes, error })),
+        Err((_, rejected)) => match rejected {
+            Rejected::Fault(place, at, why) => Ok((Fault { place, why }, at)),
+            Rejected::TooDeep => Err(AllocError),
         },
     }
 }

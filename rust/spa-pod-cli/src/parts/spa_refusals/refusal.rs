@@ -25,7 +25,7 @@ pub struct Refusal {
     /// Its type, of an object the object's type, where its header is there.
     pub type_: Option<TypeName>,
     /// The path to the pod inside it that is malformed: keys as `.rate`, places of members as `[2]`, the first being 0. It is empty where that
-    /// is the pod itself, and in the lenient reading. After 32 steps it may end before that pod.
+    /// is the pod itself, and in the lenient reading.
     pub path: String,
     /// The type of that one.
     pub inner_type: Option<TypeName>,

@@ -2,7 +2,7 @@
 //! What is looked for in a pod, at any depth: values under keys, objects.
 
 use spa_pod::shims::prelude::*;
-use crate::parts::spa_text_commands::listing::add_part;
+use crate::parts::spa_text_commands::listing::{Part, add_part};
 use crate::parts::spa_text_commands::page::Page;
 use crate::parts::spa_text_commands::paths::{
     OBJECT_LEN, STEP_LIMIT, event_at, is_keyed, is_object_in, numbers_of, put_path,
@@ -14,6 +14,22 @@ use spa_pod::parts::spa_names::{Table, expected_under, ids_of, keys_of};
 use spa_pod::parts::spa_utils::SpaTypes;
 use spa_pod::parts::spa_view::{Pod, split_first, whole_bytes};
 use spa_pod::shims::memory::AllocError;
+
+/// A top-level pod in which something is looked for.
+#[derive(Clone, Copy)]
+struct Searched<'a> {
+    pod: Pod<'a>,
+    /// How many top-level pods precede it.
+    count: usize,
+    /// The byte of the input where it begins.
+    place: usize,
+    /// Its bytes.
+    bytes: &'a [u8],
+    /// The events of it and of all pods inside it.
+    events: &'a [Event],
+    /// How many pods precede each of these in the same one.
+    numbers: &'a [usize],
+}
 
 /// Adds what is printed of what is looked for in the pod, which so many pods and bytes of the input stand before, and answers how many of those are
 /// refused.
@@ -28,12 +44,17 @@ pub(crate) fn add_found(
     let listed = list_inside(bytes)?;
     let events = listed.as_slice();
     let numbered = numbers_of(events)?;
-    let numbers = numbered.as_slice();
+    let searched = Searched {
+        pod,
+        count,
+        place,
+        bytes,
+        events,
+        numbers: numbered.as_slice(),
+    };
     let mut refused: usize = 0;
     for number in 0..events.len() {
-        refused += add_if_found(
-            page, printout, bytes, events, numbers, number, count, place, pod,
-        )?;
+        refused += add_if_found(page, printout, searched, number)?;
     }
     Ok(refused)
 }
@@ -61,62 +82,57 @@ fn list_inside(pod: &[u8]) -> Result<Vec<Event>, AllocError> {
 fn add_if_found(
     page: &mut Page,
     printout: Printout<'_>,
-    bytes: &[u8],
-    events: &[Event],
-    numbers: &[usize],
+    searched: Searched<'_>,
     number: usize,
-    count: usize,
-    place: usize,
-    outer: Pod<'_>,
 ) -> Result<usize, AllocError> {
-    let event = event_at(events, number);
-    let sought = is_sought(
-        bytes,
-        printout.selection,
-        count,
-        events,
-        numbers,
-        number,
-        event,
-    )?;
+    let event = event_at(searched.events, number);
+    let sought = is_sought(printout.selection, searched, number, event)?;
     if !sought {
         return Ok(0);
     }
-    let Some(value) = pod_at(bytes, event.at) else {
+    let Some(pod) = pod_at(searched.bytes, event.at) else {
         return Ok(0);
     };
-    let ids = ids_at(bytes, event_at(events, event.parent), event.at);
+    let holder = event_at(searched.events, event.parent);
     let mut path = String::new();
-    put_path(&mut path, STEP_LIMIT, bytes, events, numbers, number)?;
-    add_part(
-        page,
-        printout.form,
-        value,
-        ids,
-        count,
-        place + event.at,
-        path.as_str(),
-        outer,
-    )
+    put_steps(&mut path, searched, number)?;
+    let part = Part {
+        pod,
+        ids: ids_at(searched.bytes, holder, event.at),
+        count: searched.count,
+        place: searched.place + event.at,
+        path: path.as_str(),
+        outer: searched.pod,
+    };
+    add_part(page, printout.form, part)
 }
 
 /// Whether the pod of the event of this number is looked for.
 fn is_sought(
-    bytes: &[u8],
     selection: Selection<'_>,
-    count: usize,
-    events: &[Event],
-    numbers: &[usize],
+    searched: Searched<'_>,
     number: usize,
     event: Event,
 ) -> Result<bool, AllocError> {
     let Some(wanted) = selection.path else {
-        return Ok(is_found(bytes, selection, events, event));
+        return Ok(is_found(searched.bytes, selection, searched.events, event));
     };
     let mut path = String::new();
-    write!(path, "{}", count + 1)?;
-    put_path(&mut path, STEP_LIMIT, bytes, events, numbers, number)?;
+    write!(path, "{}", searched.count + 1)?;
+    put_steps(&mut path, searched, number)?;
     Ok(path.as_str() == wanted)
+}
+
+/// Writes the steps to the pod of the event of this number.
+fn put_steps(text: &mut String, searched: Searched<'_>, number: usize) -> Result<(), AllocError> {
+    put_path(
+        text,
+        STEP_LIMIT,
+        searched.bytes,
+        searched.events,
+        searched.numbers,
+        number,
+    )
 }
 
 /// Whether the pod of this event is looked for, without a path.

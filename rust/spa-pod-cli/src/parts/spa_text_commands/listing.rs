@@ -10,7 +10,7 @@ use crate::parts::spa_text_commands::message::{head_of, put_head};
 use crate::parts::spa_text_commands::page::Page;
 use crate::parts::spa_text_commands::parts::{Parts, Shown};
 use crate::parts::spa_text_commands::paths::numbered;
-use crate::parts::spa_text_commands::printing::{Layout, add_texts, begin_at};
+use crate::parts::spa_text_commands::printing::{Layout, Position, add_texts, begin_at};
 use crate::parts::spa_text_commands::selection::{Form, Printout};
 use spa_pod::parts::spa_fixed_sized::DeserializeError;
 use spa_pod::parts::spa_names::Table;
@@ -23,6 +23,22 @@ const FRONT_LEN: usize = 8;
 
 /// The refusal where fewer bytes are left than a pod takes.
 const SHORT: &str = "Short";
+
+/// A pod that is printed.
+#[derive(Clone, Copy)]
+pub(crate) struct Part<'a> {
+    pub(crate) pod: Pod<'a>,
+    /// The names of ids in it.
+    pub(crate) ids: Table,
+    /// How many top-level pods precede it, or the one that it is in.
+    pub(crate) count: usize,
+    /// The byte of the input where it begins.
+    pub(crate) place: usize,
+    /// The steps to it from the top-level pod, which has none itself.
+    pub(crate) path: &'a str,
+    /// The top-level pod that it is in, or itself.
+    pub(crate) outer: Pod<'a>,
+}
 
 /// A top-level pod that is being shown.
 struct Listing<'a> {
@@ -46,35 +62,26 @@ pub(crate) fn add_selected(
     if printout.selection.looks_inside() {
         return add_found(page, printout, pod, count, place);
     }
-    add_part(
-        page,
-        printout.form,
+    let part = Part {
         pod,
-        Table::Nothing,
+        ids: Table::Nothing,
         count,
         place,
-        "",
-        pod,
-    )
+        path: "",
+        outer: pod,
+    };
+    add_part(page, printout.form, part)
 }
 
-/// Adds what is printed of a pod, which so many pods and bytes of the input stand before, where ids have these names, and to which these steps lead in
-/// this top-level one, and answers 1 where it is refused, else 0.
+/// Adds what is printed of a pod, and answers 1 where it is refused, else 0.
 pub(crate) fn add_part(
     page: &mut Page,
     form: Form,
-    pod: Pod<'_>,
-    ids: Table,
-    count: usize,
-    place: usize,
-    path: &str,
-    outer: Pod<'_>,
+    part: Part<'_>,
 ) -> Result<usize, AllocError> {
-    let refusal = refusal_of(pod)?;
+    let refusal = refusal_of(part.pod)?;
     let refused = count_of(refusal);
-    print_part(
-        page, form, pod, ids, refusal, refused, count, place, path, outer,
-    )?;
+    print_part(page, form, part, refusal, refused)?;
     Ok(refused)
 }
 
@@ -82,32 +89,31 @@ pub(crate) fn add_part(
 fn print_part(
     page: &mut Page,
     form: Form,
-    pod: Pod<'_>,
-    ids: Table,
+    part: Part<'_>,
     refusal: Option<&'static str>,
     refused: usize,
-    count: usize,
-    place: usize,
-    path: &str,
-    outer: Pod<'_>,
 ) -> Result<(), AllocError> {
     match form {
-        Form::Lines => list(page, pod, ids, refusal, count, place, path, outer),
+        Form::Lines => list(page, part, refusal),
         Form::LinesAndBytes => {
-            list(page, pod, ids, refusal, count, place, path, outer)?;
-            add_rows(&mut page.lines, place, whole_bytes(&pod))
+            list(page, part, refusal)?;
+            add_rows(&mut page.lines, part.place, whole_bytes(&part.pod))
         }
         Form::Text(layout) => {
             if refused > 0 {
                 return Ok(());
             }
-            let path = numbered(count, path)?;
-            add_pod_text(&mut page.lines, layout, path.as_str(), outer, pod)
+            let path = numbered(part.count, part.path)?;
+            let position = Position {
+                path: path.as_str(),
+                outer: Some(part.outer),
+            };
+            add_pod_text(&mut page.lines, layout, position, part.pod)
         }
-        Form::Pods => page.lines.try_extend_from_slice(whole_bytes(&pod)),
+        Form::Pods => page.lines.try_extend_from_slice(whole_bytes(&part.pod)),
         Form::Bytes => {
-            let path = numbered(count, path)?;
-            add_string(&mut page.lines, path.as_str(), whole_bytes(&pod))
+            let path = numbered(part.count, part.path)?;
+            add_string(&mut page.lines, path.as_str(), whole_bytes(&part.pod))
         }
     }
 }
@@ -120,16 +126,15 @@ fn count_of(refusal: Option<&'static str>) -> usize {
     }
 }
 
-/// Adds the text of an accepted pod, which stands at this path in this top-level one.
+/// Adds the text of an accepted pod, which is at this position.
 fn add_pod_text(
     lines: &mut Vec<u8>,
     layout: Layout,
-    path: &str,
-    outer: Pod<'_>,
+    position: Position<'_>,
     pod: Pod<'_>,
 ) -> Result<(), AllocError> {
     // What is accepted isn't printed for lack of memory alone.
-    match add_texts(layout, path, Some(outer), whole_bytes(&pod), lines) {
+    match add_texts(layout, position, whole_bytes(&pod), lines) {
         Ok(()) => Ok(()),
         Err(_) => Err(AllocError),
     }
@@ -150,21 +155,21 @@ fn add_string(lines: &mut Vec<u8>, path: &str, bytes: &[u8]) -> Result<(), Alloc
 /// there are such, and a line for each value in it.
 fn list(
     page: &mut Page,
-    pod: Pod<'_>,
-    ids: Table,
+    part: Part<'_>,
     refusal: Option<&'static str>,
-    count: usize,
-    place: usize,
-    path: &str,
-    outer: Pod<'_>,
 ) -> Result<(), AllocError> {
     let levels = Vec::new();
     let mut listing = Listing {
         levels,
         refusal,
     };
-    page.add_head(count, place, path)?;
-    listing.add_pod(page, Shown::of_pod(pod, ids), place, outer)
+    page.add_head(part.count, part.place, part.path)?;
+    listing.add_pod(
+        page,
+        Shown::of_pod(part.pod, part.ids),
+        part.place,
+        part.outer,
+    )
 }
 
 impl<'a> Listing<'a> {

@@ -21,18 +21,30 @@ pub enum Layout {
     Indented,
 }
 
+/// Where pods are.
+#[derive(Clone, Copy)]
+pub(crate) struct Position<'a> {
+    /// The path to them from a top-level pod; empty where they are such themselves.
+    pub(crate) path: &'a str,
+    /// That top-level pod, where they are in one.
+    pub(crate) outer: Option<Pod<'a>>,
+}
+
 /// A text for each pod that the bytes consist of, on lines of its own: that of a recorded message behind its head.
 pub fn print_all(layout: Layout, pods: &[u8]) -> Result<Vec<u8>, Failure> {
     let mut lines = Vec::new();
-    add_texts(layout, "", None, pods, &mut lines)?;
+    let top = Position {
+        path: "",
+        outer: None,
+    };
+    add_texts(layout, top, pods, &mut lines)?;
     Ok(lines)
 }
 
-/// Adds a text for each of these pods, which stand at this path in a top-level pod, or are such themselves.
+/// Adds a text for each of these pods, which are at this position.
 pub(crate) fn add_texts(
     layout: Layout,
-    path: &str,
-    outer: Option<Pod<'_>>,
+    position: Position<'_>,
     pods: &[u8],
     lines: &mut Vec<u8>,
 ) -> Result<(), Failure> {
@@ -40,18 +52,18 @@ pub(crate) fn add_texts(
     let mut left = pods;
     while !left.is_empty() {
         let (rest, value) = read_front(left)?;
-        add_text_at(&mut printer, layout, path, outer, &value, lines)?;
+        add_text_at(&mut printer, layout, position, &value, lines)?;
         left = rest;
     }
     Ok(())
 }
 
-/// The head of the value, which is a top-level pod, or else stands at a path in this one: that of the message that the pod is, if it is one.
-fn head_at<'a>(path: &str, outer: Option<Pod<'a>>, value: &'a Value) -> Option<Head<'a>> {
-    if path.is_empty() {
+/// The head of the value at this position: that of the message that its top-level pod is, if it is one.
+fn head_at<'a>(position: Position<'a>, value: &'a Value) -> Option<Head<'a>> {
+    if position.path.is_empty() {
         return head_of_value(value);
     }
-    head_of(outer?)
+    head_of(position.outer?)
 }
 
 /// The value of the pod at the front, and what follows it.
@@ -65,17 +77,16 @@ pub(crate) fn read_front(left: &[u8]) -> Result<(&[u8], Held), Failure> {
     }
 }
 
-/// Adds the text of a value at this path in a top-level pod, or of such a pod's, and the end of its last line.
+/// Adds the text of the value at this position, and the end of its last line.
 fn add_text_at(
     printer: &mut TextPrinter,
     layout: Layout,
-    path: &str,
-    outer: Option<Pod<'_>>,
+    position: Position<'_>,
     value: &Value,
     lines: &mut Vec<u8>,
 ) -> Result<(), Failure> {
-    let head = head_at(path, outer, value);
-    let ending = begin_wrapped(lines, path, head)?;
+    let head = head_at(position, value);
+    let ending = begin_wrapped(lines, position.path, head)?;
     print_in(printer, layout, value, lines)?;
     lines.try_extend_from_slice(ending.as_bytes())?;
     lines.try_extend_from_slice(b"\n")?;

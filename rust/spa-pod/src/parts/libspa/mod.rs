@@ -29,15 +29,16 @@ pub mod utils {
 
 /// Pods: values and their rewriting, and borrowed views.
 pub mod pod {
+    pub use crate::parts::spa_canonical::{Rejected, all_nest_within, nests_within};
     pub use crate::parts::spa_fixed_sized::{CanonicalFixedSizedPod, ChoiceElement, FixedSizedPod};
-    pub use crate::parts::spa_in_place::{rewrite_in_place, rewrite_into};
     pub use crate::parts::spa_lenient::{
         rewrite_all_leniently, rewrite_in_place_leniently, rewrite_into_leniently,
         rewrite_leniently,
     };
     pub use crate::parts::spa_print::Printed;
-    pub use crate::parts::spa_rewrite::{Rejected, accept_all, find_fault, is_canonical, rewrite, rewrite_all};
-    pub use crate::parts::spa_scan::{all_nest_within, nests_within};
+    pub use crate::parts::spa_rewrite::{
+        accept_all, find_fault, is_canonical, rewrite, rewrite_all, rewrite_in_place, rewrite_into,
+    };
     pub use crate::parts::spa_utils::Frame;
     pub use crate::parts::spa_value::{Bitmap, ChoiceValue, Held, Object, Property, PropertyFlags, Value, ValueArray, discard, same};
     pub use crate::{object, property};

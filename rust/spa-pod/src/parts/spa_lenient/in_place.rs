@@ -4,7 +4,7 @@
 use crate::shims::prelude::*;
 use crate::parts::spa_lenient::rewriting::{append_all, rewrite_all_leniently};
 use crate::parts::spa_fixed_sized::{DeserializeError, Fault, FaultKind, Refusal};
-use crate::parts::spa_in_place::{rewrite_in_place, rewrite_into};
+use crate::parts::spa_rewrite::{rewrite_in_place, rewrite_into};
 
 /// Rewrites all pods that the bytes consist of leniently in place, and answers the length of the outcome in bytes: never more than there were. What
 /// the bytes behind it are isn't said.

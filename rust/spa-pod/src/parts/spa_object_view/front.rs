@@ -4,9 +4,9 @@
 use crate::shims::prelude::*;
 use crate::parts::spa_object_view::object_view::ObjectView;
 use crate::parts::spa_bytes::{Front, HEADER_LEN, SECOND_WORD, open, u32_at};
+use crate::parts::spa_canonical::{Rejected, canonical_front, leaf_properties, look_at_pod};
 use crate::parts::spa_fixed_sized::DeserializeError;
-use crate::parts::spa_rewrite::{Rejected, canonical_front, look_at_pod, rewrite};
-use crate::parts::spa_scan::leaf_properties;
+use crate::parts::spa_rewrite::rewrite;
 use crate::parts::spa_utils::SpaTypes;
 
 /// The object at the front of an input, in canonical bytes.

@@ -4,13 +4,9 @@
 //! Pods are looked at first, and copied. Those that aren't canonical are then replaced by their encodings in the copy.
 
 use crate::shims::prelude::*;
-use crate::parts::spa_rewrite::emitting::encode_pods;
-use crate::parts::spa_rewrite::inside::few_frames;
-use crate::parts::spa_rewrite::look::{
-    Rejected, accept_deep, accept_front, canonical_front, canonical_stretch, changed_pods,
-    find_fault,
-};
+use crate::parts::spa_rewrite::deep::{accept_deep, changed_pods, find_fault};
 use crate::parts::spa_bodies::error_at;
+use crate::parts::spa_canonical::{Rejected, accept_pod, canonical_front, canonical_stretch, encode_pods};
 use crate::parts::spa_fixed_sized::{DeserializeError, Refusal};
 
 /// The encoding of the value that the front of the input says, and what follows that front.
@@ -110,7 +106,7 @@ fn append_pods(canonical: usize, changed: usize, pods: &[u8], out: &mut Vec<u8>)
 
 /// What follows the pod at the front, which is accepted, however deep it nests.
 fn accept_any(input: &[u8]) -> Result<&[u8], Rejected<'_>> {
-    match accept_front(input, &mut few_frames(input)) {
+    match accept_pod(input) {
         Ok((rest, _)) => Ok(rest),
         Err(rejected) => match rejected {
             Rejected::Fault(_, _, _) => Err(rejected),

@@ -4,8 +4,8 @@
 use crate::parts::spa_typed_read::deserializer::{DeserializeSuccess, PodDeserialize, PodDeserializer};
 use crate::parts::spa_typed_read::exact::ExactDeserialize;
 use crate::parts::spa_bodies::error_at;
+use crate::parts::spa_canonical::{Rejected, look_at_pod};
 use crate::parts::spa_fixed_sized::DeserializeError;
-use crate::parts::spa_rewrite::{Rejected, look_at_pod};
 use crate::parts::spa_value::discard;
 
 /// Any value, which is checked in the borrowed input and not kept. Memory is asked for only where the nesting depth, without containers in tail

@@ -4,8 +4,8 @@
 use crate::parts::spa_typed_read::deserializer::{DeserializeSuccess, PodDeserialize, PodDeserializer};
 use crate::parts::spa_typed_read::exact::ExactDeserialize;
 use crate::parts::spa_bodies::error_at;
+use crate::parts::spa_canonical::{Rejected, look_at_pod};
 use crate::parts::spa_fixed_sized::DeserializeError;
-use crate::parts::spa_rewrite::{Rejected, look_at_pod};
 use crate::parts::spa_utils::SpaTypes;
 use crate::parts::spa_view::{FixedPod, FromPod, Pod};
 

@@ -5,8 +5,8 @@ use crate::parts::spa_items::contents::{child_and_flags, content};
 use crate::parts::spa_items::elements::{put, put_elements};
 use crate::parts::spa_items::item::Item;
 use spa_pod::parts::spa_bytes::{HEADER_LEN, SECOND_WORD, u32_at};
+use spa_pod::parts::spa_canonical::{LEVELS, all_nest_within};
 use spa_pod::parts::spa_events::{Inside, inside_of, key_len, open_first};
-use spa_pod::parts::spa_scan::{LEVELS, all_nest_within};
 
 /// How many levels of containers can wait in the short array.
 const FEW: usize = 8;

@@ -2,8 +2,8 @@
 //! Finds the first fault of the caller's bytes, and its offset.
 
 use crate::parts::spav::answers::{DONE, TOO_DEEP};
+use spa_pod::parts::spa_canonical::{Rejected, look_at_pods};
 use spa_pod::parts::spa_fixed_sized::Refusal;
-use spa_pod::parts::spa_rewrite::{Rejected, look_at_pods};
 
 /// The number that stands for no fault.
 pub(crate) const NO_FAULT: u32 = 0;

@@ -3,7 +3,7 @@
 
 use crate::parts::spav::answers::{DONE, INVALID, NO_MEMORY};
 use spa_pod::parts::spa_fixed_sized::DeserializeError;
-use spa_pod::parts::spa_in_place::rewrite_in_place;
+use spa_pod::parts::spa_rewrite::rewrite_in_place;
 
 /// Canonicalizes all pods that the bytes consist of, in place: their canonical encodings, one after another, are then the front of the bytes.
 ///

@@ -3,9 +3,9 @@
 
 use spa_pod::shims::prelude::*;
 use crate::parts::spav::answers::{DONE, INVALID, NO_MEMORY, NO_ROOM};
+use spa_pod::parts::spa_canonical::canonical_stretch;
 use spa_pod::parts::spa_fixed_sized::DeserializeError;
-use spa_pod::parts::spa_in_place::rewrite_into;
-use spa_pod::parts::spa_rewrite::{accept_all, canonical_stretch, rewrite_all};
+use spa_pod::parts::spa_rewrite::{accept_all, rewrite_all, rewrite_into};
 
 /// Writes the canonical encodings of all pods that the input consists of, one after another, to the front of `out`.
 ///

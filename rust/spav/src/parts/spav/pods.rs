@@ -3,8 +3,7 @@
 
 use crate::parts::spav::building::{Call, part};
 use spa_pod::parts::spa_builder::Builder;
-use spa_pod::parts::spa_rewrite::canonical_front;
-use spa_pod::parts::spa_scan::{LEVELS, nests_within};
+use spa_pod::parts::spa_canonical::{LEVELS, canonical_front, nests_within};
 use spa_pod::parts::spa_utils::{Errno, SpaTypes};
 use spa_pod::parts::spa_view::Pod;
 

@@ -4,9 +4,9 @@
 use spa_pod::shims::prelude::*;
 use crate::parts::spav::answers::{DONE, FIRST, INVALID, NO_MEMORY, SECOND, TOO_DEEP};
 use crate::parts::spav::in_place::is_for_bytes;
+use spa_pod::parts::spa_canonical::{LEVELS, nests_within};
 use spa_pod::parts::spa_fixed_sized::DeserializeError;
 use spa_pod::parts::spa_rewrite::{is_canonical, rewrite_all};
-use spa_pod::parts::spa_scan::{LEVELS, nests_within};
 
 /// Whether the pod at the front of the input is canonical. It is where all of it is there and `spav_rewrite` would give the same bytes. The bytes
 /// behind it don't count.

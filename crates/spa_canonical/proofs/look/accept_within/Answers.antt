@@ -1,0 +1,37 @@
+use Rattle.std.proofs.Common.{arith, refl}
+use Rattle.spa_canonical.specs.Depth.{levels_looked_into}
+use Rattle.spa_canonical.proofs.Deeper.{holds_none, input_deep, its_front}
+use Rattle.spa_canonical.proofs.Accepted.{inside_stops}
+use Rattle.spa_canonical.proofs.Levels.{nested_long}
+use Rattle.spa_canonical.proofs.Offsets.{body_long}
+use Rattle.spa_canonical.proofs.ShorterLemmas.{shorter_inside, shorter_opened}
+use Rattle.spa_canonical.proofs.look.accept_within.Goals as goal
+
+pub unreachable-requires : goal.unreachable-requires
+unreachable-requires c = c.in_default.ensures.short (its_front levels_looked_into _ c.requires)
+
+pub unreachable-requires-in_default-inside_of : goal.unreachable-requires-in_default-inside_of
+unreachable-requires-in_default-inside_of c =
+    let other = c.in_default-inside_of.ensures in
+    holds_none levels_looked_into _ _ (omega arith) other.other other.short (input_deep levels_looked_into _ _ _ _ c.in-Some.ensures.there c.requires)
+
+pub returns-in-Fits-clause-accepted : goal.returns-in-Fits-clause-accepted
+returns-in-Fits-clause-accepted c =
+    shorter_opened _ _ _ _ _ c.in-Some.ensures.there (shorter_inside _ _ _ _ _ c.in-Some-inside_of.ensures.there c.in-Fits.ensures.shorter)
+
+pub fault-requires-clause-refused : goal.fault-requires-clause-refused
+fault-requires-clause-refused c = (c.in-Stops.ensures.fault refl).refused
+
+pub fault-requires-clause-alone : goal.fault-requires-clause-alone
+fault-requires-clause-alone c = (c.in-Stops.ensures.fault refl).alone
+
+pub returns-in-Stops-clause-rejected : goal.returns-in-Stops-clause-rejected
+returns-in-Stops-clause-rejected c =
+    inside_stops _ _ _ _ _ _ _ _ _ _ c.in-Some.ensures.there c.in-Some-inside_of.ensures.there (c.in-Stops.ensures.fault refl) refl c.fault.ensures
+
+pub returns-in-TooDeep-clause-full : goal.returns-in-TooDeep-clause-full
+returns-in-TooDeep-clause-full c = λ _.
+    let deep = nested_long _ _ _ c.in-TooDeep.ensures in
+    let inside = body_long _ _ _ _ c.in-Some-inside_of.ensures.there in
+    let body = c.in-Some.ensures.there.shorter in
+    omega arith

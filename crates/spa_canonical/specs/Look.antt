@@ -1,0 +1,145 @@
+-- What a look at pods finds: docs/FORMAT.md, "The encoding of a value", "Faults" and "Values".
+use Rattle.std.specs.Prelude.{◌≡◌, ◌+◌, ◌-◌, ◌<◌, ◌≤◌, ℕ, List, length, drop, take, Bool, true, false, Decides}
+use Rattle.spa_fixed_sized.specs.declared.fault.Refusal.{Refusal}
+use Rattle.spa_format.specs.Front.{Begins, IsRefused}
+use Rattle.spa_format.specs.Pod.{AreMembers}
+use Rattle.spa_format.specs.Tree.{Tree, Trees}
+use Rattle.spa_format.specs.Words.{header_size}
+use Rattle.spa_format.specs.Faults.{Fault, StandsAtFront}
+use Rattle.spa_format.specs.Opened.{OpensHeaderAlone}
+use Rattle.spa_format.specs.Typed.{IsBytes}
+use Rattle.spa_bytes.specs.Opening.{Opens}
+use Rattle.spa_bodies.specs.Refusing.{Says, StandsInMembers, StandsInProperties}
+use Rattle.spa_canonical.specs.Canonical.{AreCanonical, AreCanonicalProperties, BeginsCanonical, IsSized, MissesOnly}
+use Rattle.spa_canonical.specs.Depth.{NestsDeeper, NestsDeeperInside, depth_of, levels_looked_into}
+use Rattle.spa_canonical.specs.Shorter.{AreShorter, AreShorterInside, BeginsShorter}
+use Rattle.spa_events.specs.Inside.{IsBehindKey, IsInside, key_size}
+use Rattle.spa_canonical.specs.Offsets.{IsFaultAt, StandsAt, scope_of}
+use Rattle.spa_canonical.specs.declared.inside.Found.{Found}
+use Rattle.spa_canonical.specs.declared.inside.Found.TheVariants as found
+use Rattle.spa_canonical.specs.declared.inside.Met.{Met}
+use Rattle.spa_canonical.specs.declared.inside.Met.TheVariants as met
+use Rattle.spa_canonical.specs.declared.look.AcceptedPod.{AcceptedPod}
+use Rattle.spa_canonical.specs.declared.look.AcceptedPods.{AcceptedPods}
+use Rattle.spa_canonical.specs.declared.look.FrontLook.{FrontLook}
+use Rattle.spa_canonical.specs.declared.look.FrontLook.TheVariants as front
+use Rattle.spa_canonical.specs.declared.look.Rejected.{Rejected}
+use Rattle.spa_canonical.specs.declared.look.Rejected.TheVariants as rejected
+
+-- properties that are as their values are written, or members
+abbrev pub AreCanonicalInside : Bool → List ℕ → Type 0
+AreCanonicalInside true body = AreCanonicalProperties body
+AreCanonicalInside false body = AreCanonical body
+
+-- the fault stands at this place in one of the properties, or of the members
+abbrev pub StandsInside : Bool → List ℕ → List ℕ → Fault → Type 0
+StandsInside true pods = StandsInProperties pods
+StandsInside false pods = StandsInMembers pods
+
+-- The first of them is a struct or an object: what stands inside, and what follows it.
+pub record OpensInside (keyed : Bool) (left : List ℕ) (inner : Bool) (inside rest : List ℕ) : Type 0 where
+  pub here : List ℕ
+  pub type : ℕ
+  pub body : List ℕ
+  pub its_key : IsBehindKey keyed left here
+  pub opens : Opens here type body rest
+  pub its_inside : IsInside type body inner inside
+
+-- No pod begins at this place, which so many bytes of the pods follow, for a fault that is in no member or property of it: a fault that stands at its
+-- front stands in them.
+pub record StopsAt (keyed : Bool) (pods place : List ℕ) (behind : ℕ) : Type 0 where
+  pub refused : IsRefused place
+  pub alone : OpensHeaderAlone place
+  pub stands : (k : Fault) → StandsAtFront k place → StandsInside keyed pods place k
+  pub room : length place + behind ≤ length pods
+  pub offset : (k : Fault) → StandsAtFront k place → StandsAt k (scope_of keyed) (length pods - (length place + behind)) pods
+
+-- Members or properties are accepted, and canonical where that is asked: their encodings are so many bytes shorter.
+pub record Fits (canonical keyed : Bool) (pods : List ℕ) (surplus : ℕ) : Type 0 where
+  pub shorter : AreShorterInside keyed pods surplus
+  pub own : canonical ≡ true → AreCanonicalInside keyed pods
+
+-- They aren't: at this place, which so many bytes of them follow, a fault stands, where it isn't asked whether they are canonical.
+pub record Stops (canonical keyed : Bool) (pods place : List ℕ) (behind : ℕ) : Type 0 where
+  pub differs : canonical ≡ true → ¬ (AreCanonicalInside keyed pods)
+  pub room : length place + behind ≤ length pods
+  pub fault : canonical ≡ false → StopsAt keyed pods place behind
+
+-- what is found in members or properties, where so many lists can wait
+abbrev pub IsFound : Bool → ℕ → Bool → List ℕ → Found → Type 0
+IsFound canonical waiting keyed pods (found.Fits surplus) = Fits canonical keyed pods surplus
+IsFound canonical waiting keyed pods (found.Stops place behind) = Stops canonical keyed pods place.now behind
+IsFound canonical waiting keyed pods found.TooDeep = NestsDeeperInside waiting keyed pods
+
+-- The first members or properties are accepted, or canonical, and were passed, and this follows them: what is found of it holds of all.
+pub record Passes (keyed canonical : Bool) (left rest : List ℕ) (surplus : ℕ) : Type 0 where
+  pub fits : (m : ℕ) → Fits canonical keyed rest m → Fits canonical keyed left (surplus + m)
+  pub kept : AreCanonicalInside keyed left → AreCanonicalInside keyed rest
+  pub stands : (k : Fault) (place : List ℕ) → StandsInside keyed rest place k → StandsInside keyed left place k
+  pub offset : (k : Fault) (at : ℕ) → StandsAt k (scope_of keyed) at rest → StandsAt k (scope_of keyed) (length left - length rest + at) left
+  pub deep : (n : ℕ) → NestsDeeperInside n keyed rest → NestsDeeperInside n keyed left
+  pub bytes : IsBytes rest
+  pub room : surplus + length rest ≤ length left
+
+-- the pod at the front is accepted, and canonical where that is asked: its encoding is so many bytes shorter
+pub record BeginsAsked (canonical : Bool) (input rest : List ℕ) (surplus : ℕ) : Type 0 where
+  pub shorter : BeginsShorter input rest surplus
+  pub own : canonical ≡ true → BeginsCanonical input rest
+
+-- No such pod that holds no others is at the front.
+pub record IsNoLeaf (canonical : Bool) (here : List ℕ) : Type 0 where
+  pub differs : canonical ≡ true → MissesOnly here (λ v. 0 < depth_of v)
+  pub refused : canonical ≡ false → (v : Tree) → Begins here v → 0 < depth_of v
+
+-- none is the first of these
+abbrev pub StopsBefore : Bool → Bool → List ℕ → Type 0
+StopsBefore keyed canonical left = (here : List ℕ) → IsBehindKey keyed left here → IsNoLeaf canonical here
+
+-- no canonical pod of fixed size is
+abbrev pub StopsBeforeSized : Bool → Bool → List ℕ → Type 0
+StopsBeforeSized keyed canonical left = canonical ≡ true → (here : List ℕ) → IsBehindKey keyed left here → MissesOnly here (λ v. ¬ (IsSized v))
+
+-- keys and headers stand before what is inside the first of them, and so many bytes behind it
+abbrev pub Surround : Bool → List ℕ → Bool → List ℕ → ℕ → Type 0
+Surround keyed left inner inside behind = length left ≡ key_size keyed + (header_size + (key_size inner + (length inside + behind)))
+
+-- The first of members or properties is a struct or an object. Otherwise a look ends there, unless the first is another pod that it passes.
+abbrev pub IsMet : Bool → List ℕ → Met → Type 0
+IsMet keyed left (met.Inner inner rest behind) =
+    OpensInside keyed left inner.keyed inner.pods.now rest.now × Surround keyed left inner.keyed inner.pods.now behind
+IsMet keyed left (met.None place) = (canonical : Bool) → StopsBefore keyed canonical left → Stops canonical keyed left place.now 0
+
+-- No pod begins at this place, for a fault that is in no member or property of it, and a fault of its front stands in the input, at this offset.
+pub record StopsFront (input place : List ℕ) (at : ℕ) : Type 0 where
+  pub refused : IsRefused place
+  pub alone : OpensHeaderAlone place
+  pub named : (why : Refusal) → Says (λ k. StandsAtFront k place) ⊥ why → IsFaultAt input place at why
+
+-- what a look finds of the pod at the front
+abbrev pub IsFrontLook : Bool → List ℕ → FrontLook → Type 0
+IsFrontLook canonical input (front.Fits rest surplus) = BeginsAsked canonical input rest.now surplus
+IsFrontLook canonical input (front.Stops place at) =
+    (canonical ≡ true → (rest : List ℕ) → ¬ (BeginsCanonical input rest)) × (canonical ≡ false → StopsFront input place.now at)
+IsFrontLook canonical input front.TooDeep = NestsDeeper levels_looked_into input
+
+-- the pod at the front is accepted: what follows it, whether it is canonical, and by how much its encoding is shorter
+pub record IsAccepted (input : List ℕ) (pod : AcceptedPod) : Type 0 where
+  pub shorter : BeginsShorter input pod.rest.now pod.surplus
+  pub exactly : Decides pod.canonical (BeginsCanonical input pod.rest.now)
+
+-- why it isn't: a fault that stands, or too many levels
+abbrev pub IsRejected : List ℕ → Rejected → Type 0
+IsRejected input (rejected.Fault place at why) = IsFaultAt input place.now at why
+IsRejected input rejected.TooDeep = NestsDeeper levels_looked_into input
+
+-- all pods are accepted: those in so many first bytes, and canonical ones behind them
+pub record AreChanged (pods : List ℕ) (changed : ℕ) : Type 0 where
+  pub within : changed ≤ length pods
+  pub first : (vs : Trees) × AreMembers vs (take changed pods)
+  pub canonical : AreCanonical (drop changed pods)
+
+-- and the encodings are so much shorter
+pub record AreAccepted (pods : List ℕ) (all : AcceptedPods) : Type 0 where
+  pub within : all.changed ≤ length pods
+  pub shorter : AreShorter (take all.changed pods) all.surplus
+  pub canonical : AreCanonical (drop all.changed pods)

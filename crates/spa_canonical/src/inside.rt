@@ -1,0 +1,290 @@
+//! Looks at the pods inside a struct or an object. What is left of the structs and objects around a pod waits in an array, or in memory.
+ghost use Rattle.std.specs.Prelude.{◌≡◌, ◌+◌, ◌<◌, ◌≤◌, IfNone, IfSome, Bool, false, length, true};
+ghost use Rattle.spa_format.specs.Words.{size_limit};
+ghost use Rattle.spa_canonical.specs.Look.{IsFound, IsMet, Passes, StopsBefore, StopsBeforeSized};
+ghost use Rattle.spa_canonical.specs.Depth.{levels_looked_into};
+
+use crate::leaf::{long_leaf, short_leaf};
+use crate::scan::LEVELS;
+use spa_bytes::{HEADER_LEN, SECOND_WORD, open, u32_at};
+use spa_events::{Inside, behind_key, inside_of, is_container, key_len};
+
+/// What is found inside a struct or an object.
+#[derive(Clone, Copy)]
+pub(crate) enum Found<'a> {
+    /// Accepted pods, or canonical ones, whose encodings are so many bytes shorter.
+    Fits(usize),
+    /// The first pod that isn't is at the front of these bytes, which so many follow of those that are looked at.
+    Stops(&'a [u8], usize),
+    /// There is no room for one more list that waits.
+    TooDeep,
+}
+
+/// What stands in a list behind pods that hold no others.
+#[derive(Clone, Copy)]
+enum Met<'a> {
+    /// A struct or an object: what is inside, what follows it, and how many bytes stand behind what is inside, with the padding.
+    Inner(Inside<'a>, &'a [u8], usize),
+    /// At the front of these bytes, none.
+    None(&'a [u8]),
+}
+
+/// What is left of a list while the look is inside of a pod in it.
+#[derive(Clone, Copy)]
+pub struct Waiting<'a> {
+    /// Whether a key and flags stand before each pod.
+    keyed: bool,
+    /// How many bytes of those that are looked at follow the pods that are left.
+    behind: u32,
+    /// The pods that are left.
+    pods: &'a [u8],
+}
+
+/// How many lists can wait in the short array.
+const FEW: usize = 8;
+
+/// How many can wait in the next one, which is taken where the short one is full.
+const SOME: usize = 64;
+
+/// The short array, in which no list waits yet.
+#[inline(always)]
+pub(crate) fn few_frames(pods: &[u8]) -> [Waiting<'_>; FEW] {
+    [none_waiting(pods); FEW]
+}
+
+/// An entry of an array in which no list waits.
+#[inline(always)]
+pub fn none_waiting(pods: &[u8]) -> Waiting<'_> {
+    Waiting {
+        keyed: false,
+        pods,
+        behind: 0,
+    }
+}
+
+/// Looks inside a struct or an object: at its first pods that hold no others, which need no array, and at what follows them.
+#[inline(always)]
+#[tactic(auto, using(crate::proofs::Looks::stops_behind))]
+pub(crate) fn look_into<'a>(
+    canonical: bool,
+    keyed: bool,
+    pods: &'a [u8],
+    frames: &mut [Waiting<'a>],
+) -> Found<'a>
+    requires { length pods.now < size_limit }
+    ensures { IsFound canonical levels_looked_into keyed pods.now result }
+{
+    let (left, surplus) = behind_leaves(canonical, keyed, pods);
+    if left.is_empty() {
+        return Found::Fits(surplus);
+    }
+    if let Met::None(place) = meet(keyed, left) {
+        return Found::Stops(place, 0);
+    }
+    match look_inside(canonical, keyed, left, frames) {
+        Found::Fits(more) => Found::Fits(surplus + more),
+        Found::Stops(place, behind) => Found::Stops(place, behind),
+        Found::TooDeep => look_further(canonical, keyed, pods),
+    }
+}
+
+/// Looks inside a struct or an object with the next array, or the long one.
+#[cold]
+#[inline(never)]
+fn look_further(canonical: bool, keyed: bool, pods: &[u8]) -> Found<'_>
+    requires { length pods.now < size_limit }
+    ensures { IsFound canonical levels_looked_into keyed pods.now result }
+{
+    match look_inside(canonical, keyed, pods, &mut [none_waiting(pods); SOME]) {
+        Found::Fits(surplus) => Found::Fits(surplus),
+        Found::Stops(place, behind) => Found::Stops(place, behind),
+        Found::TooDeep => look_inside(
+            canonical,
+            keyed,
+            pods,
+            &mut [none_waiting(pods); LEVELS as usize],
+        ),
+    }
+}
+
+/// Looks inside a struct or an object: whether all pods are canonical, where that is asked, and else whether all are accepted. What is left behind
+/// an inner struct or object waits in the array.
+#[inline(never)]
+pub(crate) fn look_inside<'a>(
+    canonical: bool,
+    are_keyed: bool,
+    pods: &'a [u8],
+    frames: &mut [Waiting<'a>],
+) -> Found<'a>
+    requires { length pods.now < size_limit }
+    ensures { IsFound canonical (length frames.old) are_keyed pods.now result }
+{
+    let (mut waiting, mut surplus, mut behind) = (0, 0, 0);
+    let mut keyed = are_keyed;
+    let mut left = pods;
+    loop {
+        let (next, more) = behind_first(canonical, keyed, left);
+        surplus += more;
+        if next.is_empty() {
+            if waiting == 0 {
+                return Found::Fits(surplus);
+            }
+            waiting -= 1;
+            let outer = frames[waiting];
+            keyed = outer.keyed;
+            left = outer.pods;
+            behind = outer.behind as usize;
+            continue;
+        }
+        match meet(keyed, next) {
+            Met::Inner(inner, rest, after) => {
+                if rest.is_empty() {
+                    keyed = inner.keyed;
+                    left = inner.pods;
+                    behind += after;
+                    continue;
+                }
+                if waiting >= frames.len() {
+                    return Found::TooDeep;
+                }
+                frames[waiting] = Waiting {
+                    keyed,
+                    pods: rest,
+                    behind: behind as u32,
+                };
+                waiting += 1;
+                keyed = inner.keyed;
+                left = inner.pods;
+                behind += after;
+            }
+            Met::None(place) => return Found::Stops(place, behind),
+        }
+    }
+}
+
+/// The struct or object that stands first in pods.
+#[inline(always)]
+#[tactic(auto, using(crate::proofs::Looks::opens_inside, crate::proofs::Looks::surround))]
+fn meet(keyed: bool, left: &[u8]) -> Met<'_>
+    requires { 0 < length left.now }
+    ensures { IsMet keyed left.now result }
+{
+    let Some(here) = behind_key(keyed, left) else {
+        return Met::None(left);
+    };
+    let Some(front) = open(here) else {
+        return Met::None(here);
+    };
+    match inside_of(front.type_, front.body) {
+        Some(inner) => {
+            let behind = here.len() - HEADER_LEN - front.body.len();
+            Met::Inner(inner, front.rest, behind)
+        }
+        None => Met::None(here),
+    }
+}
+
+/// What follows the first pods that hold no others and are canonical, where that is asked, or accepted, and by how many bytes their encodings are
+/// shorter. Each of four loops is made for its case.
+#[inline(always)]
+fn behind_leaves(canonical: bool, keyed: bool, pods: &[u8]) -> (&[u8], usize)
+    ensures passed { Passes keyed canonical pods.now result.0.now result.1 }
+    ensures last { StopsBefore keyed canonical result.0.now }
+{
+    if !canonical {
+        return behind_accepted(keyed, pods);
+    }
+    if keyed {
+        return behind_each(true, true, pods);
+    }
+    behind_each(true, false, pods)
+}
+
+/// Whether a struct or an object is first.
+#[inline(always)]
+#[tactic(auto, using(crate::proofs::Faulted::container_stops, crate::proofs::Faulted::first_type))]
+fn is_inside_first(keyed: bool, pods: &[u8]) -> bool
+    ensures { result ≡ true → (canonical : Bool) → StopsBefore keyed canonical pods.now }
+{
+    if pods.len() < 2 * HEADER_LEN {
+        return false;
+    }
+    is_container(u32_at(pods, key_len(keyed) + SECOND_WORD))
+}
+
+/// Does what `behind_leaves` does, where a struct or an object is met most often.
+#[inline(always)]
+#[tactic(auto, using(crate::proofs::Looks::passes_none))]
+fn behind_first(canonical: bool, keyed: bool, pods: &[u8]) -> (&[u8], usize)
+    ensures passed { Passes keyed canonical pods.now result.0.now result.1 }
+    ensures last { StopsBefore keyed canonical result.0.now }
+{
+    if is_inside_first(keyed, pods) {
+        return (pods, 0);
+    }
+    behind_leaves(canonical, keyed, pods)
+}
+
+/// Does what `behind_leaves` does of accepted pods.
+#[inline(never)]
+fn behind_accepted(keyed: bool, pods: &[u8]) -> (&[u8], usize)
+    ensures passed { Passes keyed false pods.now result.0.now result.1 }
+    ensures last { StopsBefore keyed false result.0.now }
+{
+    if keyed {
+        return behind_each(false, true, pods);
+    }
+    behind_each(false, false, pods)
+}
+
+/// Does what `behind_leaves` does.
+#[inline(always)]
+fn behind_each(canonical: bool, keyed: bool, pods: &[u8]) -> (&[u8], usize)
+    ensures passed { Passes keyed canonical pods.now result.0.now result.1 }
+    ensures last { StopsBefore keyed canonical result.0.now }
+{
+    let mut left = behind_short(canonical, keyed, pods);
+    let mut surplus = 0;
+    loop {
+        let Some(here) = behind_key(keyed, left) else {
+            return (left, surplus);
+        };
+        let Some((rest, more)) = long_leaf(canonical, here) else {
+            return (left, surplus);
+        };
+        surplus += more;
+        left = behind_short(canonical, keyed, rest);
+    }
+}
+
+/// What follows the first pods of fixed size that are canonical, or accepted.
+#[inline(always)]
+fn behind_short(canonical: bool, keyed: bool, pods: &[u8]) -> &[u8]
+    ensures passed { Passes keyed canonical pods.now result.now 0 }
+    ensures last { StopsBeforeSized keyed canonical result.now }
+{
+    let mut left = pods;
+    while let Some(rest) = behind_one(canonical, keyed, left) {
+        left = rest;
+    }
+    left
+}
+
+/// The length in bytes of a key, flags and a pod whose body is one or two words.
+const KEYED_LEN: usize = 24;
+
+/// What follows the first pod, where it is of fixed size, and canonical, or accepted.
+#[inline(always)]
+fn behind_one(canonical: bool, keyed: bool, pods: &[u8]) -> Option<&[u8]>
+    ensures passed { IfSome result (λ rest. Passes keyed canonical pods.now rest.now 0) }
+    ensures shorter { IfSome result (λ rest. length rest.now + 8 ≤ length pods.now) }
+    ensures missed { IfNone result (StopsBeforeSized keyed canonical pods.now) }
+{
+    if keyed && pods.len() < KEYED_LEN {
+        return None;
+    }
+    let Some(here) = behind_key(keyed, pods) else {
+        return None;
+    };
+    short_leaf(canonical, here)
+}

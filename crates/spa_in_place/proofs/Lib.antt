@@ -1,2 +1,0 @@
-pub mod ChangedPods
-pub mod InPlaceLemmas

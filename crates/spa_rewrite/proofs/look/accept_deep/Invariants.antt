@@ -1,8 +1,0 @@
-use Rattle.std.proofs.Common.{◌-◌, ◌<◌, length}
-use Rattle.spa_rewrite.proofs.look.accept_deep.Given as goal
-
-abbrev pub invariant-loop-frames : goal.invariant-loop-frames
-invariant-loop-frames l = 0 < l.room
-
-abbrev pub decreases-loop-frames : goal.decreases-loop-frames
-decreases-loop-frames l = length l.inside.pods.now - l.room

@@ -1,5 +1,0 @@
-use Rattle.std.proofs.Common.{refl}
-use Rattle.spa_rewrite.proofs.look.accept_front.Goals as goal
-
-pub returns-in-Stops-clause-rejected : goal.returns-in-Stops-clause-rejected
-returns-in-Stops-clause-rejected c = (c.in-Stops.ensures.1 refl).named _ c.fault.ensures

@@ -1,0 +1,63 @@
+//! Rewrites pods into another buffer. What is written may be shorter than the input.
+ghost use Rattle.std.specs.Prelude.{◌≡◌, ◌<◌, ◌≤◌, ◌++◌, IfNone, IfSome, [], drop, length, take};
+ghost use Rattle.spa_canonical.specs.Rewriting.{AreRewritten};
+ghost use Rattle.spa_canonical.specs.Shorter.{ArePodsWithin, AreRewrittenAs};
+ghost use Rattle.spa_canonical.specs.Depth.{levels_looked_into};
+
+use spa_canonical::{canonical_stretch, encode_pods, look_at_pods};
+
+/// Writes the rewritings of all pods of the input to the front of an output that is at least as long as the input, and answers how many bytes they take.
+/// The input is copied and replaced there: what is behind as many bytes as the input has stays as it was. To a shorter output it writes nothing, and
+/// answers the length alone. It takes no memory.
+///
+/// `None` says that the input isn't pods one after another, or that more than `LEVELS` structs and objects stand in one another in them: then it writes
+/// nothing.
+pub fn rewrite_into(input: &[u8], out: &mut [u8]) -> Option<usize>
+    ensures counted { IfSome result (λ len. AreRewrittenAs input.now len) }
+    ensures rewritten { IfSome result (λ len. length input.now ≤ length out.old
+        → AreRewritten input.now [] (take len out.new)) }
+    ensures within { IfSome result (λ len. len ≤ length input.now) }
+    ensures behind { drop (length input.now) out.new ≡ drop (length input.now) out.old }
+    ensures missed { IfNone result (¬ (ArePodsWithin levels_looked_into input.now)) }
+    ensures unchanged { IfNone result (out.new ≡ out.old) }
+    ensures short { length out.old < length input.now → out.new ≡ out.old }
+{
+    let (first, others) = canonical_stretch(input);
+    if others.is_empty() {
+        put_where_it_fits(input, out);
+        return Some(input.len());
+    }
+    let Ok(all) = look_at_pods(others) else {
+        return None;
+    };
+    let len = input.len() - all.surplus;
+    if out.len() < input.len() {
+        return Some(len);
+    }
+    put_first(input, out);
+    encode_pods(all.changed, &mut out[first.len()..input.len()]);
+    Some(len)
+}
+
+/// Copies bytes to the front of an output that is as long or longer; of a shorter one nothing changes.
+#[inline(always)]
+fn put_where_it_fits(bytes: &[u8], out: &mut [u8])
+    ensures copied { length bytes.now ≤ length out.old → out.new ≡ bytes.now ++ drop (length bytes.now) out.old }
+    ensures behind { drop (length bytes.now) out.new ≡ drop (length bytes.now) out.old }
+    ensures unchanged { length out.old < length bytes.now → out.new ≡ out.old }
+{
+    if bytes.len() <= out.len() {
+        put_first(bytes, out);
+    }
+}
+
+/// Copies bytes to the front of an output, where there are any.
+#[inline(always)]
+fn put_first(bytes: &[u8], out: &mut [u8])
+    requires { length bytes.now ≤ length out.old }
+    ensures { out.new ≡ bytes.now ++ drop (length bytes.now) out.old }
+{
+    if !bytes.is_empty() {
+        out[..bytes.len()].copy_from_slice(bytes);
+    }
+}

@@ -18,7 +18,7 @@ ROOT = pathlib.Path(__file__).resolve().parent.parent
 
 # Where the tests of crates that were cut up are now: the beginning of a path, and the crates.
 MOVED = {
-    "crates/spa_command_tests/src/pods": ("podtool_rows", "podtool_tests"),
+    "crates/spa_command_tests/src/pods": ("podtool_tests",),
     "crates/spa_command_tests/src/meetings": ("pod_rows", "pod_tests"),
     "crates/spa_command_tests/src/texts": ("pod_rows", "pod_tests"),
     "crates/spa_command_tests/src/text": ("text_tests",),

@@ -57,11 +57,6 @@ PLACES = {
          '            DeserializeError::OutOfMemory => write!(f, "out of memory"),\n'
          '            DeserializeError::TooDeep => write!(f, "values nest deeper than the limit"),\n'),
     ],
-    'spa-pod/src/parts/spa_rewrite/in_place.rs': [
-        ('        DeserializeError::OutOfMemory => DeserializeError::OutOfMemory,\n',
-         '        DeserializeError::OutOfMemory => DeserializeError::OutOfMemory,\n'
-         '        DeserializeError::TooDeep => DeserializeError::TooDeep,\n'),
-    ],
     # With a `usize` of 32 bits sums of sizes don't fit, which they are proved to do with 64.
     'spa-pod/src/parts/spa_bytes/front.rs': [
         ('pub fn extent_of(size: u32) -> usize {\n',

@@ -51,9 +51,7 @@ pub use Rattle.spa_canonical.specs.Canonical
 pub use Rattle.spa_canonical.specs.Depth
 pub use Rattle.spa_canonical.specs.Rewriting
 pub use Rattle.spa_canonical.specs.Look
-pub use Rattle.spa_rewrite.specs.Memory
-pub use Rattle.spa_canonical.specs.Shorter
-pub use Rattle.spa_rewrite.specs.InPlace
+pub use Rattle.spa_rewrite.specs.Refusals as RewritingRefusals
 pub use Rattle.spa_lenient.specs.Rewriting as LenientRewriting
 pub use Rattle.spa_view.specs.View as Seen
 pub use Rattle.spa_view.specs.Tests

@@ -3,7 +3,7 @@
 
 use pod_commands::answer::{Answer, Failure, report};
 use pod_commands::files::SystemFiles;
-use pod_commands::run::run;
+use pod_commands::run::{Start, run};
 use pod_commands::screen::Screen;
 use spa_meet_commands::progress::Progress;
 use std::alloc::AllocError;
@@ -37,14 +37,17 @@ fn status(rt: &HostRuntime) -> Option<u8> {
         device: stdout,
         is_closed: false,
     };
+    let start = Start {
+        words: words.as_slice(),
+        screen,
+    };
     let (answer, mut output) = run(
         rt.alloc(),
-        words.as_slice(),
+        start,
         &mut rt.stdin(),
         &mut files,
         &mut progress,
         output,
-        screen,
     );
     if !output.is_closed {
         let _ = report(&mut output, &mut rt.stderr(), &answer);

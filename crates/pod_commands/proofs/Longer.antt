@@ -3,7 +3,7 @@ use Rattle.std.proofs.Common.{◌≡◌, ◌≢◌, ◌≤◌, ◌<◌, ◌+◌,
 use Rattle.std.proofs.lemmas.List.{drop-append-le, drop_at, take-append-le, take_at}
 use Rattle.std.proofs.lemmas.Bool.Decides.{nat_tests}
 use Rattle.std.specs.Borrow.{Bor}
-use Rattle.std.specs.Prelude.{⊤, false, if◌then◌else◌, nat_lt, string_bytes}
+use Rattle.std.specs.Prelude.{false, if◌then◌else◌, nat_lt, string_bytes}
 use Rattle.spa_fixed_sized.specs.Faults.{error_text, kind_text}
 use Rattle.spa_fixed_sized.specs.declared.fault.DeserializeError.{DeserializeError}
 use Rattle.spa_fixed_sized.specs.declared.fault.DeserializeError.TheVariants as error

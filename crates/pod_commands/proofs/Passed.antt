@@ -17,7 +17,7 @@ use Rattle.spa_recordings.specs.declared.reading.Reading.TheVariants.{Exact, Len
 use Rattle.spa_recordings.specs.declared.streaming.Stop.{Stop}
 use Rattle.spa_recordings.specs.declared.streaming.Stop.TheVariants as stop
 use Rattle.spa_refusals.specs.declared.several.NamedRefusal.{NamedRefusal}
-use Rattle.pod_commands.specs.Answers.{Gets, Gives, IsStreamedInPart, IsUnread, outlet}
+use Rattle.pod_commands.specs.Answers.{IsStreamedInPart, IsUnread, outlet}
 use Rattle.pod_commands.specs.Inputs.{IsKnown, IsOpened, content_of, left_behind}
 use Rattle.pod_commands.specs.Making.{Makes}
 use Rattle.pod_commands.specs.Passing.{WorksOnBlock}
@@ -79,21 +79,17 @@ none_made Lenient m e = ([], (no_trees, refl, refl), nothing_made m e)
 
 -- how far the work on an input is
 pub record WorkedTo (start state : Worker) (first out : List ℕ) : Type 0 where
-  pub making : state.making ≡ start.making
-  pub manner : state.manner ≡ start.manner
-  pub name : state.name.now ≡ start.name.now
-  pub works : WorksOn start.manner.reading start.manner.refused start.making start.name.now 0 0 first out start.said.items state.said.items
+  pub job : state.job ≡ start.job
+  pub works : WorksOn start.job.manner.reading start.job.manner.refused start.job.making start.job.name.now 0 0 first out start.said.items state.said.items
 
-pub blocks_worked : (start state : Worker) (first out : List ℕ) → IsMadeInBlocks start.manner.refused start.making → AreBlocks WorksOnBlock start state first out →
+pub blocks_worked : (start state : Worker) (first out : List ℕ) → IsMadeInBlocks start.job.manner.refused start.job.making → AreBlocks WorksOnBlock start state first out →
     WorkedTo start state first out
 blocks_worked start _ _ _ e nothing = record {
-  making = refl;
-  manner = refl;
-  name = refl;
+  job = refl;
   works = record {
     pods = [];
     these = [];
-    goes_on = ends no_overlap 0 0 [] [] (none_made start.manner.reading start.making e.0);
+    goes_on = ends no_overlap 0 0 [] [] (none_made start.job.manner.reading start.job.making e.0);
     said = refl;
     added = sym (append-nil start.said.items);
   };
@@ -101,28 +97,24 @@ blocks_worked start _ _ _ e nothing = record {
 blocks_worked start _ _ _ e (one_more mid new first block out made before whole k) =
     let so = blocks_worked start mid first out e before in
     let w = so.works in
-    let reading = start.manner.reading in
-    let refused = start.manner.refused in
-    let name = start.name.now in
-    let m = Makes start.making in
-    let its : WorksOn reading refused start.making name (length (walk first)) (length first) block made mid.said.items new.said.items =
-    subst (λ z. WorksOn reading refused start.making z (length (walk first)) (length first) block made mid.said.items new.said.items) so.name
-    (subst (λ z. WorksOn reading refused z mid.name.now (length (walk first)) (length first) block made mid.said.items new.said.items) so.making
-    (subst (λ z. WorksOn z.reading z.refused mid.making mid.name.now (length (walk first)) (length first) block made mid.said.items new.said.items) so.manner
-    k.works)) in
+    let reading = start.job.manner.reading in
+    let refused = start.job.manner.refused in
+    let name = start.job.name.now in
+    let m = Makes start.job.making in
+    let its : WorksOn reading refused start.job.making name (length (walk first)) (length first) block made mid.said.items new.said.items =
+    subst (λ j. WorksOn j.manner.reading j.manner.refused j.making j.name.now (length (walk first)) (length first) block made mid.said.items new.said.items) so.job
+    k.works in
     record {
-      making = k.making ∙ so.making;
-      manner = k.manner ∙ so.manner;
-      name = k.name ∙ so.name;
+      job = k.job ∙ so.job;
       works = record {
         pods = w.pods ++ its.pods;
         these = w.these ++ its.these;
         goes_on =
-            joined name reading refused m (joins start.making e.0) (members start.making e.0) e.1 no_overlap 0 0 (length (walk first)) (length first) first block out made
+            joined name reading refused m (joins start.job.making e.0) (members start.job.making e.0) e.1 no_overlap 0 0 (length (walk first)) (length first) first block out made
             w.pods its.pods whole (omega arith) (omega arith) w.goes_on its.goes_on;
         said =
             said_joined reading first block (length first) w.pods its.pods w.these its.these refl
-            (fronts name reading refused m (joins start.making e.0) (members start.making e.0) e.1 no_overlap first first out 0 0 w.pods whole refl (omega arith)
+            (fronts name reading refused m (joins start.job.making e.0) (members start.job.making e.0) e.1 no_overlap first first out 0 0 w.pods whole refl (omega arith)
             w.goes_on) w.said its.said;
         added = its.added ∙ ap (λ z. z ++ its.these) w.added ∙ append_assoc start.said.items w.these its.these;
       };
@@ -131,38 +123,38 @@ blocks_worked start _ _ _ e (one_more mid new first block out made before whole 
 -- ---- One input
 
 -- all of it was worked on
-pub passed : (start end : Worker) (content old new : Option (List ℕ)) → IsMadeInBlocks start.manner.refused start.making → WorksThrough WorksOnBlock start end content old new →
-    PassesOver start.manner.reading start.manner.refused start.making start.name.now content old new start.said.items end.said.items
+pub passed : (start end : Worker) (content old new : Option (List ℕ)) → IsMadeInBlocks start.job.manner.refused start.job.making → WorksThrough WorksOnBlock start end content old new →
+    PassesOver start.job.manner.reading start.job.manner.refused start.job.making start.job.name.now content old new start.said.items end.said.items
 passed start end content old new e w =
     let so = blocks_worked start end w.input w.out e w.made in
     record { input = w.input; its = w.read; out = w.out; works = so.works; written = w.written }
 
 -- the work ended before
-pub broken : (start : Worker) (name : Bor (List ℕ)) (content old new : Option (List ℕ)) (why : Stop) (failure : Failure) → IsMadeInBlocks start.manner.refused start.making →
-    name.now ≡ start.name.now → IsFailureOf start.manner.reading name why failure → StopsWork WorksOnBlock start content old new why →
-    IsBrokenInPartAt start.manner.reading start.manner.refused start.making start.name.now content old new failure
+pub broken : (start : Worker) (name : Bor (List ℕ)) (content old new : Option (List ℕ)) (why : Stop) (failure : Failure) → IsMadeInBlocks start.job.manner.refused start.job.making →
+    name.now ≡ start.job.name.now → IsFailureOf start.job.manner.reading name why failure → StopsWork WorksOnBlock start content old new why →
+    IsBrokenInPartAt start.job.manner.reading start.job.manner.refused start.job.making start.job.name.now content old new failure
 broken start name content old new why failure e same t h = of why t h.written
   where
-    first : MakesFirstInPart start.manner.reading start.manner.refused start.making start.name.now h.input h.out
+    first : MakesFirstInPart start.job.manner.reading start.job.manner.refused start.job.making start.job.name.now h.input h.out
     first =
         let so = blocks_worked start h.state h.first h.out e h.made in
         record { first = h.first; left = h.left; parts = h.parts; whole = h.behind; pods = so.works.pods; made = so.works.goes_on }
 
-    of : (why : Stop) → IsFailureOf start.manner.reading name why failure → IsWrittenTill why old new h.out →
-        IsBrokenInPartAt start.manner.reading start.manner.refused start.making start.name.now content old new failure
+    of : (why : Stop) → IsFailureOf start.job.manner.reading name why failure → IsWrittenTill why old new h.out →
+        IsBrokenInPartAt start.job.manner.reading start.job.manner.refused start.job.making start.job.name.now content old new failure
     of (stop.Pod number place read) t w = absurd w
     of stop.OutOfMemory t w =
-        subst (IsBrokenInPartAt start.manner.reading start.manner.refused start.making start.name.now content old new) (sym t)
+        subst (IsBrokenInPartAt start.job.manner.reading start.job.manner.refused start.job.making start.job.name.now content old new) (sym t)
         (h.input, h.out, h.its, first, w)
     of stop.ReadFailed t w =
-        subst (IsBrokenInPartAt start.manner.reading start.manner.refused start.making start.name.now content old new) (sym t.3)
+        subst (IsBrokenInPartAt start.job.manner.reading start.job.manner.refused start.job.making start.job.name.now content old new) (sym t.3)
         (h.input, h.out, h.its, first, w)
     of stop.WriteFailed t w =
-        subst (IsBrokenInPartAt start.manner.reading start.manner.refused start.making start.name.now content old new) (sym t)
+        subst (IsBrokenInPartAt start.job.manner.reading start.job.manner.refused start.job.making start.job.name.now content old new) (sym t)
         (h.input, h.out, h.its, (refl, first), w)
 
 -- no pod ends it
-pub no_pod : (start : Worker) (content old new : Option (List ℕ)) (why : Stop) → StopsWork WorksOnBlock start content old new why → HasNoPod start.manner.reading why
+pub no_pod : (start : Worker) (content old new : Option (List ℕ)) (why : Stop) → StopsWork WorksOnBlock start content old new why → HasNoPod start.job.manner.reading why
 no_pod start content old new (stop.Pod number place read) h = absurd h.written
 no_pod start content old new stop.OutOfMemory h = tt
 no_pod start content old new stop.ReadFailed h = tt
@@ -263,25 +255,17 @@ module _ (reading : Reading) (refused : Refused) (making : Making) where
     -- ---- The run
 
     -- all was written as it came, and these pods were refused
-    gives : (target : Option (Bor (List ℕ))) (old new : Option (List ℕ)) (said : List NamedRefusal) → target ≡ None →
+    pub none_refused : (old new : Option (List ℕ)) (said : List NamedRefusal) → said ≡ [] →
         ((out : List ℕ) × AreWorked reading refused making remaining holds names out said × Appends old new out) →
-        Gives (λ out. AreWorked reading refused making remaining holds names out said) (outlet target old new holds holds)
-    gives target old new said none w =
-        (w.0, w.1, subst (λ t. Gets t (outlet t old new holds holds) w.0) (sym none) (w.2, λ name. refl))
+        IsStreamedInPart reading refused making Done remaining names (outlet None old new holds holds)
+    none_refused old new said e w =
+        (w.0, subst (AreWorked reading refused making remaining holds names w.0) e w.1, (w.2, λ name. refl))
 
-    pub none_refused : (target : Option (Bor (List ℕ))) (old new : Option (List ℕ)) (said : List NamedRefusal) → target ≡ None → said ≡ [] →
-        ((out : List ℕ) × AreWorked reading refused making remaining holds names out said × Appends old new out) →
-        IsStreamedInPart reading refused making Done remaining names (outlet target old new holds holds)
-    none_refused target old new said none e w =
-        subst (λ z. Gives (λ out. AreWorked reading refused making remaining holds names out z) (outlet target old new holds holds)) e
-        (gives target old new said none w)
-
-    pub some_refused : (target : Option (Bor (List ℕ))) (old new : Option (List ℕ)) (said : Vec NamedRefusal Global) → target ≡ None → said.items ≢ [] →
+    pub some_refused : (old new : Option (List ℕ)) (said : Vec NamedRefusal Global) → said.items ≢ [] →
         ((out : List ℕ) × AreWorked reading refused making remaining holds names out said.items × Appends old new out) →
-        IsStreamedInPart reading refused making (Passed said) remaining names (outlet target old new holds holds)
-    some_refused target old new said none e w = (e, gives target old new said.items none w)
+        IsStreamedInPart reading refused making (Passed said) remaining names (outlet None old new holds holds)
+    some_refused old new said e w = (e, (w.0, w.1, (w.2, λ name. refl)))
 
-    pub ended : (target : Option (Bor (List ℕ))) (old new : Option (List ℕ)) (why : Failure) →
-        IsBrokenInPart reading refused making remaining holds names old new why →
-        IsStreamedInPart reading refused making (RefusedFor why) remaining names (outlet target old new holds holds)
-    ended target old new why b = (b, λ name. refl)
+    pub ended : (old new : Option (List ℕ)) (why : Failure) → IsBrokenInPart reading refused making remaining holds names old new why →
+        IsStreamedInPart reading refused making (RefusedFor why) remaining names (outlet None old new holds holds)
+    ended old new why b = (b, λ name. refl)

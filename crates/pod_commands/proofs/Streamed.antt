@@ -302,18 +302,18 @@ found_by (Some selection) its out d (inl h) = absurd (true≢false (ap is_some h
 found_by (Some selection) its out d (inr h) = λ e. true≢false (sym (d.1 e) ∙ h)
 
 -- all was written as it came
-pub all_written : (reading : Reading) (s : Streaming) (target : Option (Bor (List ℕ))) (remaining : Option (List ℕ)) (holds : List ℕ → Option (List ℕ))
-    (names : List (Bor (List ℕ))) (old new : Option (List ℕ)) (its : Made) (answer : Answer) → target ≡ None →
+pub all_written : (reading : Reading) (s : Streaming) (remaining : Option (List ℕ)) (holds : List ℕ → Option (List ℕ))
+    (names : List (Bor (List ℕ))) (old new : Option (List ℕ)) (its : Made) (answer : Answer) →
     (sought : Option Selection) → sought ≡ looked_for s → IsOutcome sought its answer →
     ((out : List ℕ) × AreMade (StreamsAs reading s) remaining holds names out its.refused × Decides its.nothing (out ≡ []) × Appends old new out) →
-    IsWrittenAs reading s answer remaining names (outlet target old new holds holds)
-all_written reading s target remaining holds names old new its answer none sought looks is w = of is
+    IsWrittenAs reading s answer remaining names (outlet None old new holds holds)
+all_written reading s remaining holds names old new its answer sought looks is w = of is
   where
     o : Outlet
-    o = outlet target old new holds holds
+    o = outlet None old new holds holds
 
-    gets : Gets target o w.0
-    gets = subst (λ t. Gets t (outlet t old new holds holds) w.0) (sym none) (w.3, λ name. refl)
+    gets : Gets None o w.0
+    gets = (w.3, λ name. refl)
 
     of : IsOutcome sought its answer → IsWrittenAs reading s answer remaining names o
     of (inl e) =
@@ -330,10 +330,10 @@ all_written reading s target remaining holds names old new its answer none sough
         subst (λ a. IsWrittenAs reading s a remaining names o) (sym e.4)
         (sym looks ∙ e.3, (w.0, (subst (AreMade (StreamsAs reading s) remaining holds names w.0) e.1 w.1, w.2.0 e.2), gets))
 
-pub part_written : (reading : Reading) (s : Streaming) (target : Option (Bor (List ℕ))) (remaining : Option (List ℕ)) (holds : List ℕ → Option (List ℕ))
+pub part_written : (reading : Reading) (s : Streaming) (remaining : Option (List ℕ)) (holds : List ℕ → Option (List ℕ))
     (names : List (Bor (List ℕ))) (old new : Option (List ℕ)) (why : Failure) → IsBroken reading s remaining holds names old new why →
-    IsWrittenAs reading s (Refused why) remaining names (outlet target old new holds holds)
-part_written reading s target remaining holds names old new why b = (b, λ name. refl)
+    IsWrittenAs reading s (Refused why) remaining names (outlet None old new holds holds)
+part_written reading s remaining holds names old new why b = (b, λ name. refl)
 
 -- an option that `--stream` excludes is misuse
 pub misused : (s : Streaming) (reading : Reading) (fate : Fate) (target : Option (Bor (List ℕ))) (remaining : Option (List ℕ))
@@ -344,9 +344,9 @@ misused s reading fate target remaining holds names old other e = inr (other, e,
 -- without one it is done
 pub streamed : (s : Streaming) (reading : Reading) (fate : Fate) (target : Option (Bor (List ℕ))) (answer : Answer) (remaining : Option (List ℕ))
     (names : List (Bor (List ℕ))) (old new : Option (List ℕ)) (before after : List ℕ → Option (List ℕ)) → target ≡ None →
-    IsStreamedBy s reading fate answer remaining names (outlet target old new before after) →
+    IsStreamedBy s reading fate answer remaining names (outlet None old new before after) →
     IsStreamed s reading fate answer remaining names (outlet target old new before after)
-streamed s reading fate target answer remaining names old new before after t w = inl (t, w)
+streamed s reading fate target answer remaining names old new before after t w = rw t (inl (refl, w))
 
 -- where refused pods are refused, what was made till the work ended was written
 pub stopped_by : (s : Streaming) (reading : Reading) (fate : Fate) (answer : Answer) (remaining : Option (List ℕ)) (names : List (Bor (List ℕ))) (o : Outlet) →
@@ -365,13 +365,13 @@ pub blocks_by : (fate : Fate) (refused : OfRefused) (making : Making) → fate �
     IsMadeInBlocks refused making
 blocks_by fate refused making e ends each = (each, subst MayStream e ends)
 
-pub parts_by : (s : Streaming) (reading : Reading) (fate : Fate) (refused : OfRefused) (target : Option (Bor (List ℕ))) (remaining : Option (List ℕ))
+pub parts_by : (s : Streaming) (reading : Reading) (fate : Fate) (refused : OfRefused) (remaining : Option (List ℕ))
     (holds : List ℕ → Option (List ℕ)) (names : List (Bor (List ℕ))) (old : Option (List ℕ)) → fate ≡ GoesOn refused → None ≡ made_as s →
-    IsStreamedBy s reading fate (Misused (WithPart refused)) remaining names (outlet target old old holds holds)
-parts_by s reading fate refused target remaining holds names old e m =
-    subst (λ z. IsStreamedBy s reading z (Misused (WithPart refused)) remaining names (outlet target old old holds holds)) (sym e)
-    (subst (λ z. IsPassed z reading refused (Misused (WithPart refused)) remaining names (outlet target old old holds holds)) m
-    (refl, untouched target old holds))
+    IsStreamedBy s reading fate (Misused (WithPart refused)) remaining names (outlet None old old holds holds)
+parts_by s reading fate refused remaining holds names old e m =
+    subst (λ z. IsStreamedBy s reading z (Misused (WithPart refused)) remaining names (outlet None old old holds holds)) (sym e)
+    (subst (λ z. IsPassed z reading refused (Misused (WithPart refused)) remaining names (outlet None old old holds holds)) m
+    (refl, untouched None old holds))
 
 -- ---- Lines that go to a file
 

@@ -9,7 +9,6 @@ use Rattle.spa_format.specs.Pod.{AreMembers}
 use Rattle.spa_format.specs.Tree.{Trees}
 use Rattle.spa_format.proofs.Refused.{refused_behind_members}
 use Rattle.spa_recordings.specs.Streaming.{EndsAtPod}
-use Rattle.spa_recordings.specs.declared.reading.Reading.{Reading}
 use Rattle.spa_recordings.specs.declared.reading.Reading.TheVariants.{Exact}
 use Rattle.pod_commands.specs.Answers.{AreFiles, AreUnmade, IsMadeBy, IsUnknown, IsWrittenAs, MayReadTwice, Outlet, outlet}
 use Rattle.pod_commands.specs.Inputs.{AreMade, StopsAt, content_of, left_behind}
@@ -20,9 +19,7 @@ use Rattle.pod_commands.specs.declared.answer.Answer.{Answer}
 use Rattle.pod_commands.specs.declared.answer.Answer.TheVariants.{Done, Differs, Passed, Shown, Missing, Refused, Misused, Said}
 use Rattle.pod_commands.specs.declared.answer.Failure.{Failure}
 use Rattle.pod_commands.specs.declared.answer.Failure.TheVariants.{Pods}
-use Rattle.pod_commands.specs.declared.request.Fate.{Fate}
 use Rattle.pod_commands.specs.declared.request.Fate.TheVariants.{Stops}
-use Rattle.pod_commands.specs.declared.request.Making.{Making}
 use Rattle.pod_commands.specs.declared.request.Making.TheVariants.{Check, Rewrite}
 use Rattle.pod_commands.specs.declared.request.Streaming.TheVariants as streaming
 use Rattle.spa_refusals.specs.declared.refusal.Refusal.{Refusal}
@@ -165,22 +162,10 @@ unmade_rewritten r holds names why (inr h) =
     (λ name input made. RefusesBy Exact Rewrite name input) r holds names h.0 why check_rewritten (λ name input made e. (made, e)) h.1)
 
 -- nothing is written where the first pass ends the work
-pub refused_first : (target : Option (Bor (List ℕ))) (r : Option (List ℕ)) (holds : List ℕ → Option (List ℕ)) (names : List (Bor (List ℕ)))
+pub refused_first : (r : Option (List ℕ)) (holds : List ℕ → Option (List ℕ)) (names : List (Bor (List ℕ)))
     (old : Option (List ℕ)) (why : Failure) → AreUnmade Exact Check r holds names why →
-    IsMadeBy Exact Stops Rewrite (Refused why) r names (outlet target old old holds holds)
-refused_first target r holds names old why h = inl (inl (unmade_rewritten r holds names why h, untouched target old holds))
-
--- which pass it is doesn't depend on how it is asked for
-pub as_asked : (reading : Reading) (fate : Fate) (making : Making) (answer : Answer) (r : Option (List ℕ)) (names : List (Bor (List ℕ))) (o : Outlet) →
-    fate ≡ Stops → MayReadTwice reading making names o.target → IsMadeBy Exact Stops Rewrite answer r names o →
-    IsMadeBy reading fate making answer r names o
-as_asked reading fate making answer r names o stops may h =
-    subst (λ z. IsMadeBy z fate making answer r names o) (sym may.exact)
-    (subst (λ z. IsMadeBy Exact z making answer r names o) (sym stops) (subst (λ z. IsMadeBy Exact Stops z answer r names o) (sym may.rewrite) h))
-
-pub as_rewritten : (reading : Reading) (making : Making) (names : List (Bor (List ℕ))) (target : Option (Bor (List ℕ))) →
-    MayReadTwice reading making names target → MayReadTwice Exact Rewrite names target
-as_rewritten reading making names target may = record { exact = refl; rewrite = refl; to_output = may.to_output; files = may.files }
+    IsMadeBy Exact Stops Rewrite (Refused why) r names (outlet None old old holds holds)
+refused_first r holds names old why h = inl (inl (unmade_rewritten r holds names why h, untouched None old holds))
 
 -- ---- Names, one after another
 

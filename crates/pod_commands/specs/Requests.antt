@@ -374,9 +374,10 @@ fixating settles = if settles then Settle else Fixate
 abbrev pub comparison_by : (across_runs : Bool) → Comparison
 comparison_by across_runs = if across_runs then AcrossRuns else Whole
 
--- the flags that one word alone takes
+-- the flags that not all words take
 abbrev pub flags_in : List Row → Flags
-flags_in rows = record { settles = is_given (codes "settle") rows; across_runs = is_given (codes "across-runs") rows }
+flags_in rows =
+    record { streams = is_given (codes "stream") rows; settles = is_given (codes "settle") rows; across_runs = is_given (codes "across-runs") rows }
 
 -- the word does what its flag says: `fixate` settles or doesn't, and `diff` compares across runs or whole
 abbrev pub HasFlags : Flags → Word → Type 0

@@ -34,6 +34,14 @@ pub trait Files {
         ensures written { OnOk result (IsAllOf (holds self.new name.now) bytes.now) };
 }
 
+/// What inputs are read from.
+#[derive(Drop)]
+pub(crate) struct Inputs<'io, R, S> {
+    /// The standard input.
+    pub(crate) input: &'io mut R,
+    pub(crate) files: &'io S,
+}
+
 /// The files of the system, of which nothing is known. A regular file that is opened is read as far as it is long then, so that it ends also where
 /// it is written to meanwhile.
 #[derive(Clone, Copy)]
@@ -115,22 +123,21 @@ pub(crate) fn open_named<'a, S: Files>(
 pub(crate) fn read_named<'a, R: Read, S: Files>(
     alloc: Global,
     name: &'a str,
-    input: &mut R,
-    files: &S,
+    inputs: Inputs<'_, R, S>,
 ) -> Result<Vec<u8>, Failure<'a>>
     ensures all { IfOk result
-        (λ bytes. IsAllOf (content_of (R.remaining input.old) (S.holds files.now) name.entry.now) bytes.items) }
-    ensures left { IsKnown (left_behind (R.remaining input.old) name.entry.now) (R.remaining input.new) }
+        (λ bytes. IsAllOf (content_of (R.remaining inputs.entry.input.now) (S.holds inputs.entry.files.now) name.entry.now) bytes.items) }
+    ensures left { IsKnown (left_behind (R.remaining inputs.entry.input.now) name.entry.now) (R.remaining inputs.exit.0.now) }
     ensures cause { IfErr result IsUnread }
 {
     if name == "-" {
-        return match read_whole(alloc, input) {
+        return match read_whole(alloc, inputs.input) {
             Ok(bytes) => Ok(bytes),
             Err(ReadError::OutOfMemory) => Err(Failure::OutOfMemory),
             Err(ReadError::Failed) => Err(Failure::Unread(name, "read failed")),
         };
     }
-    match files.read_file(alloc, name) {
+    match inputs.files.read_file(alloc, name) {
         Ok(bytes) => Ok(bytes),
         Err(error) if error.kind() == ErrorKind::OutOfMemory => Err(Failure::OutOfMemory),
         Err(error) => Err(Failure::Unread(name, reason_of(error.kind()))),

@@ -15,7 +15,7 @@ ghost use Rattle.spa_recordings.specs.declared.reading.Reading as Reading;
 
 use crate::answer::Failure;
 use crate::colours::{Colours, colours_of, in_colours};
-use crate::files::{Files, read_named};
+use crate::files::{Files, Inputs, read_named};
 use crate::reading::read_leniently;
 use crate::refusing::{
     FormlessPod, first_formless, formless, refusal_of_formless, refused, unmade,
@@ -46,22 +46,22 @@ pub(crate) fn make_all<'a, R: Read, S: Files>(
     making: Making<'_>,
     reading: Reading,
     names: &[&'a str],
-    input: &mut R,
-    files: &S,
+    inputs: Inputs<'_, R, S>,
 ) -> Result<Vec<u8>, Failure<'a>>
     ensures made { IfOk result
-        (λ out. AreMade (MakesAll reading making.entry) (R.remaining input.old) (S.holds files.now) names.now out.items 0) }
-    ensures refused { IfErr result (AreUnmade reading making.entry (R.remaining input.old) (S.holds files.now) names.now) }
+        (λ out. AreMade (MakesAll reading making.entry) (R.remaining inputs.entry.input.now) (S.holds inputs.entry.files.now) names.now out.items 0) }
+    ensures refused { IfErr result (AreUnmade reading making.entry (R.remaining inputs.entry.input.now) (S.holds inputs.entry.files.now) names.now) }
 {
     if let Making::Check = making {
-        return match check_all(alloc, reading, names, input, files) {
+        return match check_all(alloc, reading, names, inputs) {
             Ok(()) => Ok(Vec::new(alloc)),
             Err(why) => Err(why),
         };
     }
+    let Inputs { input, files } = inputs;
     let mut out = Vec::new(alloc);
     for name in names {
-        let bytes = read_named(alloc, *name, input, files)?;
+        let bytes = read_named(alloc, *name, Inputs { input, files })?;
         let made = make_read(alloc, making, reading, *name, bytes)?;
         add(&mut out, made)?;
     }
@@ -306,6 +306,14 @@ impl Maker for Making<'_> {
     }
 }
 
+/// What is made of the input of a name, and how that is read.
+#[derive(Clone, Copy)]
+pub(crate) struct Job<'a, 'b> {
+    pub(crate) making: Making<'b>,
+    pub(crate) manner: Manner,
+    pub(crate) name: &'a str,
+}
+
 /// What was made of inputs, and what is said of their refused pods.
 #[derive(Drop)]
 pub(crate) struct Worked<'a> {
@@ -319,41 +327,38 @@ pub(crate) fn make_what_is_read<'a, R: Read, S: Files>(
     making: Making<'_>,
     manner: Manner,
     names: &[&'a str],
-    input: &mut R,
-    files: &S,
+    inputs: Inputs<'_, R, S>,
 ) -> Result<Worked<'a>, Failure<'a>>
     ensures made { IfOk result (λ worked. AreWorked manner.reading manner.refused making.entry
-        (R.remaining input.old) (S.holds files.now) names.now worked.out.items worked.refused.items) }
+        (R.remaining inputs.entry.input.now) (S.holds inputs.entry.files.now) names.now worked.out.items worked.refused.items) }
     ensures refused { IfErr result (IsUnworked manner.refused making.entry) }
 {
+    let Inputs { input, files } = inputs;
     let mut out = Vec::new(alloc);
     let mut refused = Vec::new(alloc);
     for name in names {
-        let bytes = read_named(alloc, *name, input, files)?;
-        let bytes = bytes.as_slice();
-        let Ok(made) = work_through(alloc, making, manner, *name, bytes, &mut refused) else {
-            return Err(unworked(alloc, making, manner, *name, bytes));
+        let bytes = read_named(alloc, *name, Inputs { input, files })?;
+        let job = Job {
+            making,
+            manner,
+            name: *name,
+        };
+        let Ok(made) = work_through(alloc, job, bytes.as_slice(), &mut refused) else {
+            return Err(unworked(alloc, job, bytes.as_slice()));
         };
         add(&mut out, made)?;
     }
     Ok(Worked { out, refused })
 }
 
-/// Why nothing is made of the input of this name, whose refused pods are left out or kept: `pw-dump` has no form for a pod that isn't left out for that, or
-/// memory ran out.
-fn unworked<'a>(
-    alloc: Global,
-    making: Making<'_>,
-    manner: Manner,
-    name: &'a str,
-    input: &[u8],
-) -> Failure<'a>
-    ensures { IsUnworked manner.refused making.entry result }
+/// Why nothing is made of an input whose refused pods are left out or kept: `pw-dump` has no form for a pod that isn't left out for that, or memory ran out.
+fn unworked<'a>(alloc: Global, job: Job<'a, '_>, input: &[u8]) -> Failure<'a>
+    ensures { IsUnworked job.entry.manner.refused job.entry.making result }
 {
-    if leaves_formless_out(manner.refused, making) {
+    if leaves_formless_out(job.manner.refused, job.making) {
         return Failure::OutOfMemory;
     }
-    unmade(alloc, making, manner.reading, name, input)
+    unmade(alloc, job.making, job.manner.reading, job.name, input)
 }
 
 /// Whether pods for which `pw-dump` has no form are left out.
@@ -369,45 +374,43 @@ fn leaves_formless_out(refused: Refused, making: Making<'_>) -> bool
 /// The first pod for which `pw-dump` has no form, where such pods are left out.
 fn formless_ahead(
     alloc: Global,
-    making: Making<'_>,
-    manner: Manner,
+    job: Job<'_, '_>,
     left: &[u8],
 ) -> Result<Option<FormlessPod>, AllocError>
-    ensures left_out { IfOk result (λ found. IfSome found (λ _. spec.leaves_formless_out manner.refused making.entry ≡ true)) }
+    ensures left_out { IfOk result (λ found. IfSome found
+        (λ _. spec.leaves_formless_out job.entry.manner.refused job.entry.making ≡ true)) }
     ensures behind { IfOk result (λ found. IfSome found (StandsBehind left.now)) }
 {
-    if leaves_formless_out(manner.refused, making) {
-        return first_formless(alloc, manner.reading, left);
+    if leaves_formless_out(job.manner.refused, job.making) {
+        return first_formless(alloc, job.manner.reading, left);
     }
     Ok(None)
 }
 
-/// What is made of the input of this name, whose refused pods are left out or kept. What is said of these is added.
+/// What is made of an input, whose refused pods are left out or kept. What is said of these is added.
 fn work_through<'a>(
     alloc: Global,
-    making: Making<'_>,
-    manner: Manner,
-    name: &'a str,
+    job: Job<'a, '_>,
     input: &[u8],
     said: &mut Vec<NamedRefusal<'a>>,
 ) -> Result<Vec<u8>, AllocError>
-    ensures { IfOk result (λ out. WorksThrough manner.reading manner.refused making.entry name.entry.now input.now
-        out.items said.old.items said.new.items) }
+    ensures { IfOk result (λ out. WorksThrough job.entry.manner.reading job.entry.manner.refused job.entry.making job.entry.name.now
+        input.now out.items said.old.items said.new.items) }
 {
     let mut out = Vec::new(alloc);
     let mut before: usize = 0;
     let mut left = input;
     loop {
         let place = input.len() - left.len();
-        match formless_ahead(alloc, making, manner, left)? {
+        match formless_ahead(alloc, job, left)? {
             Some(found) => {
                 let (first, pod) = left.split_at(found.at);
-                let made = work_on(alloc, making, manner, name, before, place, first, said)?;
+                let made = work_on(alloc, job, before, place, first, said)?;
                 add(&mut out, made)?;
                 before += found.before + 1;
                 let refusal = refusal_of_formless(alloc, pod, place + found.at, before)?;
                 said.push(NamedRefusal {
-                    name,
+                    name: job.name,
                     refusal,
                     left_out: None,
                 })?;
@@ -415,7 +418,7 @@ fn work_through<'a>(
                 left = rest;
             }
             None => {
-                let made = work_on(alloc, making, manner, name, before, place, left, said)?;
+                let made = work_on(alloc, job, before, place, left, said)?;
                 add(&mut out, made)?;
                 return Ok(out);
             }
@@ -423,12 +426,10 @@ fn work_through<'a>(
     }
 }
 
-/// What is made of a part of the input of this name, which so many pods and bytes of it stand before. What is said of its refused pods is added.
+/// What is made of a part of an input, which so many pods and bytes of it stand before. What is said of its refused pods is added.
 pub(crate) fn work_on<'a>(
     alloc: Global,
-    making: Making<'_>,
-    manner: Manner,
-    name: &'a str,
+    job: Job<'a, '_>,
     count: usize,
     place: usize,
     part: &[u8],
@@ -436,23 +437,23 @@ pub(crate) fn work_on<'a>(
 ) -> Result<Vec<u8>, AllocError>
     requires few { count + length part.now < 2 ^ 64 }
     requires within { place + length part.now < 2 ^ 64 }
-    ensures { IfOk result (λ out. WorksOn manner.reading manner.refused making.entry name.entry.now count place part.now
-        out.items said.old.items said.new.items) }
+    ensures { IfOk result (λ out. WorksOn job.entry.manner.reading job.entry.manner.refused job.entry.making job.entry.name.now
+        count place part.now out.items said.old.items said.new.items) }
 {
     let mut made = Made {
         out: Vec::new(alloc),
         refused: Vec::new(alloc),
     };
     let start = Progress {
-        name,
+        name: job.name,
         count,
         place,
         overlap: Overlap { more: 0, end: 0 },
     };
-    make_each(alloc, &making, manner, start, part, &mut made)?;
+    make_each(alloc, &job.making, job.manner, start, part, &mut made)?;
     add_refusals(
         alloc,
-        manner.reading,
+        job.manner.reading,
         place,
         part,
         made.refused.as_slice(),

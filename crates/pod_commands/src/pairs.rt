@@ -5,7 +5,7 @@ ghost use Rattle.pod_commands.specs.Answers.{AgreeTwo, AgreesOne, AreNotCompared
 ghost use Rattle.pod_commands.specs.Inputs.{AreBoth, OfTwo};
 
 use crate::answer::Failure;
-use crate::files::Files;
+use crate::files::{Files, Inputs};
 use crate::reading::read_pods;
 use crate::refusing::either_refused;
 use spa_meet_commands::lists::of_lists;
@@ -16,32 +16,43 @@ use spa_text_commands::comparing::{Comparison, differences};
 use std::alloc::Global;
 use std::io::Read;
 
+/// The names of two inputs.
+#[derive(Clone, Copy)]
+pub(crate) struct Two<'a> {
+    pub(crate) ours: &'a str,
+    pub(crate) theirs: &'a str,
+}
+
 /// The lines of text that differ of the pods as which two inputs are read: none where these say the same values.
 #[tactic(auto, using(crate::proofs::Unread::of_both))]
 pub(crate) fn compare<'a, R: Read, S: Files>(
     alloc: Global,
     comparison: Comparison,
     reading: Reading,
-    ours: &'a str,
-    theirs: &'a str,
-    input: &mut R,
-    files: &S,
+    names: Two<'a>,
+    inputs: Inputs<'_, R, S>,
 ) -> Result<Vec<u8>, Failure<'a>>
     ensures same { IfOk result (λ lines. lines.items ≡ [] →
-        OfTwo reading (R.remaining input.old) (S.holds files.now) ours.entry.now theirs.entry.now (SayTheSame comparison)) }
+        OfTwo reading (R.remaining inputs.entry.input.now) (S.holds inputs.entry.files.now) names.entry.ours.now names.entry.theirs.now (SayTheSame comparison)) }
     ensures other { IfOk result (λ lines. lines.items ≢ [] →
-        OfTwo reading (R.remaining input.old) (S.holds files.now) ours.entry.now theirs.entry.now (Differ comparison lines.items)) }
+        OfTwo reading (R.remaining inputs.entry.input.now) (S.holds inputs.entry.files.now) names.entry.ours.now names.entry.theirs.now (Differ comparison lines.items)) }
     ensures refused { IfErr result
-        (AreNotCompared reading (R.remaining input.old) (S.holds files.now) ours.entry.now theirs.entry.now) }
+        (AreNotCompared reading (R.remaining inputs.entry.input.now) (S.holds inputs.entry.files.now) names.entry.ours.now names.entry.theirs.now) }
 {
-    let (first, second) = match read_both(alloc, reading, ours, theirs, input, files) {
+    let (first, second) = match read_both(alloc, reading, names, inputs) {
         Ok(both) => both,
         Err(why) => return Err(why),
     };
     match differences(alloc, comparison, first.as_slice(), second.as_slice()) {
         Ok(lines) => Ok(lines),
         // What is read leniently is refused for lack of memory alone.
-        Err(_) => Err(either_refused(alloc, ours, theirs, first.as_slice(), second.as_slice())),
+        Err(_) => Err(either_refused(
+            alloc,
+            names.ours,
+            names.theirs,
+            first.as_slice(),
+            second.as_slice(),
+        )),
     }
 }
 
@@ -52,14 +63,13 @@ pub(crate) fn agree<'a, R: Read, S: Files>(
     work: Work,
     reading: Reading,
     name: &'a str,
-    input: &mut R,
-    files: &S,
+    inputs: Inputs<'_, R, S>,
 ) -> Result<Vec<u8>, Failure<'a>>
     ensures made { IfOk result
-        (λ met. AgreesOne work reading (R.remaining input.old) (S.holds files.now) name.entry.now met.items) }
-    ensures refused { IfErr result (IsOneApart work reading (R.remaining input.old) (S.holds files.now) name.entry.now) }
+        (λ met. AgreesOne work reading (R.remaining inputs.entry.input.now) (S.holds inputs.entry.files.now) name.entry.now met.items) }
+    ensures refused { IfErr result (IsOneApart work reading (R.remaining inputs.entry.input.now) (S.holds inputs.entry.files.now) name.entry.now) }
 {
-    let pods = match read_pods(alloc, reading, name, input, files) {
+    let pods = match read_pods(alloc, reading, name, inputs) {
         Ok(pods) => pods,
         Err(why) => return Err(why),
     };
@@ -75,24 +85,22 @@ pub(crate) fn agree_of_lists<'a, R: Read, S: Files, P: Progress>(
     alloc: Global,
     work: Work,
     reading: Reading,
-    ours: &'a str,
-    theirs: &'a str,
-    input: &mut R,
-    files: &S,
+    names: Two<'a>,
+    inputs: Inputs<'_, R, S>,
     progress: &mut P,
 ) -> Result<Vec<u8>, Failure<'a>>
     ensures made { IfOk result
-        (λ met. AgreeTwo work reading (R.remaining input.old) (S.holds files.now) ours.entry.now theirs.entry.now met.items) }
+        (λ met. AgreeTwo work reading (R.remaining inputs.entry.input.now) (S.holds inputs.entry.files.now) names.entry.ours.now names.entry.theirs.now met.items) }
     ensures refused { IfErr result
-        (AreTwoApart work reading (R.remaining input.old) (S.holds files.now) ours.entry.now theirs.entry.now) }
+        (AreTwoApart work reading (R.remaining inputs.entry.input.now) (S.holds inputs.entry.files.now) names.entry.ours.now names.entry.theirs.now) }
 {
-    let (first, second) = match read_both(alloc, reading, ours, theirs, input, files) {
+    let (first, second) = match read_both(alloc, reading, names, inputs) {
         Ok(both) => both,
         Err(why) => return Err(why),
     };
     match of_lists(alloc, work, first.as_slice(), second.as_slice(), progress) {
         Ok(met) => Ok(met),
-        Err(why) => Err(Failure::Lists(ours, theirs, why)),
+        Err(why) => Err(Failure::Lists(names.ours, names.theirs, why)),
     }
 }
 
@@ -101,22 +109,22 @@ pub(crate) fn agree_of_lists<'a, R: Read, S: Files, P: Progress>(
 fn read_both<'a, R: Read, S: Files>(
     alloc: Global,
     reading: Reading,
-    ours: &'a str,
-    theirs: &'a str,
-    input: &mut R,
-    files: &S,
+    names: Two<'a>,
+    inputs: Inputs<'_, R, S>,
 ) -> Result<(Vec<u8>, Vec<u8>), Failure<'a>>
     ensures both { IfOk result (λ both.
-        AreBoth reading (R.remaining input.old) (S.holds files.now) ours.entry.now theirs.entry.now both.0.items both.1.items) }
+        AreBoth reading (R.remaining inputs.entry.input.now) (S.holds inputs.entry.files.now) names.entry.ours.now names.entry.theirs.now both.0.items both.1.items) }
     ensures refused { IfErr result
-        (AreTwoUnread reading (R.remaining input.old) (S.holds files.now) ours.entry.now theirs.entry.now) }
+        (AreTwoUnread reading (R.remaining inputs.entry.input.now) (S.holds inputs.entry.files.now) names.entry.ours.now names.entry.theirs.now) }
 {
-    let first = match read_pods(alloc, reading, ours, input, files) {
+    let Inputs { input, files } = inputs;
+    let first = match read_pods(alloc, reading, names.ours, Inputs { input, files }) {
         Ok(pods) => pods,
         Err(why) => return Err(why),
     };
-    match read_pods(alloc, reading, theirs, input, files) {
-        Ok(second) => Ok((first, second)),
-        Err(why) => Err(why),
-    }
+    let second = match read_pods(alloc, reading, names.theirs, Inputs { input, files }) {
+        Ok(pods) => pods,
+        Err(why) => return Err(why),
+    };
+    Ok((first, second))
 }

@@ -6,8 +6,8 @@ ghost use Rattle.pod_commands.specs.Streaming.{IsBrokenInPart, IsBrokenInPartAt,
 ghost use Rattle.pod_commands.specs.Working.{AreWorked};
 
 use crate::answer::Failure;
-use crate::files::{Files, open_named};
-use crate::making::work_on;
+use crate::files::{Files, Inputs, open_named};
+use crate::making::{Job, work_on};
 use crate::request::Making;
 use crate::streaming::failure_of;
 use spa_recordings::going_on::Manner;
@@ -23,20 +23,26 @@ pub(crate) fn pass_all<'a, R: Read, S: Files, W: Write>(
     making: Making<'_>,
     manner: Manner,
     names: &[&'a str],
-    input: &mut R,
-    files: &S,
+    inputs: Inputs<'_, R, S>,
     output: &mut W,
 ) -> Result<Vec<NamedRefusal<'a>>, Failure<'a>>
     requires { IsMadeInBlocks manner.refused making }
     ensures passed { IfOk result (λ said. (out : List ℕ)
-        × AreWorked manner.reading manner.refused making.entry (R.remaining input.old) (S.holds files.now) names.now out said.items
+        × AreWorked manner.reading manner.refused making.entry (R.remaining inputs.entry.input.now) (S.holds inputs.entry.files.now)
+        names.now out said.items
         × Appends (W.contents output.old) (W.contents output.new) out) }
-    ensures broken { IfErr result (IsBrokenInPart manner.reading manner.refused making.entry (R.remaining input.old) (S.holds files.now)
-        names.now (W.contents output.old) (W.contents output.new)) }
+    ensures broken { IfErr result (IsBrokenInPart manner.reading manner.refused making.entry (R.remaining inputs.entry.input.now)
+        (S.holds inputs.entry.files.now) names.now (W.contents output.old) (W.contents output.new)) }
 {
+    let Inputs { input, files } = inputs;
     let mut said = Vec::new(alloc);
     for name in names {
-        match pass_named(alloc, making, manner, *name, input, files, output, said) {
+        let job = Job {
+            making,
+            manner,
+            name: *name,
+        };
+        match pass_named(alloc, job, Inputs { input, files }, output, said) {
             Ok(more) => said = more,
             Err(why) => return Err(why),
         }
@@ -44,94 +50,80 @@ pub(crate) fn pass_all<'a, R: Read, S: Files, W: Write>(
     Ok(said)
 }
 
-/// Writes what is made of the input of this name, and answers what is said of the refused pods, its own behind these.
+/// Writes what is made of an input, and answers what is said of the refused pods, its own behind these.
 fn pass_named<'a, R: Read, S: Files, W: Write>(
     alloc: Global,
-    making: Making<'_>,
-    manner: Manner,
-    name: &'a str,
-    input: &mut R,
-    files: &S,
+    job: Job<'a, '_>,
+    inputs: Inputs<'_, R, S>,
     output: &mut W,
     said: Vec<NamedRefusal<'a>>,
 ) -> Result<Vec<NamedRefusal<'a>>, Failure<'a>>
-    requires { IsMadeInBlocks manner.refused making }
-    ensures passed { IfOk result (λ more. PassesOver manner.reading manner.refused making.entry name.entry.now
-        (content_of (R.remaining input.old) (S.holds files.now) name.entry.now)
+    requires { IsMadeInBlocks job.manner.refused job.making }
+    ensures passed { IfOk result (λ more. PassesOver job.entry.manner.reading job.entry.manner.refused job.entry.making job.entry.name.now
+        (content_of (R.remaining inputs.entry.input.now) (S.holds inputs.entry.files.now) job.entry.name.now)
         (W.contents output.old) (W.contents output.new) said.entry.items more.items) }
-    ensures broken { IfErr result (IsBrokenInPartAt manner.reading manner.refused making.entry name.entry.now
-        (content_of (R.remaining input.old) (S.holds files.now) name.entry.now)
+    ensures broken { IfErr result (IsBrokenInPartAt job.entry.manner.reading job.entry.manner.refused job.entry.making job.entry.name.now
+        (content_of (R.remaining inputs.entry.input.now) (S.holds inputs.entry.files.now) job.entry.name.now)
         (W.contents output.old) (W.contents output.new)) }
-    ensures left { IsKnown (left_behind (R.remaining input.old) name.entry.now) (R.remaining input.new) }
+    ensures left { IsKnown (left_behind (R.remaining inputs.entry.input.now) job.entry.name.now) (R.remaining inputs.exit.0.now) }
 {
-    if name == "-" {
-        return pass_reader(alloc, making, manner, name, input, output, said);
+    if job.name == "-" {
+        return pass_reader(alloc, job, inputs.input, output, said);
     }
-    pass_file(alloc, making, manner, name, files, output, said)
+    pass_file(alloc, job, inputs.files, output, said)
 }
 
-/// Writes what is made of the file of this name, and answers what is said of the refused pods.
+/// Writes what is made of a file, and answers what is said of the refused pods.
 fn pass_file<'a, S: Files, W: Write>(
     alloc: Global,
-    making: Making<'_>,
-    manner: Manner,
-    name: &'a str,
+    job: Job<'a, '_>,
     files: &S,
     output: &mut W,
     said: Vec<NamedRefusal<'a>>,
 ) -> Result<Vec<NamedRefusal<'a>>, Failure<'a>>
-    requires { IsMadeInBlocks manner.refused making }
-    ensures passed { IfOk result (λ more. PassesOver manner.reading manner.refused making.entry name.entry.now
-        (S.holds files.now name.entry.now)
+    requires { IsMadeInBlocks job.manner.refused job.making }
+    ensures passed { IfOk result (λ more. PassesOver job.entry.manner.reading job.entry.manner.refused job.entry.making job.entry.name.now
+        (S.holds files.now job.entry.name.now)
         (W.contents output.old) (W.contents output.new) said.entry.items more.items) }
-    ensures broken { IfErr result (IsBrokenInPartAt manner.reading manner.refused making.entry name.entry.now
-        (S.holds files.now name.entry.now) (W.contents output.old) (W.contents output.new)) }
+    ensures broken { IfErr result (IsBrokenInPartAt job.entry.manner.reading job.entry.manner.refused job.entry.making job.entry.name.now
+        (S.holds files.now job.entry.name.now) (W.contents output.old) (W.contents output.new)) }
 {
-    let mut file = match open_named(alloc, name, files) {
+    let mut file = match open_named(alloc, job.name, files) {
         Ok(file) => file,
         Err(why) => return Err(why),
     };
-    pass_reader(alloc, making, manner, name, &mut file, output, said)
+    pass_reader(alloc, job, &mut file, output, said)
 }
 
-/// Writes what is made of what the reader of this name gives, and answers what is said of the refused pods.
+/// Writes what is made of what the reader gives, and answers what is said of the refused pods.
 fn pass_reader<'a, R: Read, W: Write>(
     alloc: Global,
-    making: Making<'_>,
-    manner: Manner,
-    name: &'a str,
+    job: Job<'a, '_>,
     input: &mut R,
     output: &mut W,
     said: Vec<NamedRefusal<'a>>,
 ) -> Result<Vec<NamedRefusal<'a>>, Failure<'a>>
-    requires { IsMadeInBlocks manner.refused making }
-    ensures passed { IfOk result (λ more. PassesOver manner.reading manner.refused making.entry name.entry.now
+    requires { IsMadeInBlocks job.manner.refused job.making }
+    ensures passed { IfOk result (λ more. PassesOver job.entry.manner.reading job.entry.manner.refused job.entry.making job.entry.name.now
         (R.remaining input.old)
         (W.contents output.old) (W.contents output.new) said.entry.items more.items) }
-    ensures broken { IfErr result (IsBrokenInPartAt manner.reading manner.refused making.entry name.entry.now
+    ensures broken { IfErr result (IsBrokenInPartAt job.entry.manner.reading job.entry.manner.refused job.entry.making job.entry.name.now
         (R.remaining input.old) (W.contents output.old) (W.contents output.new)) }
 {
-    let mut worker = Worker {
-        making,
-        manner,
-        name,
-        said,
-    };
+    let mut worker = Worker { job, said };
     match stream_through(alloc, &mut worker, input, output) {
         Ok(()) => {
             let Worker { said, .. } = worker;
             Ok(said)
         }
-        Err(why) => Err(failure_of(alloc, manner.reading, name, why)),
+        Err(why) => Err(failure_of(alloc, job.manner.reading, job.name, why)),
     }
 }
 
-/// What works on the blocks of the input of a name, and what is said of the refused pods so far.
+/// What works on the blocks of an input, and what is said of the refused pods so far.
 #[derive(Drop)]
 pub(crate) struct Worker<'a, 'b> {
-    making: Making<'b>,
-    manner: Manner,
-    name: &'a str,
+    job: Job<'a, 'b>,
     said: Vec<NamedRefusal<'a>>,
 }
 
@@ -148,16 +140,7 @@ impl BlockWorker for Worker<'_, '_> {
         block: &[u8],
         output: &mut W,
     ) -> Result<(), Unworked> {
-        let Ok(out) = work_on(
-            alloc,
-            self.making,
-            self.manner,
-            self.name,
-            count,
-            place,
-            block,
-            &mut self.said,
-        ) else {
+        let Ok(out) = work_on(alloc, self.job, count, place, block, &mut self.said) else {
             return Err(Unworked::OutOfMemory);
         };
         match write_made(output, out.as_slice()) {

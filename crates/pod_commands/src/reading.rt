@@ -7,7 +7,7 @@ ghost use Rattle.spa_recordings.specs.Reading.{ReadsAs};
 ghost use Rattle.spa_recordings.specs.declared.reading.Reading.TheVariants.{Lenient};
 
 use crate::answer::Failure;
-use crate::files::{Files, read_named};
+use crate::files::{Files, Inputs, read_named};
 use crate::refusing::refused;
 use spa_lenient::rewrite_all_leniently;
 use spa_recordings::reading::Reading;
@@ -19,16 +19,15 @@ pub(crate) fn read_pods<'a, R: Read, S: Files>(
     alloc: Global,
     reading: Reading,
     name: &'a str,
-    input: &mut R,
-    files: &S,
+    inputs: Inputs<'_, R, S>,
 ) -> Result<Vec<u8>, Failure<'a>>
     ensures read { IfOk result (λ pods. IsRead reading
-        (content_of (R.remaining input.old) (S.holds files.now) name.entry.now) pods.items) }
-    ensures left { IsKnown (left_behind (R.remaining input.old) name.entry.now) (R.remaining input.new) }
+        (content_of (R.remaining inputs.entry.input.now) (S.holds inputs.entry.files.now) name.entry.now) pods.items) }
+    ensures left { IsKnown (left_behind (R.remaining inputs.entry.input.now) name.entry.now) (R.remaining inputs.exit.0.now) }
     ensures refused { IfErr result
-        (IsOneUnread reading (R.remaining input.old) (S.holds files.now) name.entry.now) }
+        (IsOneUnread reading (R.remaining inputs.entry.input.now) (S.holds inputs.entry.files.now) name.entry.now) }
 {
-    let bytes = match read_named(alloc, name, input, files) {
+    let bytes = match read_named(alloc, name, inputs) {
         Ok(bytes) => bytes,
         Err(why) => return Err(why),
     };

@@ -123,9 +123,11 @@ pub enum Word<'a> {
     Agree(Work, Reading),
 }
 
-/// The flags that one word alone takes.
+/// The flags that not all words take.
 #[derive(Clone, Copy)]
 pub struct Flags {
+    /// What is written is written as input comes: `show`, `json` and `rewrite`.
+    pub streams: bool,
     /// `fixate` puts plain values in place of choices.
     pub settles: bool,
     /// `diff` compares recorded messages without what each run sets anew.
@@ -174,15 +176,7 @@ pub(crate) fn request_of<'a>(
         Ok(dumps) => dumps,
         Err(excluded) => return Ok(Err(excluded)),
     };
-    let Some(word) = word_of(
-        name,
-        options,
-        manner,
-        is_set(given, "stream"),
-        read_as,
-        flags_in(given),
-        dumps,
-    ) else {
+    let Some(word) = word_of(name, options, manner, read_as, flags_in(given), dumps) else {
         return Ok(Err(Misuse::NoWord));
     };
     let names = names_of(alloc, given)?;
@@ -198,7 +192,6 @@ fn word_of<'a>(
     name: &str,
     options: Options<'a>,
     manner: Manner,
-    streams: bool,
     read_as: Texts,
     flags: Flags,
     dumps: bool,
@@ -206,18 +199,18 @@ fn word_of<'a>(
     ensures word { IfSome result (λ word. name.now ≡ name_of word) }
     ensures printout { IfSome result (HasPrintout options.entry) }
     ensures manner { IfSome result (HasManner manner.reading manner.fate) }
-    ensures stream { IfSome result (HasStream streams) }
+    ensures stream { IfSome result (HasStream flags.streams) }
     ensures texts { IfSome result (ReadsAs read_as) }
     ensures flags { IfSome result (HasFlags flags) }
     ensures dump { IfSome result (DumpsAs dumps) }
     ensures none { IfNone result ((word : Word) → ¬ (name.now ≡ name_of word)) }
 {
     match name {
-        "get" => Some(cut_out(options, manner, streams)),
-        "show" => Some(shown(options, manner.reading, streams)),
-        "json" => Some(json_or_dump(options, manner, streams, dumps)),
+        "get" => Some(cut_out(options, manner, flags.streams)),
+        "show" => Some(shown(options, manner.reading, flags.streams)),
+        "json" => Some(json_or_dump(options, manner, flags.streams, dumps)),
         "read" => Some(Word::Make(Making::Read(read_as), PLAIN)),
-        "rewrite" => Some(rewriting(manner, streams)),
+        "rewrite" => Some(rewriting(manner, flags.streams)),
         "fixate" => Some(Word::Make(fixating(flags.settles), manner)),
         "check" => Some(Word::Make(Making::Check, manner)),
         "diff" => Some(Word::Diff(comparison_by(flags.across_runs), manner.reading)),
@@ -619,11 +612,12 @@ fn rewriting<'a>(manner: Manner, streams: bool) -> Word<'a>
     }
 }
 
-/// The flags that one word alone takes, as they are given.
+/// The flags that not all words take, as they are given.
 fn flags_in(given: &ArgMatches<'_>) -> Flags
     ensures { result ≡ spec.flags_in (rows_of (found_of given.now)) }
 {
     Flags {
+        streams: is_set(given, "stream"),
         settles: is_set(given, "settle"),
         across_runs: is_set(given, "across-runs"),
     }

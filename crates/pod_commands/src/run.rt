@@ -9,10 +9,10 @@ ghost use Rattle.pod_commands.specs.declared.request.Making.TheVariants.{Rewrite
 ghost use Rattle.spa_recordings.specs.declared.reading.Reading.TheVariants.{Exact};
 
 use crate::answer::{Answer, Failure};
-use crate::files::Files;
+use crate::files::{Files, Inputs};
 use crate::making::{Worked, make_all, make_what_is_read};
 use crate::misuse::{Excluded, Misuse};
-use crate::pairs::{agree, agree_of_lists, compare};
+use crate::pairs::{Two, agree, agree_of_lists, compare};
 use crate::passing::pass_all;
 use crate::request::{
     Fate, Making, Manner, Printing, Request, Streaming, Word, file_of, fills_terminal, request_of,
@@ -32,7 +32,25 @@ use spa_text_commands::selection::Selection;
 use std::alloc::Global;
 use std::io::{Read, Write};
 
-/// Does what the words ask for, the program's own name not among them.
+/// What the program is started with.
+#[derive(Clone, Copy)]
+pub struct Start<'a> {
+    /// The words, the program's own name not among them.
+    pub words: &'a [&'a str],
+    /// What the standard output is.
+    pub screen: Screen,
+}
+
+/// What a run reads and writes.
+#[derive(Drop)]
+struct Io<'io, R, S, P, W: Drop> {
+    files: &'io mut S,
+    input: &'io mut R,
+    progress: &'io mut P,
+    device: W,
+}
+
+/// Does what the words ask for.
 ///
 /// The words are settled before anything is read. But for `--stream`, and without `--lenient` for `show`, and for `json` with `--nth`, `--type`, `--id`, `--key` or
 /// `--hex`, nothing is written before all inputs are read and accepted; a file that is to be written is written at the end, by all words. Where the device is a terminal, `show` and `json`
@@ -40,23 +58,28 @@ use std::io::{Read, Write};
 /// far it is.
 pub fn run<'a, R: Read, S: Files, P: Progress, W: Write + Drop>(
     alloc: Global,
-    words: &'a [&'a str],
+    start: Start<'a>,
     input: &mut R,
     files: &mut S,
     progress: &mut P,
     device: W,
-    screen: Screen,
 ) -> (Answer<'a>, W)
-    ensures { IsAnswer words.entry.now screen (R.remaining input.old)
+    ensures { IsAnswer start.entry.words.now start.entry.screen (R.remaining input.old)
         (W.contents device) (W.contents result.1) (S.holds files.old) (S.holds files.new) result.0 }
 {
-    match request_of(alloc, words, screen) {
+    match request_of(alloc, start.words, start.screen) {
         Ok(Ok(request)) => {
-            if fills_terminal(&request, screen) {
+            if fills_terminal(&request, start.screen) {
                 return (Answer::Misused(Misuse::ToTerminal), device);
             }
             let target = file_of(request.target);
-            do_work(alloc, request, target, input, files, progress, device)
+            let io = Io {
+                files,
+                input,
+                progress,
+                device,
+            };
+            do_work(alloc, request, target, io)
         }
         Ok(Err(why)) => (Answer::Misused(why), device),
         Err(error) => match error.kind() {
@@ -71,68 +94,52 @@ fn do_work<'a, R: Read, S: Files, P: Progress, W: Write + Drop>(
     alloc: Global,
     request: Request<'a>,
     target: Option<&'a str>,
-    input: &mut R,
-    files: &mut S,
-    progress: &mut P,
-    device: W,
+    io: Io<'_, R, S, P, W>,
 ) -> (Answer<'a>, W)
-    ensures { IsDone request.entry.word result.0 (R.remaining input.old) request.entry.names.items
-        (outlet target.entry (W.contents device) (W.contents result.1)
-        (S.holds files.old) (S.holds files.new)) }
+    ensures { IsDone request.entry.word result.0 (R.remaining io.entry.input.now) request.entry.names.items
+        (outlet target.entry (W.contents io.entry.device) (W.contents result.1)
+        (S.holds io.entry.files.now) (S.holds io.exit.0.now)) }
 {
     let word = request.word;
     let names = request.names.as_slice();
     match word {
-        Word::Print(printing, manner) => {
-            print(alloc, printing, manner, names, target, input, files, device)
-        }
-        Word::Make(making, manner) => {
-            make(alloc, making, manner, names, target, input, files, device)
-        }
-        Word::Stream(streaming, manner) => {
-            stream(
-                alloc, streaming, manner, names, target, input, files, device,
-            )
-        }
-        Word::Diff(comparison, reading) => diff(
-            alloc, comparison, reading, names, target, input, files, device,
-        ),
-        Word::Agree(work, reading) => {
-            seek(
-                alloc, work, reading, names, target, input, files, progress, device,
-            )
-        }
+        Word::Print(printing, manner) => print(alloc, printing, manner, names, target, io),
+        Word::Make(making, manner) => make(alloc, making, manner, names, target, io),
+        Word::Stream(streaming, manner) => stream(alloc, streaming, manner, names, target, io),
+        Word::Diff(comparison, reading) => diff(alloc, comparison, reading, names, target, io),
+        Word::Agree(work, reading) => seek(alloc, work, reading, names, target, io),
     }
 }
 
 /// Makes this of the inputs of these names.
-fn make<'a, R: Read, S: Files, W: Write + Drop>(
+fn make<'a, R: Read, S: Files, P: Progress, W: Write + Drop>(
     alloc: Global,
     making: Making<'_>,
     manner: Manner,
     names: &[&'a str],
     target: Option<&'a str>,
-    input: &mut R,
-    files: &mut S,
-    device: W,
+    io: Io<'_, R, S, P, W>,
 ) -> (Answer<'a>, W)
-    ensures { IsMadeBy manner.reading manner.fate making.entry result.0 (R.remaining input.old) names.now
-        (outlet target.entry (W.contents device) (W.contents result.1) (S.holds files.old) (S.holds files.new)) }
+    ensures { IsMadeBy manner.reading manner.fate making.entry result.0 (R.remaining io.entry.input.now) names.now
+        (outlet target.entry (W.contents io.entry.device) (W.contents result.1) (S.holds io.entry.files.now) (S.holds io.exit.0.now)) }
 {
     match manner.fate {
         Fate::Stops => {
+            let input = io.input;
+            let files = io.files;
             if may_read_twice(making, manner.reading, names, target, files) {
-                return rewrite_twice(alloc, names, target, input, files, device);
+                return rewrite_twice(alloc, names, Inputs { input, files }, io.device);
             }
-            let made = make_all(alloc, making, manner.reading, names, input, files);
-            answered(files, target, device, made, Answer::Done)
+            let inputs = Inputs { input, files };
+            let made = make_all(alloc, making, manner.reading, names, inputs);
+            answered(files, target, io.device, made, Answer::Done)
         }
         Fate::GoesOn(refused) => {
             let manner = recordings::Manner {
                 reading: manner.reading,
                 refused,
             };
-            go_on(alloc, making, manner, names, target, input, files, device)
+            go_on(alloc, making, manner, names, target, io)
         }
     }
 }
@@ -170,34 +177,25 @@ fn are_regular<S: Files>(names: &[&str], files: &S) -> bool
 fn rewrite_twice<'a, R: Read, S: Files, W: Write + Drop>(
     alloc: Global,
     names: &[&'a str],
-    target: Option<&'a str>,
-    input: &mut R,
-    files: &mut S,
+    inputs: Inputs<'_, R, S>,
     device: W,
 ) -> (Answer<'a>, W)
-    requires { MayReadTwice Exact Rewrite names.now target }
-    ensures { IsMadeBy Exact Stops Rewrite result.0 (R.remaining input.old) names.now
-        (outlet target.entry (W.contents device) (W.contents result.1) (S.holds files.old) (S.holds files.new)) }
+    requires { MayReadTwice Exact Rewrite names.now None }
+    ensures { IsMadeBy Exact Stops Rewrite result.0 (R.remaining inputs.entry.input.now) names.now
+        (outlet None (W.contents device) (W.contents result.1) (S.holds inputs.entry.files.now) (S.holds inputs.entry.files.now)) }
 {
-    match check_all(alloc, Reading::Exact, names, input, files) {
-        Ok(()) => match emptied(names, files) {
-            Some(name) => {
-                let why = Failure::Unread(name, "emptied while it was read");
-                (Answer::Refused(why), device)
-            }
-            None => write_as(
-                alloc,
-                Reading::Exact,
-                Streaming::Rewrite,
-                names,
-                target,
-                input,
-                files,
-                device,
-            ),
-        },
-        Err(why) => (Answer::Refused(why), device),
+    let Inputs { input, files } = inputs;
+    match check_all(alloc, Reading::Exact, names, Inputs { input, files }) {
+        Ok(()) => {}
+        Err(why) => return (Answer::Refused(why), device),
     }
+    if let Some(name) = emptied(names, files) {
+        let why = Failure::Unread(name, "emptied while it was read");
+        return (Answer::Refused(why), device);
+    }
+    let inputs = Inputs { input, files };
+    let streaming = Streaming::Rewrite;
+    write_as(alloc, Reading::Exact, streaming, names, inputs, device)
 }
 
 /// The first of these names, each of which was a regular file's with bytes, that isn't any more.
@@ -211,28 +209,28 @@ fn emptied<'a, S: Files>(names: &[&'a str], files: &S) -> Option<&'a str> {
 }
 
 /// Works on what is read of the inputs of these names, and answers which pods of them are refused.
-fn go_on<'a, R: Read, S: Files, W: Write + Drop>(
+fn go_on<'a, R: Read, S: Files, P: Progress, W: Write + Drop>(
     alloc: Global,
     making: Making<'_>,
     manner: recordings::Manner,
     names: &[&'a str],
     target: Option<&'a str>,
-    input: &mut R,
-    files: &mut S,
-    device: W,
+    io: Io<'_, R, S, P, W>,
 ) -> (Answer<'a>, W)
-    ensures { IsMadeInPart manner.reading manner.refused making.entry result.0 (R.remaining input.old) names.now
-        (outlet target.entry (W.contents device) (W.contents result.1) (S.holds files.old) (S.holds files.new)) }
+    ensures { IsMadeInPart manner.reading manner.refused making.entry result.0 (R.remaining io.entry.input.now) names.now
+        (outlet target.entry (W.contents io.entry.device) (W.contents result.1) (S.holds io.entry.files.now) (S.holds io.exit.0.now)) }
 {
-    let made = match make_what_is_read(alloc, making, manner, names, input, files) {
+    let input = io.input;
+    let files = io.files;
+    let made = match make_what_is_read(alloc, making, manner, names, Inputs { input, files }) {
         Ok(made) => made,
-        Err(why) => return (Answer::Refused(why), device),
+        Err(why) => return (Answer::Refused(why), io.device),
     };
     let Worked { out, refused } = made;
     if refused.is_empty() {
-        return answered(files, target, device, Ok(out), Answer::Done);
+        return answered(files, target, io.device, Ok(out), Answer::Done);
     }
-    answered(files, target, device, Ok(out), Answer::Passed(refused))
+    answered(files, target, io.device, Ok(out), Answer::Passed(refused))
 }
 
 /// An option that `--stream` excludes, if one is given.
@@ -265,25 +263,25 @@ fn made_as<'a>(streaming: Streaming<'a>) -> Option<Making<'a>>
 
 /// Writes this of the inputs of these names as they come, where no option that `--stream` excludes is given.
 #[tactic(auto, using(crate::proofs::Streamed::streamed, crate::proofs::Streamed::misused))]
-fn stream<'a, R: Read, S: Files, W: Write + Drop>(
+fn stream<'a, R: Read, S: Files, P: Progress, W: Write + Drop>(
     alloc: Global,
     streaming: Streaming<'a>,
     manner: Manner,
     names: &[&'a str],
     target: Option<&'a str>,
-    input: &mut R,
-    files: &mut S,
-    device: W,
+    io: Io<'_, R, S, P, W>,
 ) -> (Answer<'a>, W)
-    ensures { IsStreamed streaming.entry manner.reading manner.fate result.0 (R.remaining input.old) names.now
-        (outlet target.entry (W.contents device) (W.contents result.1) (S.holds files.old) (S.holds files.new)) }
+    ensures { IsStreamed streaming.entry manner.reading manner.fate result.0 (R.remaining io.entry.input.now) names.now
+        (outlet target.entry (W.contents io.entry.device) (W.contents result.1) (S.holds io.entry.files.now) (S.holds io.exit.0.now)) }
 {
     if let Some(other) = excluded_in(manner.fate, target) {
-        return (Answer::Misused(Misuse::WithStream(other)), device);
+        return (Answer::Misused(Misuse::WithStream(other)), io.device);
     }
-    stream_by(
-        alloc, streaming, manner, names, target, input, files, device,
-    )
+    let input = io.input;
+    let files = io.files;
+    let inputs = Inputs { input, files };
+    let done = stream_by(alloc, streaming, manner, names, inputs, io.device);
+    done
 }
 
 /// Writes this of the inputs of these names as they come; no file is written.
@@ -293,36 +291,22 @@ fn stream_by<'a, R: Read, S: Files, W: Write + Drop>(
     streaming: Streaming<'a>,
     manner: Manner,
     names: &[&'a str],
-    target: Option<&'a str>,
-    input: &mut R,
-    files: &mut S,
+    inputs: Inputs<'_, R, S>,
     device: W,
 ) -> (Answer<'a>, W)
-    requires to_output { target ≡ None }
-    requires streams { MayStream manner.fate }
-    ensures { IsStreamedBy streaming.entry manner.reading manner.fate result.0 (R.remaining input.old) names.now
-        (outlet target.entry (W.contents device) (W.contents result.1) (S.holds files.old) (S.holds files.new)) }
+    requires { MayStream manner.fate }
+    ensures { IsStreamedBy streaming.entry manner.reading manner.fate result.0 (R.remaining inputs.entry.input.now) names.now
+        (outlet None (W.contents device) (W.contents result.1) (S.holds inputs.entry.files.now) (S.holds inputs.entry.files.now)) }
 {
     match manner.fate {
-        Fate::Stops => {
-            write_as(
-                alloc,
-                manner.reading,
-                streaming,
-                names,
-                target,
-                input,
-                files,
-                device,
-            )
-        }
+        Fate::Stops => write_as(alloc, manner.reading, streaming, names, inputs, device),
         Fate::GoesOn(refused) => match made_as(streaming) {
             Some(making) => {
                 let manner = recordings::Manner {
                     reading: manner.reading,
                     refused,
                 };
-                pass(alloc, making, manner, names, target, input, files, device)
+                pass(alloc, making, manner, names, inputs, device)
             }
             None => (Answer::Misused(Misuse::WithPart(refused)), device),
         },
@@ -336,17 +320,15 @@ fn pass<'a, R: Read, S: Files, W: Write + Drop>(
     making: Making<'_>,
     manner: recordings::Manner,
     names: &[&'a str],
-    target: Option<&'a str>,
-    input: &mut R,
-    files: &mut S,
-    mut device: W,
+    inputs: Inputs<'_, R, S>,
+    device: W,
 ) -> (Answer<'a>, W)
-    requires to_output { target ≡ None }
-    requires each { IsMadeInBlocks manner.refused making }
-    ensures { IsStreamedInPart manner.reading manner.refused making.entry result.0 (R.remaining input.old) names.now
-        (outlet target.entry (W.contents device) (W.contents result.1) (S.holds files.old) (S.holds files.new)) }
+    requires { IsMadeInBlocks manner.refused making }
+    ensures { IsStreamedInPart manner.reading manner.refused making.entry result.0 (R.remaining inputs.entry.input.now) names.now
+        (outlet None (W.contents device) (W.contents result.1) (S.holds inputs.entry.files.now) (S.holds inputs.entry.files.now)) }
 {
-    match pass_all(alloc, making, manner, names, input, files, &mut device) {
+    let mut device = device;
+    match pass_all(alloc, making, manner, names, inputs, &mut device) {
         Ok(said) => {
             if said.is_empty() {
                 return (Answer::Done, device);
@@ -364,16 +346,14 @@ fn write_as<'a, R: Read, S: Files, W: Write + Drop>(
     reading: Reading,
     streaming: Streaming<'a>,
     names: &[&'a str],
-    target: Option<&'a str>,
-    input: &mut R,
-    files: &mut S,
-    mut device: W,
+    inputs: Inputs<'_, R, S>,
+    device: W,
 ) -> (Answer<'a>, W)
-    requires { target ≡ None }
-    ensures { IsWrittenAs reading streaming.entry result.0 (R.remaining input.old) names.now
-        (outlet target.entry (W.contents device) (W.contents result.1) (S.holds files.old) (S.holds files.new)) }
+    ensures { IsWrittenAs reading streaming.entry result.0 (R.remaining inputs.entry.input.now) names.now
+        (outlet None (W.contents device) (W.contents result.1) (S.holds inputs.entry.files.now) (S.holds inputs.entry.files.now)) }
 {
-    match stream_all(alloc, reading, streaming, names, input, files, &mut device) {
+    let mut device = device;
+    match stream_all(alloc, reading, streaming, names, inputs, &mut device) {
         Ok(made) => (shown(made, looked_for(streaming)), device),
         Err(why) => (Answer::Refused(why), device),
     }
@@ -419,171 +399,151 @@ fn shown<'a>(made: Made, sought: Option<Selection<'a>>) -> Answer<'a>
 }
 
 /// Prints this of the inputs of these names, where no refused pod is to be left out.
-fn print<'a, R: Read, S: Files, W: Write + Drop>(
+fn print<'a, R: Read, S: Files, P: Progress, W: Write + Drop>(
     alloc: Global,
     printing: Printing<'a>,
     manner: Manner,
     names: &[&'a str],
     target: Option<&'a str>,
-    input: &mut R,
-    files: &mut S,
-    device: W,
+    io: Io<'_, R, S, P, W>,
 ) -> (Answer<'a>, W)
-    ensures { IsPrinted printing.entry manner.reading manner.fate result.0 (R.remaining input.old) names.now
-        (outlet target.entry (W.contents device) (W.contents result.1) (S.holds files.old) (S.holds files.new)) }
+    ensures { IsPrinted printing.entry manner.reading manner.fate result.0 (R.remaining io.entry.input.now) names.now
+        (outlet target.entry (W.contents io.entry.device) (W.contents result.1) (S.holds io.entry.files.now) (S.holds io.exit.0.now)) }
 {
     match manner.fate {
-        Fate::Stops => {
-            print_read(
-                alloc,
-                printing,
-                manner.reading,
-                names,
-                target,
-                input,
-                files,
-                device,
-            )
-        }
-        Fate::GoesOn(refused) => (Answer::Misused(Misuse::WithPart(refused)), device),
+        Fate::Stops => print_read(alloc, printing, manner.reading, names, target, io),
+        Fate::GoesOn(refused) => (Answer::Misused(Misuse::WithPart(refused)), io.device),
     }
 }
 
 /// Prints this of the inputs of these names, which are read so.
-fn print_read<'a, R: Read, S: Files, W: Write + Drop>(
+fn print_read<'a, R: Read, S: Files, P: Progress, W: Write + Drop>(
     alloc: Global,
     printing: Printing<'a>,
     reading: Reading,
     names: &[&'a str],
     target: Option<&'a str>,
-    input: &mut R,
-    files: &mut S,
-    device: W,
+    io: Io<'_, R, S, P, W>,
 ) -> (Answer<'a>, W)
-    ensures { IsPrintedAs reading printing.entry result.0 (R.remaining input.old) names.now
-        (outlet target.entry (W.contents device) (W.contents result.1) (S.holds files.old) (S.holds files.new)) }
+    ensures { IsPrintedAs reading printing.entry result.0 (R.remaining io.entry.input.now) names.now
+        (outlet target.entry (W.contents io.entry.device) (W.contents result.1) (S.holds io.entry.files.now) (S.holds io.exit.0.now)) }
 {
     match reading {
-        Reading::Exact => print_inputs(alloc, printing, names, target, input, files, device),
-        Reading::Lenient => print_leniently(alloc, printing, names, target, input, files, device),
+        Reading::Exact => print_inputs(alloc, printing, names, target, io),
+        Reading::Lenient => print_leniently(alloc, printing, names, target, io),
     }
 }
 
 /// Prints this of the values that the inputs of these names convey, once all are read.
-fn print_leniently<'a, R: Read, S: Files, W: Write + Drop>(
+fn print_leniently<'a, R: Read, S: Files, P: Progress, W: Write + Drop>(
     alloc: Global,
     printing: Printing<'a>,
     names: &[&'a str],
     target: Option<&'a str>,
-    input: &mut R,
-    files: &mut S,
-    device: W,
+    io: Io<'_, R, S, P, W>,
 ) -> (Answer<'a>, W)
-    ensures { IsPrintedLeniently printing.entry result.0 (R.remaining input.old) names.now
-        (outlet target.entry (W.contents device) (W.contents result.1) (S.holds files.old) (S.holds files.new)) }
+    ensures { IsPrintedLeniently printing.entry result.0 (R.remaining io.entry.input.now) names.now
+        (outlet target.entry (W.contents io.entry.device) (W.contents result.1) (S.holds io.entry.files.now) (S.holds io.exit.0.now)) }
 {
-    match make_all(
-        alloc,
-        Making::Print(printing),
-        Reading::Lenient,
-        names,
-        input,
-        files,
-    ) {
-        Ok(made) => {
-            let sought = sought_in(printing.printout.selection);
-            let done = shown(Made::of(0, made.as_slice()), sought);
-            answered(files, target, device, Ok(made), done)
-        }
-        Err(why) => (Answer::Refused(why), device),
-    }
+    let input = io.input;
+    let files = io.files;
+    let inputs = Inputs { input, files };
+    let making = Making::Print(printing);
+    let made = match make_all(alloc, making, Reading::Lenient, names, inputs) {
+        Ok(made) => made,
+        Err(why) => return (Answer::Refused(why), io.device),
+    };
+    let sought = sought_in(printing.printout.selection);
+    let done = shown(Made::of(0, made.as_slice()), sought);
+    answered(files, target, io.device, Ok(made), done)
 }
 
 /// Prints this of the inputs of these names: as they come, or where a file is written, all of it at the end.
-fn print_inputs<'a, R: Read, S: Files, W: Write + Drop>(
+fn print_inputs<'a, R: Read, S: Files, P: Progress, W: Write + Drop>(
     alloc: Global,
     printing: Printing<'a>,
     names: &[&'a str],
     target: Option<&'a str>,
-    input: &mut R,
-    files: &mut S,
-    device: W,
+    io: Io<'_, R, S, P, W>,
 ) -> (Answer<'a>, W)
-    ensures { IsShown printing.entry target.entry result.0 (R.remaining input.old) names.now
-        (outlet target.entry (W.contents device) (W.contents result.1) (S.holds files.old) (S.holds files.new)) }
+    ensures { IsShown printing.entry target.entry result.0 (R.remaining io.entry.input.now) names.now
+        (outlet target.entry (W.contents io.entry.device) (W.contents result.1) (S.holds io.entry.files.now) (S.holds io.exit.0.now)) }
 {
     match target {
-        None => write_as(
-            alloc,
-            Reading::Exact,
-            Streaming::Print(printing),
-            names,
-            None,
-            input,
-            files,
-            device,
-        ),
-        Some(_) => print_to_file(alloc, printing, names, target, input, files, device),
+        None => {
+            let input = io.input;
+            let files = io.files;
+            let inputs = Inputs { input, files };
+            let streaming = Streaming::Print(printing);
+            let done = write_as(alloc, Reading::Exact, streaming, names, inputs, io.device);
+            done
+        }
+        Some(_) => print_to_file(alloc, printing, names, target, io),
     }
 }
 
 /// Prints this of the inputs of these names in the file that is written.
-fn print_to_file<'a, R: Read, S: Files, W: Write + Drop>(
+fn print_to_file<'a, R: Read, S: Files, P: Progress, W: Write + Drop>(
     alloc: Global,
     printing: Printing<'a>,
     names: &[&'a str],
     target: Option<&'a str>,
-    input: &mut R,
-    files: &mut S,
-    device: W,
+    io: Io<'_, R, S, P, W>,
 ) -> (Answer<'a>, W)
-    ensures { IsShownIn printing.entry result.0 (R.remaining input.old) names.now
-        (outlet target.entry (W.contents device) (W.contents result.1) (S.holds files.old) (S.holds files.new)) }
+    ensures { IsShownIn printing.entry result.0 (R.remaining io.entry.input.now) names.now
+        (outlet target.entry (W.contents io.entry.device) (W.contents result.1) (S.holds io.entry.files.now) (S.holds io.exit.0.now)) }
 {
+    let input = io.input;
+    let files = io.files;
+    let inputs = Inputs { input, files };
+    let streaming = Streaming::Print(printing);
     let mut printed = Vec::new(alloc);
     match stream_all(
         alloc,
         Reading::Exact,
-        Streaming::Print(printing),
+        streaming,
         names,
-        input,
-        files,
+        inputs,
         &mut printed,
     ) {
         Ok(made) => {
-            let done = shown(made, looked_for(Streaming::Print(printing)));
-            answered(files, target, device, Ok(printed), done)
+            let done = shown(made, looked_for(streaming));
+            answered(files, target, io.device, Ok(printed), done)
         }
-        Err(Failure::Unwritten(_)) => (Answer::Refused(Failure::OutOfMemory), device),
-        Err(why) => (Answer::Refused(why), device),
+        Err(Failure::Unwritten(_)) => (Answer::Refused(Failure::OutOfMemory), io.device),
+        Err(why) => (Answer::Refused(why), io.device),
     }
 }
 
 /// Compares the two inputs of these names, which are read so, as this.
-fn diff<'a, R: Read, S: Files, W: Write + Drop>(
+fn diff<'a, R: Read, S: Files, P: Progress, W: Write + Drop>(
     alloc: Global,
     comparison: Comparison,
     reading: Reading,
     names: &[&'a str],
     target: Option<&'a str>,
-    input: &mut R,
-    files: &mut S,
-    device: W,
+    io: Io<'_, R, S, P, W>,
 ) -> (Answer<'a>, W)
-    ensures { IsCompared comparison reading result.0 (R.remaining input.old) names.now
-        (outlet target.entry (W.contents device) (W.contents result.1) (S.holds files.old) (S.holds files.new)) }
+    ensures { IsCompared comparison reading result.0 (R.remaining io.entry.input.now) names.now
+        (outlet target.entry (W.contents io.entry.device) (W.contents result.1) (S.holds io.entry.files.now) (S.holds io.exit.0.now)) }
 {
     let [ours, theirs] = names else {
-        return (Answer::Misused(misuse_of(names)), device);
+        return (Answer::Misused(misuse_of(names)), io.device);
     };
-    let lines = match compare(alloc, comparison, reading, *ours, *theirs, input, files) {
+    let input = io.input;
+    let files = io.files;
+    let both = Two {
+        ours: *ours,
+        theirs: *theirs,
+    };
+    let lines = match compare(alloc, comparison, reading, both, Inputs { input, files }) {
         Ok(lines) => lines,
-        Err(why) => return (Answer::Refused(why), device),
+        Err(why) => return (Answer::Refused(why), io.device),
     };
     if lines.is_empty() {
-        return answered(files, target, device, Ok(lines), Answer::Done);
+        return answered(files, target, io.device, Ok(lines), Answer::Done);
     }
-    answered(files, target, device, Ok(lines), Answer::Differs)
+    answered(files, target, io.device, Ok(lines), Answer::Differs)
 }
 
 /// Seeks the object on which two of the inputs of these names, which are read so, agree.
@@ -593,24 +553,30 @@ fn seek<'a, R: Read, S: Files, P: Progress, W: Write + Drop>(
     reading: Reading,
     names: &[&'a str],
     target: Option<&'a str>,
-    input: &mut R,
-    files: &mut S,
-    progress: &mut P,
-    device: W,
+    io: Io<'_, R, S, P, W>,
 ) -> (Answer<'a>, W)
-    ensures { IsAgreed work reading result.0 (R.remaining input.old) names.now
-        (outlet target.entry (W.contents device) (W.contents result.1) (S.holds files.old) (S.holds files.new)) }
+    ensures { IsAgreed work reading result.0 (R.remaining io.entry.input.now) names.now
+        (outlet target.entry (W.contents io.entry.device) (W.contents result.1) (S.holds io.entry.files.now) (S.holds io.exit.0.now)) }
 {
     match names {
         [name] => {
-            let made = agree(alloc, work, reading, *name, input, files);
-            answered(files, target, device, made, Answer::Done)
+            let input = io.input;
+            let files = io.files;
+            let made = agree(alloc, work, reading, *name, Inputs { input, files });
+            answered(files, target, io.device, made, Answer::Done)
         }
         [ours, theirs] => {
-            let made = agree_of_lists(alloc, work, reading, *ours, *theirs, input, files, progress);
-            answered(files, target, device, made, Answer::Done)
+            let both = Two {
+                ours: *ours,
+                theirs: *theirs,
+            };
+            let input = io.input;
+            let files = io.files;
+            let inputs = Inputs { input, files };
+            let made = agree_of_lists(alloc, work, reading, both, inputs, io.progress);
+            answered(files, target, io.device, made, Answer::Done)
         }
-        _ => (Answer::Misused(misuse_of(names)), device),
+        _ => (Answer::Misused(misuse_of(names)), io.device),
     }
 }
 

@@ -5,17 +5,16 @@ ghost use Rattle.pod_commands.specs.Answers.{AreUnmade};
 ghost use Rattle.pod_commands.specs.Inputs.{AreMade, IsKnown, content_of, left_behind};
 ghost use Rattle.pod_commands.specs.Making.{MakesAll};
 ghost use Rattle.pod_commands.specs.Streaming as spec;
-ghost use Rattle.pod_commands.specs.Streaming.{HasNoPod, IsBroken, IsBrokenAt, IsCutIn, IsEndOf, IsFailureOf, IsLastShown, IsRefusedAs, MayRefuse, StreamsAs, WritesOf};
+ghost use Rattle.pod_commands.specs.Streaming.{HasNoPod, IsBroken, IsBrokenAt, IsCutIn, IsEndOf, IsFailureOf, IsRefusedAs, MayRefuse, StreamsAs, WritesOf};
 ghost use Rattle.pod_commands.specs.declared.request.Making.TheVariants.{Check};
 ghost use Rattle.pod_commands.specs.declared.request.Streaming.TheVariants as streaming;
-ghost use Rattle.spa_format.specs.Front.{HasFront};
 ghost use Rattle.spa_recordings.specs.Reading.{IsNothing};
 ghost use Rattle.spa_recordings.specs.Streaming.{IsNotMade, Streams, WritesMade};
 
 use crate::answer::Failure;
 use crate::colours::{colours_of, in_colours};
 use crate::cut::show_cut;
-use crate::files::{Files, open_named};
+use crate::files::{Files, Inputs, open_named};
 use crate::request::{Printing, Streaming, Style};
 use spa_pod_commands::making::check;
 use spa_recordings::reading::Reading;
@@ -33,23 +32,30 @@ pub(crate) fn stream_all<'a, R: Read, S: Files, W: Write>(
     reading: Reading,
     streaming: Streaming<'_>,
     names: &[&'a str],
-    input: &mut R,
-    files: &S,
+    inputs: Inputs<'_, R, S>,
     output: &mut W,
 ) -> Result<Made, Failure<'a>>
     ensures streamed { IfOk result (λ made. (out : List ℕ)
-        × AreMade (StreamsAs reading streaming.entry) (R.remaining input.old) (S.holds files.now) names.now out made.refused
+        × AreMade (StreamsAs reading streaming.entry) (R.remaining inputs.entry.input.now) (S.holds inputs.entry.files.now) names.now out made.refused
         × Decides made.nothing (out ≡ [])
         × Appends (W.contents output.old) (W.contents output.new) out) }
-    ensures broken { IfErr result (IsBroken reading streaming.entry (R.remaining input.old) (S.holds files.now) names.now
+    ensures broken { IfErr result (IsBroken reading streaming.entry (R.remaining inputs.entry.input.now) (S.holds inputs.entry.files.now) names.now
         (W.contents output.old) (W.contents output.new)) }
 {
+    let Inputs { input, files } = inputs;
     let mut made = Made {
         refused: 0,
         nothing: true,
     };
     for name in names {
-        match stream_named(alloc, reading, streaming, *name, input, files, output) {
+        match stream_named(
+            alloc,
+            reading,
+            streaming,
+            *name,
+            Inputs { input, files },
+            output,
+        ) {
             Ok(more) => match made.refused.checked_add(more.refused) {
                 Some(refused) => {
                     made = Made {
@@ -72,13 +78,12 @@ pub(crate) fn check_all<'a, R: Read, S: Files>(
     alloc: Global,
     reading: Reading,
     names: &[&'a str],
-    input: &mut R,
-    files: &S,
+    inputs: Inputs<'_, R, S>,
 ) -> Result<(), Failure<'a>>
     ensures accepted { OnOk result
-        (AreMade (MakesAll reading Check) (R.remaining input.old) (S.holds files.now) names.now [] 0) }
+        (AreMade (MakesAll reading Check) (R.remaining inputs.entry.input.now) (S.holds inputs.entry.files.now) names.now [] 0) }
     ensures refused { IfErr result
-        (AreUnmade reading Check (R.remaining input.old) (S.holds files.now) names.now) }
+        (AreUnmade reading Check (R.remaining inputs.entry.input.now) (S.holds inputs.entry.files.now) names.now) }
 {
     let mut nowhere = io::sink();
     match stream_all(
@@ -86,8 +91,7 @@ pub(crate) fn check_all<'a, R: Read, S: Files>(
         reading,
         Streaming::Check,
         names,
-        input,
-        files,
+        inputs,
         &mut nowhere,
     ) {
         Ok(_) => Ok(()),
@@ -101,22 +105,21 @@ fn stream_named<'a, R: Read, S: Files, W: Write>(
     reading: Reading,
     streaming: Streaming<'_>,
     name: &'a str,
-    input: &mut R,
-    files: &S,
+    inputs: Inputs<'_, R, S>,
     output: &mut W,
 ) -> Result<Made, Failure<'a>>
     ensures streamed { IfOk result (Streams (StreamsAs reading streaming.entry)
-        (content_of (R.remaining input.old) (S.holds files.now) name.entry.now)
+        (content_of (R.remaining inputs.entry.input.now) (S.holds inputs.entry.files.now) name.entry.now)
         (W.contents output.old) (W.contents output.new)) }
     ensures broken { IfErr result (IsBrokenAt reading streaming.entry name.entry.now
-        (content_of (R.remaining input.old) (S.holds files.now) name.entry.now)
+        (content_of (R.remaining inputs.entry.input.now) (S.holds inputs.entry.files.now) name.entry.now)
         (W.contents output.old) (W.contents output.new)) }
-    ensures left { IsKnown (left_behind (R.remaining input.old) name.entry.now) (R.remaining input.new) }
+    ensures left { IsKnown (left_behind (R.remaining inputs.entry.input.now) name.entry.now) (R.remaining inputs.exit.0.now) }
 {
     if name == "-" {
-        return stream_reader(alloc, reading, streaming, name, input, output);
+        return stream_reader(alloc, reading, streaming, name, inputs.input, output);
     }
-    stream_file(alloc, reading, streaming, name, files, output)
+    stream_file(alloc, reading, streaming, name, inputs.files, output)
 }
 
 /// Writes this of the file of this name, which is read so, and answers how many of its pods are refused, and whether it is nothing.
@@ -196,36 +199,19 @@ fn end<'a, W: Write>(
                 place,
                 read,
             },
-        ) => end_at_pod(alloc, reading, printing, name, number, place, read, output),
+        ) => {
+            let Ok(refusal) = refusal_of(alloc, reading, read.as_slice(), place, number) else {
+                return Failure::OutOfMemory;
+            };
+            let Ok(shown) = show_cut(alloc, printing, number.saturating_sub(1), place, read) else {
+                return Failure::OutOfMemory;
+            };
+            match write_made(output, shown.as_slice()) {
+                Ok(()) => Failure::Pods(name, refusal),
+                Err(_) => Failure::Unwritten(None),
+            }
+        }
         (_, why) => failure_of(alloc, reading, name, why),
-    }
-}
-
-/// Writes what is there of the last pod, which has this number and begins with these bytes at this byte, and answers its refusal.
-fn end_at_pod<'a, W: Write>(
-    alloc: Global,
-    reading: Reading,
-    printing: Printing<'_>,
-    name: &'a str,
-    number: usize,
-    place: usize,
-    read: Vec<u8>,
-    output: &mut W,
-) -> Failure<'a>
-    requires nothing { IsNothing reading read.items }
-    requires cut { ¬ (HasFront read.items) }
-    ensures { IsLastShown printing.entry reading name.entry.now number place read.items
-        (W.contents output.old) (W.contents output.new) result }
-{
-    let Ok(refusal) = refusal_of(alloc, reading, read.as_slice(), place, number) else {
-        return Failure::OutOfMemory;
-    };
-    let Ok(shown) = show_cut(alloc, printing, number.saturating_sub(1), place, read) else {
-        return Failure::OutOfMemory;
-    };
-    match write_made(output, shown.as_slice()) {
-        Ok(()) => Failure::Pods(name, refusal),
-        Err(_) => Failure::Unwritten(None),
     }
 }
 

@@ -6,7 +6,7 @@
 
 use pod_commands::answer::report;
 use pod_commands::files::Files;
-use pod_commands::run::run;
+use pod_commands::run::{Start, run};
 use pod_commands::screen::Screen;
 use spa_meet_commands::progress::Unwatched;
 use std::alloc::Global;
@@ -114,15 +114,11 @@ fn answer_run(
     let mut files = Spelt { written: kept };
     let mut written = [0; ROOM];
     let device = Device::new(&mut written[..room.min(ROOM)], ALL);
-    let (answer, mut device) = run(
-        alloc,
-        words.as_slice(),
-        &mut input,
-        &mut files,
-        &mut Unwatched,
-        device,
+    let start = Start {
+        words: words.as_slice(),
         screen,
-    );
+    };
+    let (answer, mut device) = run(alloc, start, &mut input, &mut files, &mut Unwatched, device);
     let mut said = [0; ROOM];
     let mut faults = Device::new(&mut said, ALL);
     report(&mut device, &mut faults, &answer)?;

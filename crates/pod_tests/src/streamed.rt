@@ -1,7 +1,7 @@
 //! Inputs that are written of as they come.
 use crate::streams::{Broken, NO_SCREEN, WANTING};
 use pod_commands::answer::report;
-use pod_commands::run::run;
+use pod_commands::run::{Start, run};
 use spa_meet_commands::progress::Unwatched;
 use std::alloc::{AllocError, Global};
 use test_bytes::streams::{ALL, Device, PIECE, Source};
@@ -34,14 +34,17 @@ fn streams(
     wanted: Wanted<'_>,
 ) -> Result<bool, AllocError> {
     let device = Device::new(room, ALL);
+    let start = Start {
+        words,
+        screen: NO_SCREEN,
+    };
     let (answer, mut device) = run(
         rt.alloc(),
-        words,
+        start,
         &mut source,
         &mut Broken,
         &mut Unwatched,
         device,
-        NO_SCREEN,
     );
     let mut line = [0; 200];
     let mut faults = Device::new(&mut line, PIECE);

@@ -1,7 +1,7 @@
 //! Streams and files that break off, are full, or can't be flushed.
 use pod_commands::answer::report;
 use pod_commands::files::Files;
-use pod_commands::run::run;
+use pod_commands::run::{Start, run};
 use pod_commands::screen::Screen;
 use spa_meet_commands::progress::Unwatched;
 use std::alloc::{AllocError, Global};
@@ -78,14 +78,17 @@ fn assert_run(
         Device::unflushed(room, PIECE)
     };
     let mut faults = Device::new(line_room, PIECE);
+    let start = Start {
+        words: &*words,
+        screen: NO_SCREEN,
+    };
     let (answer, mut output) = run(
         alloc,
-        &*words,
+        start,
         &mut input,
         &mut Broken,
         &mut Unwatched,
         device,
-        NO_SCREEN,
     );
     // Where the line can't be written, nothing changes.
     let _ = report(&mut output, &mut faults, &answer);

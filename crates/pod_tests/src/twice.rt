@@ -2,7 +2,7 @@
 use crate::streams::{NO_SCREEN, WANTING};
 use pod_commands::answer::report;
 use pod_commands::files::Files;
-use pod_commands::run::run;
+use pod_commands::run::{Start, run};
 use spa_meet_commands::progress::Unwatched;
 use std::alloc::{AllocError, Global};
 use std::cell::Cell;
@@ -75,14 +75,17 @@ fn rewrites(
     let device = Device::new(&mut room, ALL);
     // It isn't read: this source would refuse.
     let mut input = Source::broken(&[], ErrorKind::UnexpectedEof, PIECE);
+    let start = Start {
+        words,
+        screen: NO_SCREEN,
+    };
     let (answer, mut device) = run(
         rt.alloc(),
-        words,
+        start,
         &mut input,
         &mut files,
         &mut Unwatched,
         device,
-        NO_SCREEN,
     );
     let mut line = [0; 200];
     let mut faults = Device::new(&mut line, PIECE);

@@ -6,7 +6,6 @@ use Rattle.spa_format.specs.Pod.{IsText, AreMembers, AreProperties}
 use Rattle.spa_format.specs.Faults.{Fault, Short, Text, InvalidType, InvalidChoiceType, MissingChoiceValues, WrongSize, choice_header_size, IsInvalidType, IsWrongSize, LacksValues, Stands}
 use Rattle.spa_fixed_sized.specs.declared.fault.Refusal.{Refusal}
 use Rattle.spa_fixed_sized.specs.declared.fault.Refusal.TheVariants as refusal
-use Rattle.std.specs.Borrow.{Bor}
 use Rattle.spa_fixed_sized.specs.declared.fault.FaultKind.TheVariants as fault_kind
 use Rattle.spa_fixed_sized.specs.declared.fault.DeserializeError.{DeserializeError}
 use Rattle.spa_fixed_sized.specs.declared.fault.DeserializeError.TheVariants as error
@@ -53,7 +52,7 @@ abbrev pub RefusesPod : List ℕ → List ℕ → Refusal → Type 0
 RefusesPod input place = Says (λ k. Stands k place input) (MayLackMemory input)
 
 -- the public refusal for an inner one at this place
-abbrev pub error_of : Bor (List ℕ) → Refusal → DeserializeError (Bor (List ℕ))
+abbrev pub error_of : {I : Type 0} → I → Refusal → DeserializeError I
 error_of place refusal.Short = error.Nom (record { input = place; kind = fault_kind.Short })
 error_of place refusal.Text = error.Nom (record { input = place; kind = fault_kind.Text })
 error_of place refusal.InvalidType = error.InvalidType

@@ -5,8 +5,8 @@ ghost use Rattle.spa_bodies.specs.Refusing.{error_of};
 use spa_fixed_sized::{DeserializeError, Fault, FaultKind, Refusal};
 
 /// The public refusal for an inner one at this place. Only `Short` and `Text` keep the place.
-pub fn error_at(place: &[u8], why: Refusal) -> DeserializeError<&[u8]>
-    ensures { result ≡ error_of place.entry why }
+pub fn error_at<I: Copy>(place: I, why: Refusal) -> DeserializeError<I>
+    ensures { result ≡ error_of place why }
 {
     match why {
         Refusal::Short => DeserializeError::Nom(Fault {

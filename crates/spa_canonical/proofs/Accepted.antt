@@ -16,11 +16,9 @@ use Rattle.spa_bodies.specs.Reading.{BeginsWith}
 use Rattle.spa_bodies.specs.Refusing.{Says, error_of}
 use Rattle.spa_bodies.proofs.Refusals.{says_through}
 use Rattle.spa_canonical.specs.Depth.{depth_of, levels_looked_into}
-use Rattle.spa_canonical.specs.Look.{IsRejected, StopsAt}
-use Rattle.spa_canonical.specs.Rewriting.{IsLeft, RefusesFront}
-use Rattle.spa_canonical.specs.Shorter.{ArePodsWithin}
+use Rattle.spa_canonical.specs.Look.{IsFaultAt, IsRejected, StandsAt, StopsAt, at_pod, from_pod}
+use Rattle.spa_canonical.specs.Rewriting.{ArePodsWithin, IsLeft, RefusesFront}
 use Rattle.spa_events.specs.Inside.{IsInside}
-use Rattle.spa_canonical.specs.Offsets.{IsFaultAt, StandsAt, at_pod, from_pod}
 use Rattle.spa_canonical.specs.declared.look.Rejected.{Rejected}
 use Rattle.spa_canonical.specs.declared.look.Rejected.TheVariants as rejected
 use Rattle.spa_canonical.proofs.FirstPods.{left_behind_pods}

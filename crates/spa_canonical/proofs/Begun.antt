@@ -1,17 +1,16 @@
 -- Containers whose encodings are begun, and what their headers hold.
-use Rattle.std.proofs.Common.{◌≡◌, ℕ, ◌+◌, ◌-◌, ◌<◌, ◌≤◌, ◌%◌, List, [], ◌∷◌, ◌++◌, length, drop, take, refl, sym, ap, ◌∙◌, subst, arith, append_assoc, length-drop}
-use Rattle.std.specs.Prelude.{⊤, Bool, false, true}
-use Rattle.std.proofs.lemmas.List.{append-nil, drop-drop, drop-take, drop_at, length-take-le, take-take}
-use Rattle.spa_format.specs.Words.{extent, header_size, size_limit, word_at, word_bytes}
+use Rattle.std.proofs.Common.{◌≡◌, ℕ, ◌+◌, ◌-◌, ◌/◌, ◌<◌, ◌≤◌, ◌%◌, List, [], ◌∷◌, ◌++◌, length, drop, take, refl, sym, ap, ◌∙◌, subst, arith, append_assoc}
+use Rattle.std.specs.Prelude.{⊤, Bool, false}
+use Rattle.std.proofs.lemmas.List.{append-nil, drop-take, drop_at, take-take}
+use Rattle.spa_format.specs.Words.{extent, header_size, padded_size, size_limit, word_at, word_bytes}
 use Rattle.spa_format.specs.Front.{HasFront, front_of, rest_of}
 use Rattle.spa_format.specs.Typed.{IsBytes}
-use Rattle.spa_format.proofs.Fronts.{length-body_of}
+use Rattle.spa_format.proofs.Fronts.{size_of_front}
 use Rattle.spa_format.proofs.WordLemmas.{IsBytes-drop, IsBytes-take, word_at-take}
-use Rattle.spa_bytes.specs.Opening.{Opens}
-use Rattle.spa_events.specs.Inside.{IsBehindKey, key_size}
-use Rattle.spa_canonical.specs.Emit.{ArePlaced, HoldsWhole, IsPlaced, IsPodOf, last_bit, type_inside}
+use Rattle.spa_events.specs.Inside.{key_size}
+use Rattle.spa_canonical.specs.Emit.{ArePlaced, IsPlaced, IsPodOf, OpensWhole, type_inside}
 use Rattle.spa_canonical.proofs.Places.{inner_placed, pods_placed}
-use Rattle.spa_canonical.proofs.Written.{drop_past, here_is, opened_here, take_past}
+use Rattle.spa_canonical.proofs.Written.{drop_past, take_past}
 use Rattle.spa_canonical.proofs.Lengths.{lengths}
 
 -- a container whose encoding is begun: where it begins, whether the list that it is in is keyed, and what of that list follows it
@@ -45,66 +44,25 @@ header_kept inner start b r =
     let n = length b - (start + header_size) in
     omega lengths
 
--- A container that is first.
-
-pub record IsContainerHere (inner : Bool) (here body : List ℕ) : Type 0 where
-  pub type : ℕ
-  pub size : ℕ
-  pub its : IsPodOf (front_of here) type size
-  pub holds : HoldsWhole type size inner
-  pub body_is : drop header_size (front_of here) ≡ body
-  pub long : length (front_of here) ≡ header_size + length body
-  pub key : key_size inner ≤ length body
-  pub words : take (key_size inner) (drop header_size here) ≡ take (key_size inner) (drop header_size (front_of here))
-
-holds_key : (inner : Bool) (type size : ℕ) → HoldsWhole type size inner → key_size inner ≤ size
-holds_key true type size h = h.holds.1
-holds_key false type size h = omega arith
-
-pub container_here : (inner : Bool) (here body rest : List ℕ) (type size : ℕ) → Opens here type body rest → size ≡ length body →
-    HoldsWhole type size inner → IsContainerHere inner here body
-container_here inner here body rest type size o z w =
-    let key = key_size inner in
-    let pod = front_of here in
-    let d = ap length o.its_rest ∙ length-drop (extent (word_at here 0)) here in
-    let op = opened_here here body rest pod type size o z (ap (λ i. take i here) (sym (omega arith))) in
-    let room = holds_key inner type size w in
-    let own = op.its in
-    let long : length pod ≡ header_size + length body = omega arith in
-    let size_word : word_at here 0 ≡ length body = sym (length-body_of here o.there) ∙ sym (ap length o.its_body) in
-    let body_is : drop header_size pod ≡ body =
-    ap (λ i. drop header_size (take i here)) (omega arith) ∙ drop-take header_size (length body) here
-    ∙ ap (λ i. take i (drop header_size here)) (sym size_word) ∙ sym o.its_body in
-    record {
-      type = type;
-      size = size;
-      its = own;
-      holds = w;
-      body_is = body_is;
-      long = long;
-      key = omega arith;
-      words = sym (take-take key (length body) (drop header_size here) (omega arith))
-          ∙ ap (take key) (ap (λ i. take i (drop header_size here)) (sym size_word) ∙ sym o.its_body ∙ sym body_is);
-    }
-
--- its encoding, once the pods inside and its header are there
-headed_pod : (inner : Bool) (here body link pods : List ℕ) → IsBytes here → IsContainerHere inner here body → length link ≡ 8 →
-    ArePlaced inner (drop (key_size inner) body) pods →
+-- the encoding of a container that is first, once the pods inside and its header are there
+headed_pod : (inner : Bool) (here link pods : List ℕ) (size : ℕ) → IsBytes here → IsPodOf (front_of here) (type_inside inner) size → key_size inner ≤ size →
+    size % 8 ≡ 0 → HasFront here → length link ≡ 8 → ArePlaced inner (drop (header_size + key_size inner) (front_of here)) pods →
     IsPlaced (front_of here) (with_header inner 0 ((link ++ take (key_size inner) (drop header_size here)) ++ pods))
-headed_pod inner here body link pods y c l q =
+headed_pod inner here link pods size y p k z f l q =
     let key = key_size inner in
     let pod = front_of here in
-    let words = take key (drop header_size pod) in
-    let head = link ++ take key (drop header_size here) in
-    let all = head ++ pods in
-    let same_words = ap length c.words in
-    let inside : drop key body ≡ drop (header_size + key) pod = ap (drop key) (sym c.body_is) ∙ drop-drop key header_size pod in
-    let placed = inner_placed inner pod pods c.type c.size (IsBytes-take (extent (word_at here 0)) here y) c.its c.holds (subst (λ x. ArePlaced inner x pods) inside q) in
-    let behind : drop (0 + header_size) all ≡ words ++ pods =
+    let w = word_at here 0 in
+    let all = (link ++ take key (drop header_size here)) ++ pods in
+    let same : w ≡ size = sym (size_of_front here) ∙ p.its_size in
+    let words : take key (drop header_size here) ≡ take key (drop header_size pod) =
+    sym (ap (take key) (drop-take header_size (padded_size w) here) ∙ take-take key (padded_size w) (drop header_size here) (omega arith)) in
+    let behind : drop (0 + header_size) all ≡ take key (drop header_size pod) ++ pods =
     ap (drop 8) (append_assoc link (take key (drop header_size here)) pods) ∙ drop_at link (take key (drop header_size here) ++ pods) 8 l
-    ∙ ap (λ x. x ++ pods) c.words in
+    ∙ ap (λ x. x ++ pods) words in
+    let there = f.whole in
     subst (IsPlaced pod)
-    (sym (ap (λ n. header_of inner n ++ drop (0 + header_size) all) (omega lengths) ∙ ap (λ x. header_of inner (key + length pods) ++ x) behind)) placed
+    (sym (ap (λ n. header_of inner n ++ drop (0 + header_size) all) (omega lengths) ∙ ap (λ x. header_of inner (key + length pods) ++ x) behind))
+    (inner_placed inner pod pods size (IsBytes-take (extent w) here y) p z q)
 
 -- What is begun.
 
@@ -129,10 +87,6 @@ fewer [] written all more less a b f = tt
 fewer (x ∷ bs) written all more less a b f =
     (omega arith, omega arith, fewer bs x.start (all + length x.pods) x.start (less + length x.pods) (omega arith) (omega arith) f.2)
 
-pub depth_room : (bs : List Begun) (written all : ℕ) → Fits bs written all → length bs ≤ written
-depth_room [] written all f = omega arith
-depth_room (b ∷ bs) written all f = let r = depth_room bs b.start (all + length b.pods) f.2 in let f0 = f.0 in omega arith
-
 goes_on : (All : List ℕ → Type 0) (bs : List Begun) (keyed : Bool) (left rest now added : List ℕ) →
     ((others : List ℕ) → ArePlaced keyed rest others → ArePlaced keyed left (added ++ others)) → Awaits All bs keyed left now →
     Awaits All bs keyed rest (now ++ added)
@@ -152,24 +106,23 @@ puts_more All bs keyed left rest now added e w p =
       fits = fewer bs (length now) (length now + length left) (length (now ++ added)) (length (now ++ added) + length rest) (omega lengths) (omega lengths) p.fits;
     }
 
-pub puts_inner : (All : List ℕ → Type 0) (bs : List Begun) (keyed inner : Bool) (left here body rest link now : List ℕ) (type size : ℕ) → IsBytes left →
-    IsBehindKey keyed left here → Opens here type body rest → size ≡ length body → HoldsWhole type size inner → length link ≡ 8 →
-    Puts All bs keyed left now →
-    Puts All (record { start = length now + key_size keyed; keyed = keyed; pods = rest } ∷ bs) inner (drop (key_size inner) body)
+pub puts_inner : (All : List ℕ → Type 0) (bs : List Begun) (keyed inner : Bool) (left here link now : List ℕ) (size : ℕ) → IsBytes left →
+    here ≡ drop (key_size keyed) left → OpensWhole keyed left inner size → length link ≡ 8 → Puts All bs keyed left now →
+    Puts All (record { start = length now + key_size keyed; keyed = keyed; pods = rest_of here } ∷ bs) inner (drop (header_size + key_size inner) (front_of here))
     (now ++ (take (key_size keyed) left ++ (link ++ take (key_size inner) (drop header_size here))))
-puts_inner All bs keyed inner left here body rest link now type size y k o z w l p =
+puts_inner All bs keyed inner left here link now size y h w l p =
     let before = key_size keyed in
-    let h = here_is keyed left here k in
-    let bytes : IsBytes here = subst IsBytes (sym h.1) (IsBytes-drop before left y) in
-    let c = container_here inner here body rest type size o z w in
+    let there : HasFront here = subst HasFront (sym h) w.there in
+    let its : IsPodOf (front_of here) (type_inside inner) size = subst (λ x. IsPodOf (front_of x) (type_inside inner) size) (sym h) w.its in
     let key = take before left in
     let head = link ++ take (key_size inner) (drop header_size here) in
     let added = key ++ head in
-    let d = ap length o.its_rest ∙ length-drop (extent (word_at here 0)) here in
-    let left_long = ap length h.1 ∙ length-drop before left in
-    let words_long : length (take (key_size inner) (drop header_size here)) ≡ key_size inner =
-    length-take-le (key_size inner) (drop header_size here) (omega lengths) in
-    let fits = o.fits in
+    let room = w.key in
+    let left_long = ap length h in
+    let same : word_at here 0 ≡ size = sym (size_of_front here) ∙ its.its_size in
+    let f0 = there.header in
+    let f1 = there.whole in
+    let fits = its.fits in
     record {
       awaits = λ x q.
           let pod = with_header inner 0 (head ++ x) in
@@ -179,17 +132,17 @@ puts_inner All bs keyed inner left here body rest link now type size y k o z w l
           ∙ header_behind inner now (added ++ x) (length now) start before refl refl
           ∙ ap (λ b. now ++ b) (ap (with_header inner before) (append_assoc key head x)
           ∙ header_behind inner key (head ++ x) before before 0 (sym (omega lengths)) (let s : before ≡ before + 0 = omega lengths in s)) in
-          subst (Awaits All bs keyed rest) (sym e)
-          (goes_on All bs keyed left rest now (key ++ pod)
+          subst (Awaits All bs keyed (rest_of here)) (sym e)
+          (goes_on All bs keyed left (rest_of here) now (key ++ pod)
           (λ others r. subst (ArePlaced keyed left) (sym (append_assoc key pod others))
-          (pods_placed keyed left pod others y (subst HasFront h.1 o.there)
-          (subst (λ b. IsPlaced b pod) (ap front_of h.1) (headed_pod inner here body link x bytes c l q))
-          (subst (λ b. ArePlaced keyed b others) (o.its_rest ∙ ap rest_of h.1) r))) p.awaits);
+          (pods_placed keyed left pod others y w.there
+          (subst (λ b. IsPlaced (front_of b) pod) h (headed_pod inner here link x size (subst IsBytes (sym h) (IsBytes-drop before left y)) its room w.whole there l q))
+          (subst (λ b. ArePlaced keyed (rest_of b) others) h r))) p.awaits);
       fits = (
         omega lengths,
         omega lengths,
-        fewer bs (length now) (length now + length left) (length now + before) (length (now ++ added) + length (drop (key_size inner) body) + length rest)
-            (omega lengths) (omega lengths) p.fits,
+        fewer bs (length now) (length now + length left) (length now + before)
+            (length (now ++ added) + length (drop (header_size + key_size inner) (front_of here)) + length (rest_of here)) (omega lengths) (omega lengths) p.fits,
       );
     }
 
@@ -214,7 +167,7 @@ body_at (b ∷ bs) = b.start + header_size
 abbrev pub HoldsLink : List Begun → Begun → List ℕ → Type 0
 HoldsLink [] b now = ⊤
 HoldsLink (c ∷ cs) b now =
-    (c.start + word_at now b.start ≡ b.start) × (word_at now (b.start + 4) ≡ length b.pods + last_bit b.keyed) × (length b.pods % 8 ≡ 0)
+    (c.start + word_at now b.start ≡ b.start) × (word_at now (b.start + 4) ≡ length b.pods + key_size b.keyed / 8) × (length b.pods % 8 ≡ 0)
 
 -- the list of the innermost one ends there, and what is left of the list around each one follows it
 abbrev pub Linked : List Begun → (keyed : Bool) → (end : ℕ) → (now pods : List ℕ) → Type 0

@@ -9,7 +9,7 @@ use Rattle.spa_format.proofs.Sequences.{members_joined}
 use Rattle.spa_canonical.specs.Canonical.{AreCanonical, IsStretch}
 use Rattle.spa_canonical.proofs.Frames.{no_stretch}
 use Rattle.spa_canonical.specs.Look.{AreAccepted, AreChanged}
-use Rattle.spa_canonical.specs.Shorter.{AreShorter, BeginsShorter}
+use Rattle.spa_canonical.specs.Rewriting.{AreShorter, BeginsShorter}
 use Rattle.spa_canonical.specs.declared.look.AcceptedPods.{AcceptedPods}
 use Rattle.spa_format.specs.Front.{front_of}
 use Rattle.spa_canonical.proofs.Rewritten.{parted}
@@ -91,10 +91,14 @@ all_changed pods left changed surplus h z =
     let t = h.last in
     let whole : h.tail ≡ t.0 = t.1 ∙ ap (λ x. t.0 ++ x) (nil_from_length left z) ∙ append-nil t.0 in
     let all = ap length h.parts in
+    let shorter = subst (λ x. AreShorter x surplus) (sym (ap (take changed) h.parts ∙ take_at h.first h.tail changed h.many)) h.shorter in
     record {
-      shorter = subst (λ x. AreShorter x surplus) (sym (ap (take changed) h.parts ∙ take_at h.first h.tail changed h.many)) h.shorter;
-      within = omega lengths;
-      canonical = subst AreCanonical (sym (ap (drop changed) h.parts ∙ drop_at h.first h.tail changed h.many ∙ whole)) t.2;
+      first = record {
+        within = omega lengths;
+        first = (shorter.values, shorter.members);
+        canonical = subst AreCanonical (sym (ap (drop changed) h.parts ∙ drop_at h.first h.tail changed h.many ∙ whole)) t.2;
+      };
+      shorter = shorter;
     }
 
 -- all of them are accepted
@@ -102,24 +106,21 @@ pub accepted_shorter : (pods : List ℕ) (all : AcceptedPods) → AreAccepted po
 accepted_shorter pods all h =
     subst (AreShorter pods) (omega arith)
     (shorter_joined pods (take all.changed pods) (drop all.changed pods) all.surplus 0 (sym (take-append-drop all.changed pods)) h.shorter
-    (canonical_shorter (drop all.changed pods) h.canonical))
-
-pub accepted_changed : (pods : List ℕ) (all : AcceptedPods) → AreAccepted pods all → AreChanged pods all.changed
-accepted_changed pods all h = record { within = h.within; first = (h.shorter.values, h.shorter.members); canonical = h.canonical }
+    (canonical_shorter (drop all.changed pods) h.first.canonical))
 
 -- behind accepted pods
 pub changed_behind : (pods first left : List ℕ) (vs : Trees) (all : AcceptedPods) → pods ≡ first ++ left → AreMembers vs first → AreAccepted left all →
     AreChanged pods (length pods - length left + all.changed)
 changed_behind pods first left vs all e m h =
     let l = ap length e ∙ length-append first left in
-    let within = h.within in
+    let within = h.first.within in
     let front : take (length first + all.changed) pods ≡ first ++ take all.changed left = ap (take (length first + all.changed)) e ∙ take-append-add first left all.changed in
     let back : drop (length first + all.changed) pods ≡ drop all.changed left = ap (drop (length first + all.changed)) e ∙ drop-append-add first left all.changed in
     let ws = join_members vs h.shorter.values in
     subst (AreChanged pods) (sym (omega arith)) (record {
       within = omega arith;
       first = (ws, subst (AreMembers ws) (sym front) (members_joined vs h.shorter.values first (take all.changed left) m h.shorter.members));
-      canonical = subst AreCanonical (sym back) h.canonical;
+      canonical = subst AreCanonical (sym back) h.first.canonical;
     })
 
 pub changed_members : (pods : List ℕ) (changed : ℕ) → AreChanged pods changed → (vs : Trees) × AreMembers vs pods

@@ -1,39 +1,29 @@
 -- Where a look stops, and which fault stands there.
-use Rattle.std.proofs.Common.{◌≡◌, ◌≢◌, ℕ, ◌+◌, ◌*◌, ◌/◌, ◌-◌, ◌<◌, ◌≤◌, ◌%◌, inl, inr, List, [], length, drop, refl, sym, ap, ◌∙◌, subst, arith}
-use Rattle.std.specs.Prelude.{◌⊎◌, Bool, true, false}
-use Rattle.std.proofs.lemmas.Bool.{cases_eq, cases_lt}
-use Rattle.std.proofs.Math.Nat.{mul-mod_left}
-use Rattle.spa_format.specs.Words.{body_of, header_size, word_at, wide_at}
-use Rattle.spa_format.specs.Kind.{IsFixedBody, Kind, body_size, content, type_number}
-use Rattle.spa_format.specs.Tree.{Tree, choice, fixed, pointer, no_properties, array_type, choice_type, object_type, pointer_type, struct_type, type_of}
-use Rattle.spa_format.specs.Normal.{kept_flags}
-use Rattle.spa_format.specs.Pod.{IsBody, least_count}
+use Rattle.std.proofs.Common.{◌≡◌, ◌≢◌, ℕ, ◌+◌, ◌-◌, ◌<◌, inl, inr, List, [], length, refl, sym, ap, ◌∙◌, subst, arith}
+use Rattle.std.specs.Prelude.{Bool, true, false}
+use Rattle.std.proofs.lemmas.Bool.{cases_eq}
+use Rattle.spa_format.specs.Words.{header_size, word_at}
+use Rattle.spa_format.specs.Tree.{Tree, no_properties, object_type, struct_type, type_of}
+use Rattle.spa_format.specs.Pod.{IsBody}
 use Rattle.spa_format.specs.Front.{Begins, HasFront, IsRefused, rest_of}
 use Rattle.spa_format.specs.Typed.{IsBytes}
-use Rattle.spa_format.specs.Faults.{Fault, Short, IsInvalidType, of_elements, IsWrongArray, IsWrongSize, of_fixed, of_choice, of_pointer, LacksValues, StandsAtFront, at_front, choice_header_size}
+use Rattle.spa_format.specs.Faults.{Fault, Short, StandsAtFront, at_front}
 use Rattle.spa_format.specs.Opened.{OpensHeaderAlone, no_front, no_parts, short_object}
-use Rattle.spa_format.proofs.FixedKinds.{kind_of_content, size_fits}
 use Rattle.spa_format.proofs.Refused.{begun}
 use Rattle.spa_format.proofs.WordLemmas.{word_at-drop}
 use Rattle.spa_bytes.specs.Opening.{Opens}
-use Rattle.spa_fixed_sized.specs.Reading.{AreWhole}
 use Rattle.spa_fixed_sized.specs.declared.fault.Refusal.{Refusal}
 use Rattle.spa_bodies.specs.Refusing.{Says, StandsInBody}
 use Rattle.spa_bodies.proofs.Refusals.{at_front_of, says_through}
 use Rattle.spa_bodies.proofs.Steps.{pod_read}
 use Rattle.spa_canonical.specs.Depth.{depth_of}
 use Rattle.spa_canonical.specs.Canonical.{BeginsCanonical}
-use Rattle.spa_format.proofs.Shapes.{object_only, struct_only}
-use Rattle.spa_canonical.specs.Look.{AreCanonicalInside, IsNoLeaf, Stops, StopsAt}
+use Rattle.spa_canonical.specs.Look.{AreCanonicalInside, IsLeafBody, IsNoLeaf, StandsAt, Stops, StopsAt, at_key, at_pod, from_properties, scope_of}
 use Rattle.spa_events.specs.Inside.{IsBehindKey, IsContainer, key_size}
-use Rattle.spa_canonical.specs.Offsets.{StandsAt, at_key, at_pod, from_properties, scope_of}
-use Rattle.spa_canonical.proofs.Parts.{shape_of}
-use Rattle.spa_canonical.proofs.Bodies.{fewer, values_there}
+use Rattle.spa_canonical.proofs.Leaves.{container_depth}
 use Rattle.spa_canonical.proofs.Looks.{Awaits, first_own, stands_first}
 use Rattle.spa_canonical.proofs.Offsets.{key_long, offset_first}
 use Rattle.spa_canonical.proofs.LeafBodies.{leaf_depth, never, some_key}
-use Rattle.spa_canonical.proofs.SameLength.{array_same_length}
-use Rattle.spa_canonical.proofs.Lengths.{lengths}
 
 -- no pod begins there, and not for what is inside it
 pub record IsFaulted (here : List ℕ) : Type 0 where
@@ -65,23 +55,6 @@ pub no_leaf_body : (here body rest : List ℕ) (type : ℕ) → Opens here type 
 no_leaf_body here body rest type o n v t z b =
     let d = n v (pod_read here body rest type v o t b).begins in
     omega arith
-
--- where no value without members has such a body, none is at the front
-pub other_stops : (here body rest : List ℕ) (type : ℕ) → Opens here type body rest → ((v : Tree) → type_of v ≡ type → depth_of v ≡ 0 → ¬ (IsBody v body)) →
-    (v : Tree) → Begins here v → 0 < depth_of v
-other_stops here body rest type o n v b =
-    let q = begun here v b in
-    elim (cases_lt 0 (depth_of v)) [
-      | inl l ↦ l
-      | inr z ↦ absurd (n v (sym q.0 ∙ sym o.its_type) (omega arith) (subst (IsBody v) (sym o.its_body) q.1))
-    ]
-
--- a struct or an object is no such pod
-container_depth : (v : Tree) → IsContainer (type_of v) → 0 < depth_of v
-container_depth v c = elim c [
-  | inl e ↦ let o = struct_only v e in let d = ap depth_of o.1 in omega arith
-  | inr e ↦ let o = object_only v e in let d = ap depth_of o.3 in omega arith
-]
 
 pub container_stops : (canonical : Bool) (here : List ℕ) → IsContainer (word_at here 4) → IsNoLeaf canonical here
 container_stops canonical here c = record { differs = λ _ rest k. deep k.value k.begins.begins; refused = λ _ v b. deep v b }
@@ -190,29 +163,6 @@ stops_at_other keyed canonical left here body rest type h l k o s z n =
       fault = λ f. stops_first keyed left here k l (leaf_there here body rest type o s z (no_leaf_body here body rest type o (n.refused f)));
     }
 
--- what is known of the body at such a place
-pub record IsFaultyBody (type : ℕ) (body : List ℕ) : Type 0 where
-  pub refused : (v : Tree) → type_of v ≡ type → ¬ (IsBody v body)
-  pub no_struct : type ≢ struct_type
-  pub short : type ≡ object_type → length body < header_size
-
-pub faulty_body : (place body rest : List ℕ) (type : ℕ) → Opens place type body rest → IsRefused place → OpensHeaderAlone place → IsFaultyBody type body
-faulty_body place body rest type o r a = record {
-  refused = λ v t b. r v (pod_read place body rest type v o t b).begins;
-  no_struct = λ e. struct_there a (sym o.its_type ∙ e);
-  short = λ e. subst (λ b. length b < header_size) (sym o.its_body) (object_there a (sym o.its_type ∙ e));
-}
-  where
-    struct_there : OpensHeaderAlone place → word_at place 4 ≢ struct_type
-    struct_there (no_front n) e = n o.there
-    struct_there (no_parts s b) e = s e
-    struct_there (short_object t l) e = absurd (omega (arith, t, e))
-
-    object_there : OpensHeaderAlone place → word_at place 4 ≡ object_type → length (body_of place) < header_size
-    object_there (no_front n) e = absurd (n o.there)
-    object_there (no_parts s b) e = absurd (b e)
-    object_there (short_object t l) e = l
-
 -- a fault of that body stands at the front
 pub fault_at_front : (place body rest : List ℕ) (type : ℕ) (why : Refusal) → Opens place type body rest → Says (StandsInBody type body) ⊥ why →
     Says (λ k. StandsAtFront k place) ⊥ why
@@ -222,78 +172,8 @@ fault_at_front place body rest type why o s =
     (subst (λ b. StandsInBody (word_at place 4) b k) o.its_body (subst (λ t. StandsInBody t body k) o.its_type i)) in
     says_through (StandsInBody type body) (λ k. StandsAtFront k place) ⊥ ⊥ stands (λ n. n) why s
 
--- a body of a type of fixed size
-pub wrong_fixed : (type : ℕ) (body : List ℕ) (k : Kind) → type ≡ type_number k → ((v : Tree) → type_of v ≡ type → ¬ (IsBody v body)) → IsWrongSize type body
-wrong_fixed type body k e n =
-    let x = content k body in
-    let same = kind_of_content k body in
-    of_fixed k e
-    (λ l. n (fixed x) (ap type_number same ∙ sym e) (subst (λ j. IsFixedBody j body x) (sym same) (record { whole = l; says = refl })))
-
-pub wrong_pointer : (type : ℕ) (body : List ℕ) → type ≡ pointer_type → ((v : Tree) → type_of v ≡ type → ¬ (IsBody v body)) → IsWrongSize type body
-wrong_pointer type body e n =
-    of_pointer e
-    (λ l. n (pointer (word_at body 0) (word_at body 8)) (sym e) (refl, inl (l, refl)))
-    (λ l. n (pointer (word_at body 0) (wide_at body 8)) (sym e) (refl, inr (l, refl)))
-
--- the body of an array over a type that there is
-pub wrong_array : (body : List ℕ) (k : Kind) → header_size ≤ length body → word_at body 4 ≡ type_number k →
-    ((v : Tree) → type_of v ≡ array_type → ¬ (IsBody v body)) → IsWrongArray k body
-wrong_array body k h t n = record {
-  header = h;
-  child_type = t;
-  wrong = elim (cases_eq (word_at body 0) (body_size k)) [
-    | inr e ↦ inl e
-    | inl e ↦ inr (λ many l.
-        let w : AreWhole (body_size k) (drop 8 body) = record { many = many; count = omega lengths } in
-        let s = array_same_length body (drop 8 body) (record { header = h; kind = k; child_size = e; child_type = t; whole = w; behind = refl }) in
-        n s.value s.its_type s.its_body)
-  ];
-}
-
--- of no type
-pub no_elements : (body : List ℕ) (number len : ℕ) → number ≡ word_at body 4 → ((k : Kind) → number ≡ type_number k → len ≡ body_size k) → 8 < len →
-    header_size ≤ length body → IsInvalidType array_type body
-no_elements body number len e f l h = of_elements refl h (λ k t. let a = f k (e ∙ t) in let b = size_fits k in omega arith)
-
--- the sizes of a choice's body aren't right
-pub wrong_choice : (body : List ℕ) (k : Kind) → choice_header_size ≤ length body → word_at body 12 ≡ type_number k → 0 < body_size k →
-    (word_at body 8 ≢ body_size k) ⊎ ((length body - 16) % body_size k ≢ 0) → IsWrongSize choice_type body
-wrong_choice body k h t some w =
-    of_choice k refl some (record {
-      header = omega lengths;
-      child_type = word_at-drop 8 4 body ∙ t;
-      wrong = elim w [
-        | inl n ↦ inl (λ e. n (sym (word_at-drop 8 0 body) ∙ e))
-        | inr n ↦ inr (λ many l. n (no_remainder (length body - 16) many (body_size k) some (omega lengths)))
-      ];
-    })
-  where
-    no_remainder : (n many s : ℕ) → 0 < s → n ≡ many * s → n % s ≡ 0
-    no_remainder n many s p e = ap (λ m. m % s) e ∙ mul-mod_left many s
-
--- too few of them
-pub few_values : (body : List ℕ) (k : Kind) → choice_header_size ≤ length body → word_at body 0 < 5 → word_at body 8 ≡ body_size k →
-    word_at body 12 ≡ type_number k → 0 < body_size k → (length body - 16) % body_size k ≡ 0 →
-    ((v : Tree) → type_of v ≡ choice_type → ¬ (IsBody v body)) → LacksValues body
-few_values body k h w c t some m n =
-    let s = shape_of (word_at body 0) w in
-    let many = (length body - 16) / body_size k in
-    let all : length body - 16 ≡ many * body_size k = whole (length body - 16) (body_size k) m in
-    record {
-      header = h;
-      shape = s.0;
-      kind = k;
-      its_shape = s.1;
-      child_size = c;
-      child_type = t;
-      few = elim (cases_lt (length body) (16 + least_count s.0 * body_size k)) [
-        | inl l ↦ l
-        | inr l ↦
-            let v = values_there s.0 k many body h s.1 c t some all (fewer (least_count s.0) many (body_size k) (omega arith) some) in
-            absurd (n (choice v.shape (kept_flags v.shape (word_at body 4)) v.kind v.default v.values) refl v.its_choice)
-      ];
-    }
-  where
-    whole : (n s : ℕ) → n % s ≡ 0 → n ≡ n / s * s
-    whole n s e = grind arith
+-- and the body is that of no value
+pub refused_leaf : (canonical : Bool) (place body rest : List ℕ) (type n : ℕ) → Opens place type body rest → IsRefused place → ¬ (IsLeafBody canonical type body n)
+refused_leaf canonical place body rest type n o r l =
+    let s = l.shorter in
+    r s.value (pod_read place body rest type s.value o s.its_type s.its_body).begins

@@ -1,11 +1,11 @@
 -- The front with zeros as its padding is an encoded pod.
 use Rattle.std.proofs.Common.{append-nil, List, [], ap, append_assoc, arith, drop, inr, length, length-append, length-drop, refl, subst, sym, take, ℕ, ◌++◌, ◌+◌, ◌-◌, ◌<◌, ◌∙◌, ◌≡◌, ◌≤◌}
 use Rattle.std.proofs.Math.Seq.{take-add}
-use Rattle.std.proofs.lemmas.List.{drop_at, length-take-le, take_at, nil_from_length, take-append-drop}
+use Rattle.std.proofs.lemmas.List.{take_at, nil_from_length, take-append-drop}
 use Rattle.spa_format.specs.Words.{body_of, extent, header_size, padded_size, padding, wide_at, wide_bytes, word_at, word_bytes}
 use Rattle.spa_format.specs.Tree.{Tree, Trees, fixed, member, no_properties, no_trees, object, object_type, pointer, pointer_type, property, type_of}
 use Rattle.spa_format.specs.Pod.{AreMembers, AreProperties, IsBody}
-use Rattle.spa_format.specs.Encoding.{encoded_pod, encoded_body, encoding_of, property_encodings}
+use Rattle.spa_format.specs.Encoding.{encoded_pod, encoded_body, encoding_of}
 use Rattle.spa_format.specs.Typed.{IsBytes}
 use Rattle.spa_format.specs.Front.{HasFront, front_of}
 use Rattle.spa_format.proofs.Fronts.{front_of_whole, length-body_of, front_and_rest}
@@ -13,9 +13,9 @@ use Rattle.spa_format.proofs.Short.{padded_above}
 use Rattle.spa_bytes.specs.Opening.{Opens}
 use Rattle.spa_bodies.specs.Reading.{BeginsWith}
 use Rattle.spa_bodies.proofs.Steps.{pod_read}
-use Rattle.spa_canonical.specs.Canonical.{AreCanonical, AreCanonicalProperties, BeginsCanonical, BeginsCanonicalProperty, HasZeros, IsCanonicalBody, IsPropertyStretch, IsStretch}
-use Rattle.spa_format.proofs.WordLemmas.{IsBytes-drop, IsBytes-take, wide_at-drop, word_at-append, word_at-drop, word_at-take}
-use Rattle.spa_format.specs.Kind.{none, Kind, bool_kind, IsFixedBody, type_number, body_size, content}
+use Rattle.spa_canonical.specs.Canonical.{AreCanonical, AreCanonicalProperties, BeginsCanonical, HasZeros, IsCanonicalBody, IsStretch}
+use Rattle.spa_format.proofs.WordLemmas.{IsBytes-drop, IsBytes-take, wide_at-drop, word_at-drop, word_at-take}
+use Rattle.spa_format.specs.Kind.{Kind, bool_kind, IsFixedBody, type_number, body_size, content}
 use Rattle.spa_format.proofs.FixedKinds.{kind_of_content}
 use Rattle.spa_canonical.proofs.Words.{content_kept, two_words, two_words_then, wide_back}
 
@@ -53,13 +53,6 @@ no_properties_left = record { values = no_properties; properties = refl; same = 
 
 pub parted : (input : List ℕ) (v : Tree) (rest : List ℕ) → BeginsWith input v rest → input ≡ front_of input ++ rest
 parted input v rest r = front_and_rest input ∙ ap (λ l. front_of input ++ l) (sym r.follows)
-
-pub rest_shorter : (input body rest : List ℕ) (type : ℕ) → Opens input type body rest → length rest + 8 ≤ length input
-rest_shorter input body rest type o =
-    let e = ap length o.its_rest in
-    let d = length-drop (extent (word_at input 0)) input in
-    let w = o.there.whole in
-    omega arith
 
 -- a pod of fixed size
 pub fixed_begins : (input rest : List ℕ) (k : Kind) (s : ℕ) → IsBytes input → 16 ≤ length input → word_at input 4 ≡ type_number k → word_at input 0 ≡ s → s ≡ body_size k → s < 9 → 0 < s → HasZeros (drop 8 input) s → (k ≡ bool_kind → word_at input 8 < 2) → rest ≡ drop 16 input → BeginsCanonical input rest
@@ -118,14 +111,6 @@ pointer_of body type h l k z =
       same = two_words_then body _ _ _ h (omega arith) refl z wide;
     }
 
-pub none_of : (body : List ℕ) (type : ℕ) → type ≡ 1 → length body ≡ 0 → IsCanonicalBody type body
-none_of body type k e = record {
-  value = fixed none;
-  its_type = sym k;
-  its_body = record { whole = e; says = refl };
-  same = nil_from_length body e;
-}
-
 pub no_stretch : (b : List ℕ) → IsStretch b b
 no_stretch b = ([], refl, no_members)
 
@@ -142,59 +127,24 @@ more_stretch input rest left c s =
       },
     )
 
-pub one_property : (input behind rest : List ℕ) → IsBytes input → header_size ≤ length input →
-    behind ≡ drop header_size input → BeginsCanonical behind rest → BeginsCanonicalProperty input rest
-one_property input behind rest h l d c = record {
-  header = l;
-  words = two_words input h l;
-  pod = subst (λ b. BeginsCanonical b rest) d c;
-}
-
-pub no_property_stretch : (b : List ℕ) → IsPropertyStretch b b
-no_property_stretch b = ([], refl, no_properties_left)
-
-pub more_properties : (input rest left : List ℕ) → BeginsCanonicalProperty input rest →
-    IsPropertyStretch rest left → IsPropertyStretch input left
-more_properties input rest left c s =
-    let head = take 8 input in
-    let front = front_of (drop 8 input) in
-    let v = c.pod.value in
-    let r = s.2 in
-    let k = word_at input 0 in
-    let f = word_at input 4 in
-    let first = head ++ (front ++ s.0) in
-    let behind : drop 8 input ≡ front ++ (s.0 ++ left) =
-    parted (drop 8 input) v rest c.pod.begins ∙ ap (λ x. front ++ x) s.1 in
-    let parts : input ≡ first ++ left =
-    sym (take-append-drop 8 input) ∙ ap (λ x. head ++ x) (behind ∙ sym (append_assoc front s.0 left))
-    ∙ sym (append_assoc head (front ++ s.0) left) in
-    let long : length head ≡ 8 = length-take-le 8 input c.header in
-    let size = length-append head (front ++ s.0) in
-    let w0 : k ≡ word_at first 0 = ap (λ y. word_at y 0) parts ∙ word_at-append first left 0 (omega arith) in
-    let w4 : f ≡ word_at first 4 = ap (λ y. word_at y 4) parts ∙ word_at-append first left 4 (omega arith) in
-    let inside : drop 8 first ≡ front ++ s.0 = drop_at head (front ++ s.0) 8 long in
-    let enough : 8 ≤ length first = omega arith in
-    let others : front ++ s.0 ≡ encoding_of v ++ property_encodings r.values =
-    ap (λ x. x ++ s.0) c.pod.same ∙ ap (λ x. encoding_of v ++ x) r.same in (
-      first,
-      parts,
-      record {
-        values = property k f v r.values;
-        properties = (enough, w0, w4, front, s.0, inside, c.pod.begins.begins.pod, r.properties);
-        same = ap (λ x. x ++ (front ++ s.0)) c.words ∙ append_assoc (word_bytes k) (word_bytes f) (front ++ s.0)
-            ∙ ap (λ x. word_bytes k ++ (word_bytes f ++ x)) others;
-      },
-    )
-
 pub one_more : (input rest : List ℕ) → BeginsCanonical input rest → AreCanonical rest → AreCanonical input
 one_more input rest c r =
     let s = more_stretch input rest [] c (rest, sym (append-nil rest), r) in
     subst AreCanonical (sym (s.1 ∙ append-nil s.0)) s.2
 
-pub one_more_property : (input behind rest : List ℕ) → IsBytes input → header_size ≤ length input → behind ≡ drop header_size input → BeginsCanonical behind rest → AreCanonicalProperties rest → AreCanonicalProperties input
+pub one_more_property : (input behind rest : List ℕ) → IsBytes input → header_size ≤ length input → behind ≡ drop header_size input →
+    BeginsCanonical behind rest → AreCanonicalProperties rest → AreCanonicalProperties input
 one_more_property input behind rest h l d c r =
-    let s = more_properties input rest [] (one_property input behind rest h l d c) (rest, sym (append-nil rest), r) in
-    subst AreCanonicalProperties (sym (s.1 ∙ append-nil s.0)) s.2
+    let v = c.value in
+    let key = word_bytes (word_at input 0) in
+    let flags = word_bytes (word_at input 4) in
+    let p : drop 8 input ≡ front_of behind ++ rest = sym d ∙ parted behind v rest c.begins in
+    record {
+      values = property (word_at input 0) (word_at input 4) v r.values;
+      properties = (l, refl, refl, front_of behind, rest, p, c.begins.begins.pod, r.properties);
+      same = sym (take-append-drop 8 input) ∙ ap (λ x. x ++ drop 8 input) (two_words input h l) ∙ append_assoc key flags (drop 8 input)
+          ∙ ap (λ x. key ++ (flags ++ x)) (p ∙ ap (λ x. x ++ rest) c.same ∙ ap (λ x. encoding_of v ++ x) r.same);
+    }
 
 -- what is in front of what is left
 parts_of : (P : List ℕ → Type 0) (input left : List ℕ) (n : ℕ) → (first : List ℕ) × (input ≡ first ++ left) × P first →
@@ -206,9 +156,6 @@ parts_of P input left n s e =
 
 pub stretch_parts : (input left : List ℕ) (n : ℕ) → IsStretch input left → n ≡ length input - length left → (take n input ++ drop n input ≡ input) × AreCanonical (take n input)
 stretch_parts = parts_of AreCanonical
-
-pub property_parts : (input left : List ℕ) (n : ℕ) → IsPropertyStretch input left → n ≡ length input - length left → (take n input ++ drop n input ≡ input) × AreCanonicalProperties (take n input)
-property_parts = parts_of AreCanonicalProperties
 
 -- some pods are there, so the front is
 pub stretch_front : (input first rest : List ℕ) → input ≡ first ++ rest → AreCanonical first → 0 < length first → HasFront input

@@ -14,6 +14,7 @@ pub mod Bodies
 pub mod Truths
 pub mod SameLength
 pub mod LeafBodies
+pub mod Leaves
 pub mod Patches
 pub mod Replacing
 pub mod PatchedBodies
@@ -25,7 +26,6 @@ pub mod Offsets
 pub mod Faulted
 pub mod Accepted
 pub mod Places
-pub mod PlacedBodies
 pub mod Written
 pub mod Changed
 pub mod Moved

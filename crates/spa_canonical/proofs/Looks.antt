@@ -19,16 +19,16 @@ use Rattle.spa_canonical.proofs.Frames.{body_bytes, canonical_front, none_left, 
 use Rattle.spa_canonical.proofs.Made.{made_body, made_members, made_properties}
 use Rattle.spa_canonical.proofs.Opened.{object_inside, struct_inside}
 use Rattle.spa_canonical.specs.Depth.{NestsDeeperInside}
-use Rattle.spa_canonical.specs.Look.{BeginsAsked, Fits, OpensInside, Passes, StandsInside, Stops, Surround}
-use Rattle.spa_canonical.specs.Look.{AreCanonicalInside}
-use Rattle.spa_canonical.specs.Shorter.{BeginsShorter}
+use Rattle.spa_canonical.specs.Look.{AreCanonicalInside, BeginsAsked, Fits, OpensInside, Passes, StandsAt, StandsInside, Stops, Surround, scope_of}
+use Rattle.spa_canonical.specs.Rewriting.{BeginsShorter}
 use Rattle.spa_events.specs.Inside.{IsBehindKey, IsInside, key_size}
-use Rattle.spa_canonical.specs.Offsets.{StandsAt, scope_of}
 use Rattle.spa_canonical.specs.declared.inside.Waiting.{Waiting}
 use Rattle.spa_canonical.proofs.Offsets.{body_long, key_long, offset_behind, offset_first, offset_opened}
 use Rattle.spa_canonical.proofs.ShorterLemmas.{shorter_inside, shorter_none, shorter_opened, shorter_room, shorter_step, whole_keyed, whole_list}
 use Rattle.spa_canonical.proofs.Levels.{as_deep_inside, deep_behind, deep_inside}
 use Rattle.spa_canonical.proofs.Rewritten.{parted}
+use Rattle.spa_format.specs.Encoding.{encoding_of}
+use Rattle.spa_format.proofs.Unique.{one_value}
 use Rattle.spa_canonical.proofs.Lengths.{lengths}
 
 -- a canonical pod in front of others
@@ -130,16 +130,6 @@ behind_shorter false left here k = let e = ap length k in omega arith
 
 rest_bytes : (here rest : List ℕ) → IsBytes here → rest ≡ rest_of here → IsBytes rest
 rest_bytes here rest h e = subst IsBytes (sym e) (IsBytes-drop (extent (word_at here 0)) here h)
-
--- what stands behind a key and flags is there once,
-pub same_behind_key : (keyed : Bool) (left a b : List ℕ) → IsBehindKey keyed left a → IsBehindKey keyed left b → a ≡ b
-same_behind_key true left a b k l = k.1 ∙ sym l.1
-same_behind_key false left a b k l = k ∙ sym l
-
--- or not at all
-pub no_behind_key : (keyed : Bool) (left here : List ℕ) → keyed ≡ true → length left < header_size → ¬ (IsBehindKey keyed left here)
-no_behind_key true left here e l k = let h = k.0 in omega arith
-no_behind_key false left here e l k = let t : false ≡ true = e in cc
 
 -- none is passed
 pub passes_none : (keyed canonical : Bool) (left : List ℕ) → IsBytes left → Passes keyed canonical left left 0
@@ -418,3 +408,13 @@ stops_behind canonical keyed pods left place behind n p w =
                 subst (λ m. StandsAt k (scope_of keyed) m pods) (omega arith) (p.offset k (length left - (length place + behind)) (s.offset k x));
           };
     }
+
+-- of a canonical pod no byte goes
+pub asked_none : (canonical : Bool) (here rest : List ℕ) (n : ℕ) → canonical ≡ true → BeginsAsked canonical here rest n → n ≡ 0
+asked_none canonical here rest n t a =
+    let c = a.own t in
+    let s = a.shorter in
+    let same = one_value (front_of here) s.value c.value s.begins.begins.pod c.begins.begins.pod in
+    let own = ap length c.same ∙ ap (λ v. length (encoding_of v)) (sym same) in
+    let l = s.long in
+    omega arith

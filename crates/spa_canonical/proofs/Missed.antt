@@ -1,10 +1,10 @@
 -- What a look can't miss: what the bodies and fronts of canonical pods are like.
-use Rattle.std.proofs.Common.{◌≡◌, ℕ, ◌+◌, ◌*◌, ◌<◌, ◌≤◌, ◌-◌, ◌⊎◌, inl, inr, List, [], ◌∷◌, length, take, drop, suc, refl, sym, ap, ◌∙◌, subst, arith, length-drop, length-take}
-use Rattle.std.specs.Prelude.{nat_lt, Bool, true, false, if◌then◌else◌, replicate}
-use Rattle.std.proofs.lemmas.List.{drop-drop, drop_at}
-use Rattle.spa_format.specs.Words.{word_at, word_bytes, body_of}
-use Rattle.spa_format.specs.Kind.{Kind, none_kind, bool_kind, id_kind, int_kind, long_kind, float_kind, double_kind, rectangle_kind, fraction_kind, fd_kind, body_size, type_number, Fixed, kind_of, content, IsFixedBody, fixed_body}
-use Rattle.spa_format.specs.Tree.{choice, choice_type, Shape, shape_number, type_of}
+use Rattle.std.proofs.Common.{◌≡◌, ℕ, ◌+◌, ◌*◌, ◌<◌, ◌≤◌, ◌-◌, List, [], ◌∷◌, length, take, drop, suc, sym, ap, ◌∙◌, subst, arith, length-drop, length-take}
+use Rattle.std.specs.Prelude.{nat_lt, Bool, true, false, if◌then◌else◌}
+use Rattle.std.proofs.lemmas.List.{drop_at}
+use Rattle.spa_format.specs.Words.{word_at, word_bytes}
+use Rattle.spa_format.specs.Kind.{Kind, bool_kind, body_size, type_number, Fixed, kind_of, content, fixed_body}
+use Rattle.spa_format.specs.Tree.{choice, choice_type, Shape, shape_number}
 use Rattle.spa_format.specs.Pod.{AreElements, IsArray, IsBody, IsChoice}
 use Rattle.spa_format.specs.Normal.{kept_flags}
 use Rattle.spa_format.specs.Encoding.{array_body, encoded_body, fixed_bodies}
@@ -12,12 +12,12 @@ use Rattle.spa_format.specs.Typed.{IsBytes, IsCount}
 use Rattle.spa_format.proofs.Choices.{typed_choice}
 use Rattle.spa_format.proofs.Elements.{array_back, kept_of_sized, length_of_elements}
 use Rattle.spa_format.proofs.FixedKinds.{kind_of_body, length-fixed_body}
-use Rattle.spa_format.proofs.Fronts.{length-body_of}
 use Rattle.spa_format.proofs.Shapes.{choice_only}
-use Rattle.spa_format.proofs.WordLemmas.{length-word_bytes, word_at-append, word_at-drop, word_at-take, word_inside}
+use Rattle.spa_format.proofs.WordLemmas.{length-word_bytes, word_at-append, word_at-drop, word_inside}
 use Rattle.spa_bytes.specs.Opening.{Opens}
-use Rattle.spa_canonical.specs.Canonical.{AreCanonicalElements, BeginsCanonical, HasZeros, IsCanonicalArray, IsCanonicalBody, IsSized}
+use Rattle.spa_canonical.specs.Canonical.{AreCanonicalElements, BeginsCanonical, HasZeros, IsCanonicalBody}
 use Rattle.spa_canonical.proofs.Made.{made_front}
+use Rattle.spa_canonical.proofs.Parts.{IsCanonicalArray}
 use Rattle.spa_canonical.proofs.Words.{behind_two_words}
 
 -- the zeros behind the body of a canonical front
@@ -25,65 +25,14 @@ pub made_zeros : (input behind body rest left : List ℕ) (type : ℕ) → IsByt
 made_zeros input behind body rest left type h o d c =
     subst (λ b. HasZeros b (length body)) (sym d) (subst (λ b. HasZeros (drop 8 input) (length b)) (sym o.its_body) (made_front input left h c).zeros)
 
-four_or_eight : (k : Kind) → 0 < body_size k → (body_size k ≡ 4) ⊎ (body_size k ≡ 8)
-four_or_eight none_kind p = absurd (omega arith)
-four_or_eight bool_kind p = inl refl
-four_or_eight id_kind p = inl refl
-four_or_eight int_kind p = inl refl
-four_or_eight long_kind p = inr refl
-four_or_eight float_kind p = inl refl
-four_or_eight double_kind p = inr refl
-four_or_eight rectangle_kind p = inr refl
-four_or_eight fraction_kind p = inr refl
-four_or_eight fd_kind p = inr refl
-
 -- a truth value is written as 0 or 1
 written_truth : (t : Bool) → word_at (word_bytes (if t then 1 else 0)) 0 < 2
 unfolding word_at word_bytes
 written_truth true = omega arith
 written_truth false = omega arith
 
-small_truth : (x : Fixed) (b : List ℕ) → x ≡ content bool_kind b → word_at (fixed_body x) 0 < 2
+pub small_truth : (x : Fixed) (b : List ℕ) → x ≡ content bool_kind b → word_at (fixed_body x) 0 < 2
 small_truth x b e = subst (λ y. word_at (fixed_body y) 0 < 2) (sym e) (written_truth (nat_lt 0 (word_at b 0)))
-
-zero_word : (b : List ℕ) → take 4 b ≡ replicate 4 0 → word_at b 0 ≡ 0
-unfolding word_at
-zero_word b z = sym (word_at-take 4 0 b (omega arith)) ∙ ap (λ x. word_at x 0) z
-
--- a canonical front of a kind of fixed size
-pub record SizedFront (input : List ℕ) : Type 0 where
-  pub kind : Kind
-  pub its_type : word_at input 4 ≡ type_number kind
-  pub its_size : word_at input 0 ≡ body_size kind
-  pub sizes : (body_size kind ≡ 4) ⊎ (body_size kind ≡ 8)
-  pub long : 16 ≤ length input
-  pub zeros : body_size kind ≡ 4 → word_at input 12 ≡ 0
-  pub small : kind ≡ bool_kind → word_at input 8 < 2
-
-pub sized_front : (input rest : List ℕ) → IsBytes input → (c : BeginsCanonical input rest) → IsSized c.value → SizedFront input
-sized_front input rest h c z =
-    let m = made_front input rest h c in
-    let x = z.0 in
-    let k = kind_of x in
-    let body = body_of input in
-    let is : IsFixedBody k body x = subst (λ v. IsBody v body) z.1 m.its_body in
-    let size : word_at input 0 ≡ body_size k = sym (length-body_of input m.there) ∙ is.whole in
-    let same : body ≡ fixed_body x = m.same ∙ ap encoded_body z.1 in
-    let whole = m.there.whole in
-    record {
-      kind = k;
-      its_type = m.its_type ∙ ap type_of z.1;
-      its_size = size;
-      sizes = four_or_eight k z.2;
-      long = let some = z.2 in omega arith;
-      zeros = λ e.
-          let p : take 4 (drop 4 (drop 8 input)) ≡ replicate 4 0 = subst (HasZeros (drop 8 input)) (is.whole ∙ e) m.zeros in
-          sym (word_at-drop 12 0 input) ∙ zero_word (drop 12 input) (ap (take 4) (sym (drop-drop 4 8 input)) ∙ p);
-      small = λ e.
-          let four : word_at input 0 ≡ 4 = size ∙ ap body_size e in
-          let there : word_at body 0 ≡ word_at input 8 = word_at-take (word_at input 0) 0 (drop 8 input) (omega arith) ∙ word_at-drop 8 0 input in
-          subst (λ n. n < 2) (ap (λ b. word_at b 0) (sym same) ∙ there) (small_truth x body (is.says ∙ ap (λ j. content j body) e));
-    }
 
 -- the first of the truth values that are written as they are read, and the others
 pub record MadeBools (b : List ℕ) : Type 0 where

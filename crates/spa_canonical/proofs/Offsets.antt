@@ -8,7 +8,7 @@ use Rattle.spa_format.specs.Front.{Begins, rest_of}
 use Rattle.spa_bytes.specs.Opening.{Opens}
 use Rattle.spa_bodies.specs.Reading.{BeginsWith}
 use Rattle.spa_events.specs.Inside.{IsBehindKey, IsInside, key_size}
-use Rattle.spa_canonical.specs.Offsets.{StandsAt, first_member, first_value, from_members, from_pod, from_properties, in_object, in_struct, next_member, next_property, scope_of}
+use Rattle.spa_canonical.specs.Look.{StandsAt, first_member, first_value, from_members, from_pod, from_properties, in_object, in_struct, next_member, next_property, scope_of}
 use Rattle.spa_canonical.proofs.Lengths.{lengths}
 
 pub key_long : (keyed : Bool) (left here : List ℕ) → IsBehindKey keyed left here → length left ≡ key_size keyed + length here

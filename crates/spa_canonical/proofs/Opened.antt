@@ -1,6 +1,5 @@
 -- Canonical pods, opened: what is in their bodies, and what is left behind them.
 use Rattle.std.proofs.Common.{◌≡◌, ℕ, ◌<◌, List, length, drop, sym, ap, ◌∙◌, subst, arith, length-append}
-use Rattle.std.specs.Prelude.{IfNone, None, Option, Some}
 use Rattle.spa_format.specs.Words.{word_at, word_bytes, wide_bytes}
 use Rattle.spa_format.specs.Tree.{struct_type, object_type, pointer_type}
 use Rattle.spa_format.specs.Pod.{IsBody}
@@ -13,11 +12,6 @@ use Rattle.spa_canonical.specs.Canonical.{AreCanonical, AreCanonicalProperties, 
 use Rattle.spa_canonical.specs.Depth.{AreShallow}
 use Rattle.spa_canonical.proofs.Made.{made_members}
 use Rattle.spa_canonical.proofs.Words.{behind_two_words}
-
--- what follows where an option holds none
-pub none_then : {X P Q : Type 0} (o : Option X) → IfNone o P → (P → Q) → IfNone o Q
-none_then None p f = f p
-none_then (Some x) p f = tt
 
 -- what is left behind the first
 pub shallow_rest : (levels : ℕ) (left rest : List ℕ) → IsBytes left → 0 < length left → rest ≡ rest_of left → AreShallow levels left → AreShallow levels rest

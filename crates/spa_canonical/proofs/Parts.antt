@@ -12,8 +12,15 @@ use Rattle.spa_format.specs.Typed.{IsBytes, IsCount}
 use Rattle.spa_format.proofs.WordLemmas.{IsBytes-drop, IsBytes-take, word_at-take}
 use Rattle.spa_format.proofs.FixedKinds.{same_kind}
 use Rattle.spa_format.proofs.Elements.{length_of_elements}
-use Rattle.spa_canonical.specs.Canonical.{AreCanonicalElements, IsCanonicalArray, IsCanonicalBody, IsCanonicalText, IsFixedLen, bytes_taken}
+use Rattle.spa_canonical.specs.Canonical.{AreCanonicalElements, IsCanonicalBody, IsCanonicalText, bytes_taken}
 use Rattle.spa_canonical.proofs.Words.{content_kept, two_words_then}
+
+-- the body of an array that is as its elements are written
+pub record IsCanonicalArray (b : List ℕ) : Type 0 where
+  pub kind : Kind
+  pub values : List Fixed
+  pub its_array : IsArray kind values b
+  pub same : b ≡ array_body kind values
 
 -- one more element
 pub one_element : (k : Kind) (b : List ℕ) → IsBytes b → 0 < body_size k → body_size k ≤ length b → (k ≡ bool_kind → word_at b 0 < 2) → AreCanonicalElements k (drop (body_size k) b) → AreCanonicalElements k b
@@ -56,16 +63,6 @@ array_body_of b a = record { value = array a.kind a.values; its_type = refl; its
 
 pub text_body_of : (type : ℕ) (b : List ℕ) → type ≡ string_type → IsCanonicalText b → IsCanonicalBody type b
 text_body_of type b t s = record { value = string s.0; its_type = sym t; its_body = (s.1, s.2); same = s.2 }
-
--- an array whose sizes are right
-pub array_found : (body elements : List ℕ) (number size : ℕ) → IsBytes body → 8 ≤ length body → number ≡ word_at body 4 → size ≡ word_at body 0 → IsFixedLen number size → elements ≡ drop 8 body → ((k : Kind) → number ≡ type_number k → size ≡ body_size k → AreCanonicalElements k elements) → IsCanonicalArray body
-array_found body elements number size h l n s f d c =
-    let k = f.0 in
-    array_of k body h l (sym s ∙ f.2) (sym n ∙ f.1) (subst (AreCanonicalElements k) d (c k f.1 f.2))
-
-pub elements_found : (k : Kind) (number size : ℕ) (b : List ℕ) → IsBytes b → number ≡ type_number k → size ≡ body_size k → number ≢ 2 → 0 < size → length b ≡ length b / size * size → AreCanonicalElements k b
-elements_found k number size b h n s f p l =
-    whole_elements k (length b / size) b h (λ e. f (n ∙ ap type_number e)) (omega arith) (l ∙ ap (λ x. length b / size * x) s)
 
 pub bools_found : (k : Kind) (number : ℕ) (b : List ℕ) → number ≡ type_number k → number ≡ 2 → AreCanonicalElements bool_kind b → AreCanonicalElements k b
 bools_found k number b n e c = subst (λ y. AreCanonicalElements y b) (same_kind bool_kind k (sym e ∙ n)) c

@@ -1,13 +1,12 @@
 -- Pods that become their rewritings where they lie.
-use Rattle.std.proofs.Common.{◌≡◌, ℕ, ◌+◌, ◌≤◌, List, ◌++◌, length, drop, take, sym, ap, ◌∙◌, subst, arith, append_assoc}
-use Rattle.std.proofs.lemmas.List.{drop-take, length-take-le, take-take}
-use borrow.Rule.Slice.PartMut.{put_mid}
+use Rattle.std.proofs.Common.{◌≡◌, ℕ, ◌≤◌, List, ◌++◌, length, drop, take, sym, ap, ◌∙◌, subst, arith, append_assoc}
+use Rattle.std.proofs.lemmas.List.{length-take-le, take-take, take_at}
 use Rattle.spa_format.specs.Words.{padding, word_at, word_bytes}
 use Rattle.spa_format.specs.Tree.{Tree, type_of}
 use Rattle.spa_format.specs.Pod.{IsBody, IsPod}
 use Rattle.spa_format.specs.Encoding.{encoded_pod}
 use Rattle.spa_format.specs.Typed.{IsBytes}
-use Rattle.spa_format.proofs.WordLemmas.{IsBytes-drop, IsBytes-take, word_at-take}
+use Rattle.spa_format.proofs.WordLemmas.{IsBytes-take, word_at-take}
 use Rattle.spa_canonical.proofs.Words.{two_words_back}
 use Rattle.spa_canonical.specs.Emit.{IsPodOf}
 use Rattle.spa_canonical.proofs.Lengths.{lengths}
@@ -28,15 +27,10 @@ pod_again pod x type size h p e =
     ap (λ y. y ++ (x ++ padding size)) words ∙ append_assoc (word_bytes size) (word_bytes type) (x ++ padding size)
     ∙ ap (λ n. word_bytes n ++ (word_bytes type ++ (x ++ padding n))) (sym e)
 
--- the first bytes of what was bytes
-pub front_bytes : (m n : ℕ) (b : List ℕ) → m ≤ n → IsBytes (take n b) → IsBytes (take m b)
-front_bytes m n b l h = subst IsBytes (take-take m n b l) (IsBytes-take m (take n b) h)
-
-pub behind_bytes : (m n k : ℕ) (b : List ℕ) → k ≡ m + n → IsBytes (take k b) → IsBytes (take n (drop m b))
-behind_bytes m n k b e h = subst IsBytes (ap (λ i. drop m (take i b)) e ∙ drop-take m n b) (IsBytes-drop m (take k b) h)
-
-pub length_put : (a k : ℕ) (xs ys : List ℕ) → a + k ≤ length xs → length ys ≡ k → length (put_mid a k xs ys) ≡ length xs
-length_put a k xs ys l e = omega lengths
+-- the first bytes of what others are behind
+pub front_bytes : (new pod rest : List ℕ) (n m : ℕ) → n ≤ m → m ≤ length pod → IsBytes new → new ≡ take m pod ++ rest → IsBytes (take n pod)
+front_bytes new pod rest n m l r h e =
+    subst IsBytes (ap (take n) (ap (take m) e ∙ take_at (take m pod) rest m (length-take-le m pod r)) ∙ take-take n m pod l) (IsBytes-take n (take m new) (IsBytes-take m new h))
 
 -- what a pod says of its body
 pub record SaysBody (pod : List ℕ) (type size : ℕ) (v : Tree) : Type 0 where

@@ -13,9 +13,8 @@ use Rattle.spa_format.proofs.Fronts.{front_of_whole}
 use Rattle.spa_format.proofs.Shapes.{object_only, struct_only}
 use Rattle.spa_format.proofs.WordLemmas.{IsBytes-drop, IsBytes-take}
 use Rattle.spa_events.specs.Inside.{key_size}
-use Rattle.spa_canonical.specs.Emit.{ArePlaced, HoldsWhole, IsPlaced, IsPodOf, type_inside}
+use Rattle.spa_canonical.specs.Emit.{ArePlaced, IsPlaced, IsPodOf, type_inside}
 use Rattle.spa_canonical.proofs.Patches.{says_body, two_words_of}
-use Rattle.spa_canonical.proofs.ShorterLemmas.{whole_keyed, whole_list}
 use Rattle.spa_canonical.proofs.Lengths.{lengths}
 
 -- no padding is behind bodies of pods
@@ -65,13 +64,12 @@ object_placed pod inner size h p z q = λ v w.
     (ap (λ y. y ++ e) words ∙ append_assoc (word_bytes t) (word_bytes i) e ∙ sym (append-nil x) ∙ ap (λ y. x ++ y) (sym (no_padding (length x) (omega lengths))))
     ∙ ap encoding_of (sym o.3)
 
-pub inner_placed : (keyed : Bool) (pod inner : List ℕ) (type size : ℕ) → IsBytes pod → IsPodOf pod type size → HoldsWhole type size keyed →
+pub inner_placed : (keyed : Bool) (pod inner : List ℕ) (size : ℕ) → IsBytes pod → IsPodOf pod (type_inside keyed) size → size % 8 ≡ 0 →
     ArePlaced keyed (drop (8 + key_size keyed) pod) inner →
     IsPlaced pod ((word_bytes (key_size keyed + length inner) ++ word_bytes (type_inside keyed)) ++ (take (key_size keyed) (drop 8 pod) ++ inner))
-inner_placed false pod inner type size h p w q =
-    subst (λ n. IsPlaced pod ((word_bytes n ++ word_bytes struct_type) ++ inner)) (omega arith)
-    (struct_placed pod inner size (subst (λ t. IsPodOf pod t size) w.holds p) w.whole q)
-inner_placed true pod inner type size h p w q = object_placed pod inner size h (subst (λ t. IsPodOf pod t size) w.holds.0 p) w.whole q
+inner_placed false pod inner size h p w q =
+    subst (λ n. IsPlaced pod ((word_bytes n ++ word_bytes struct_type) ++ inner)) (omega arith) (struct_placed pod inner size p w q)
+inner_placed true pod inner size h p w q = object_placed pod inner size h p w q
 
 -- the first pod of some, and the others
 members_placed : (b pod others : List ℕ) → HasFront b → IsPlaced (front_of b) pod → ArePlaced false (rest_of b) others →
@@ -119,21 +117,3 @@ none_placed true b n = λ ps m. no_property b n ps m
 
 pub few_placed : (keyed : Bool) (b : List ℕ) → length b < key_size keyed + 8 → ArePlaced keyed b []
 few_placed keyed b l = none_placed keyed b (λ f. let h = f.header in let d = length-drop (key_size keyed) b in absurd (omega arith))
-
--- a struct or an object that no value says
-pub no_struct : (pod : List ℕ) (size : ℕ) → IsPodOf pod struct_type size → ((keyed : Bool) → ¬ (HoldsWhole struct_type size keyed)) → IsPlaced pod []
-no_struct pod size p n = λ v w.
-    let b = says_body pod struct_type size v p w in
-    let o = struct_only v b.its_type in
-    let m : AreMembers o.0 (take size (drop 8 pod)) = subst (λ x. IsBody x (take size (drop 8 pod))) o.1 b.its_body in
-    let z = whole_list o.0 (take size (drop 8 pod)) m in
-    absurd (n false (record { holds = refl; whole = omega arith }))
-
-pub no_object : (pod : List ℕ) (size : ℕ) → IsPodOf pod object_type size → ((keyed : Bool) → ¬ (HoldsWhole object_type size keyed)) → IsPlaced pod []
-no_object pod size p n = λ v w.
-    let b = says_body pod object_type size v p w in
-    let o = object_only v b.its_type in
-    let body = take size (drop 8 pod) in
-    let m : IsBody (object o.0 o.1 o.2) body = subst (λ x. IsBody x body) o.3 b.its_body in
-    let z = whole_keyed o.2 (drop 8 body) m.3 in
-    absurd (n true (record { holds = (refl, omega lengths); whole = omega lengths }))

@@ -1,11 +1,10 @@
 -- Pods whose rewritings may be shorter than they are.
-use Rattle.std.proofs.Common.{◌≡◌, ◌≢◌, ℕ, ◌+◌, ◌*◌, ◌/◌, ◌-◌, ◌<◌, ◌≤◌, inl, inr, List, ◌++◌, length, drop, refl, sym, ap, ◌∙◌, subst, arith, append_assoc, length-append, ◌%◌}
+use Rattle.std.proofs.Common.{◌≡◌, ◌≢◌, ℕ, ◌+◌, ◌<◌, ◌≤◌, inl, inr, List, ◌++◌, length, drop, refl, sym, ap, ◌∙◌, subst, arith, append_assoc, length-append, ◌%◌}
 use Rattle.std.specs.Prelude.{Bool, true, false, max}
 use Rattle.std.proofs.lemmas.List.{append-nil, nil_from_length}
 use Rattle.spa_format.specs.Words.{body_of, extent, padded_size, word_at}
 use Rattle.spa_format.specs.Kind.{kind_of}
 use Rattle.spa_format.specs.Tree.{Tree, fixed, string, bytes, bitmap, array, choice, pointer, struct, object, Trees, no_trees, member, Properties, no_properties, property, join_members, choice_type, type_of}
-use Rattle.spa_format.specs.Normal.{kept_flags}
 use Rattle.spa_format.specs.Pod.{AreMembers, AreProperties, IsBody, IsPod}
 use Rattle.spa_format.specs.Encoding.{encoded_body, encoding_of, property_encodings}
 use Rattle.spa_format.specs.Front.{HasFront, front_of, rest_of}
@@ -19,12 +18,11 @@ use Rattle.spa_bytes.specs.Opening.{Opens}
 use Rattle.spa_bodies.proofs.Steps.{pod_read}
 use Rattle.spa_canonical.specs.Canonical.{AreCanonical, IsFixedLen}
 use Rattle.spa_canonical.specs.Depth.{depth_of, member_depth}
-use Rattle.spa_canonical.specs.Elements.{HasValues}
-use Rattle.spa_canonical.specs.Shorter.{ArePodsWithin, AreShorter, AreShorterInside, BeginsShorter, IsShorterBody}
+use Rattle.spa_canonical.specs.Rewriting.{ArePodsWithin, AreShorter, AreShorterInside, BeginsShorter, IsShorterBody}
 use Rattle.spa_events.specs.Inside.{IsBehindKey, IsInside}
 use Rattle.spa_format.proofs.Sequences.{members_joined}
 use Rattle.spa_canonical.proofs.Stretches.{member_encodings-join}
-use Rattle.spa_canonical.proofs.SameLength.{as_long, kept_length, fixed_same_length}
+use Rattle.spa_canonical.proofs.SameLength.{as_long, fixed_same_length}
 use Rattle.spa_canonical.proofs.Rewritten.{alone, parted}
 use Rattle.spa_canonical.proofs.Lengths.{lengths}
 
@@ -185,18 +183,7 @@ same_padded (pointer t a) b w z n = elim w.1 [
 same_padded (struct vs) b w z n = absurd (omega arith)
 same_padded (object t i ps) b w z n = absurd (omega arith)
 
-pub leaf_same_length : (type : ℕ) (body : List ℕ) (v : Tree) → type_of v ≡ type → depth_of v ≡ 0 → IsBody v body → type ≢ choice_type →
-    (s : IsShorterBody type body 0) × (depth_of s.value ≡ 0)
-leaf_same_length type body v e z b n =
-    let s : IsShorterBody type body 0 = record { value = v; its_type = e; its_body = b; long = as_long _ _ (same_padded v body b z (λ c. n (sym e ∙ c))) } in
-    (s, z)
-
--- a choice
-pub shorter_choice : (body kept : List ℕ) (n : ℕ) → HasValues body kept → n ≡ ((length body + 7) / 8 - (16 + length kept + 7) / 8) * 8 →
-    IsShorterBody choice_type body n
-shorter_choice body kept n h e =
-    let k = h.kind in
-    let s = h.shape in
-    let f = kept_flags s (word_at body 4) in
-    let size : length (encoded_body (choice s f k h.default h.values)) ≡ 16 + length kept = kept_length body kept h in
-    record { value = choice s f k h.default h.values; its_type = refl; its_body = h.its_choice; long = omega arith }
+-- a body without pods, of another type than a choice's
+pub shorter_leaf : (type : ℕ) (body : List ℕ) (v : Tree) → type_of v ≡ type → IsBody v body → depth_of v ≡ 0 → type ≢ choice_type → IsShorterBody type body 0
+shorter_leaf type body v e b z n =
+    record { value = v; its_type = e; its_body = b; long = as_long _ _ (same_padded v body b z (λ c. n (sym e ∙ c))) }

@@ -1,5 +1,5 @@
 -- The bodies of truth values.
-use Rattle.std.proofs.Common.{◌≡◌, ℕ, ◌+◌, ◌*◌, ◌<◌, ◌≤◌, List, [], ◌∷◌, ◌++◌, length, drop, take, refl, sym, ap, ◌∙◌, subst, arith}
+use Rattle.std.proofs.Common.{◌≡◌, ℕ, ◌+◌, ◌%◌, ◌<◌, ◌≤◌, List, [], ◌∷◌, ◌++◌, length, drop, take, refl, sym, ap, ◌∙◌, subst, arith}
 use Rattle.std.proofs.Math.Seq.{take-add}
 use Rattle.std.proofs.lemmas.List.{drop-drop, take_all}
 use Rattle.std.proofs.lemmas.Slice.{drop-put_mid, take-put_mid}
@@ -9,13 +9,12 @@ use Rattle.spa_format.specs.Pod.{AreElements}
 use Rattle.spa_format.specs.Encoding.{fixed_bodies}
 use Rattle.spa_format.proofs.Elements.{bodies_push, elements_push}
 use Rattle.spa_fixed_sized.specs.Reading.{AreWhole}
-use Rattle.spa_canonical.specs.Elements.{AreTruths}
+use Rattle.spa_canonical.specs.Look.{AreTruths}
 use Rattle.spa_canonical.proofs.Lengths.{lengths}
 
 -- the first words are as they are written, and the others as they were
 pub record AreTurned (old now : List ℕ) (at : ℕ) : Type 0 where
-  pub count : ℕ
-  pub place : at ≡ count * 4
+  pub whole : at % 4 ≡ 0
   pub within : at ≤ length old
   pub values : List Fixed
   pub its_values : AreElements bool_kind values (take at old)
@@ -24,7 +23,7 @@ pub record AreTurned (old now : List ℕ) (at : ℕ) : Type 0 where
   pub long : length now ≡ length old
 
 pub none_turned : (old : List ℕ) → AreTurned old old 0
-none_turned old = record { count = 0; place = refl; within = omega arith; values = []; its_values = refl; bodies = refl; rest = refl; long = refl }
+none_turned old = record { whole = refl; within = omega arith; values = []; its_values = refl; bodies = refl; rest = refl; long = refl }
 
 pub one_turned : (old now piece word : List ℕ) (x : Fixed) (at k n : ℕ) → AreTurned old now at → AreWhole 4 old → at < length now →
     word ≡ take k (drop at now) → k ≡ 4 → x ≡ content bool_kind word → piece ≡ fixed_body x → n ≡ at + 4 → length piece ≡ k →
@@ -35,8 +34,7 @@ one_turned old now piece word x at k n h w l e four c p m long same =
     let more : take n old ≡ take at old ++ word = ap (λ i. take i old) m ∙ take-add at 4 old ∙ ap (λ y. take at old ++ y) (sym here) in
     let size = ap length here in
     record {
-      count = h.count + 1;
-      place = omega arith;
+      whole = omega arith;
       within = omega arith;
       values = h.values ++ x ∷ [];
       its_values = subst (AreElements bool_kind (h.values ++ x ∷ [])) (sym more)
@@ -49,8 +47,8 @@ one_turned old now piece word x at k n h w l e four c p m long same =
     }
 
 pub all_turned : (old now : List ℕ) (at : ℕ) → AreTurned old now at → length now ≤ at → AreTruths old now
-all_turned old now at h l = record {
-  values = h.values;
-  its_values = subst (AreElements bool_kind h.values) (take_all at old (omega arith)) h.its_values;
-  bodies = sym (take_all at now (omega arith)) ∙ h.bodies;
-}
+all_turned old now at h l = (
+  h.values,
+  subst (AreElements bool_kind h.values) (take_all at old (omega arith)) h.its_values,
+  sym (take_all at now (omega arith)) ∙ h.bodies,
+)

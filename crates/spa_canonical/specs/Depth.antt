@@ -1,24 +1,18 @@
 -- How deep structs and objects stand in one another, in a value and in any bytes: docs/FORMAT.md, "Values", "Walks over views".
-use Rattle.std.specs.Prelude.{◌≡◌, ℕ, suc, zero, ◌+◌, ◌≤◌, ◌⊎◌, Bool, true, List, [], ◌∷◌, drop, max}
+use Rattle.std.specs.Prelude.{ℕ, suc, zero, ◌+◌, ◌≤◌, ◌⊎◌, Bool, List, [], ◌∷◌, drop, max}
 use Rattle.spa_format.specs.Words.{body_of, word_at}
 use Rattle.spa_format.specs.Front.{HasFront}
 use Rattle.spa_format.specs.Walk.{walk_behind}
-use Rattle.spa_format.specs.Tree.{Tree, fixed, string, bytes, bitmap, array, choice, pointer, struct, object, Trees, no_trees, member, Properties, no_properties, property}
+use Rattle.spa_format.specs.Tree.{Tree, struct, object, Trees, no_trees, member, Properties, no_properties, property}
 use Rattle.spa_events.specs.Inside.{IsContainer, IsInside, key_size}
-use Rattle.spa_canonical.specs.Canonical.{AreCanonical, IsCanonicalBody, IsSized}
+use Rattle.spa_canonical.specs.Canonical.{AreCanonical}
 
 -- One for a struct or an object, and what its deepest member or property has. No other value holds pods.
 abbrev mutual
   pub depth_of : Tree → ℕ
-  depth_of (fixed x) = 0
-  depth_of (string s) = 0
-  depth_of (bytes s) = 0
-  depth_of (bitmap s) = 0
-  depth_of (array k xs) = 0
-  depth_of (choice s f k x xs) = 0
-  depth_of (pointer t a) = 0
   depth_of (struct vs) = 1 + member_depth vs
   depth_of (object t i ps) = 1 + property_depth ps
+  depth_of _ = 0
 
   pub member_depth : Trees → ℕ
   member_depth no_trees = 0
@@ -53,10 +47,6 @@ IsDeepBody (suc n) type body = (keyed : Bool) × (inside : List ℕ) × IsInside
 -- how many levels of a pod are looked into
 abbrev pub levels_looked_into : ℕ
 levels_looked_into = 1000
-
--- the answer is true of such a canonical body, unless its value is of a kind of fixed size, a struct or an object
-abbrev pub FindsOther : ℕ → List ℕ → Bool → Type 0
-FindsOther type body found = (c : IsCanonicalBody type body) → depth_of c.value ≡ 0 → ¬ (IsSized c.value) → found ≡ true
 
 -- canonical pods one after another that nest in so many levels at most
 pub record AreShallow (levels : ℕ) (body : List ℕ) : Type 0 where

@@ -1,30 +1,107 @@
 -- What a look at pods finds: docs/FORMAT.md, "The encoding of a value", "Faults" and "Values".
-use Rattle.std.specs.Prelude.{◌≡◌, ◌+◌, ◌-◌, ◌<◌, ◌≤◌, ℕ, List, length, drop, take, Bool, true, false, Decides}
+use Rattle.std.specs.Prelude.{◌≡◌, ◌+◌, ◌-◌, ◌<◌, ◌≤◌, ℕ, List, length, drop, take, Bool, true, false, Decides, ◌≢◌, Option, None, Some, []}
 use Rattle.spa_fixed_sized.specs.declared.fault.Refusal.{Refusal}
-use Rattle.spa_format.specs.Front.{Begins, IsRefused}
-use Rattle.spa_format.specs.Pod.{AreMembers}
-use Rattle.spa_format.specs.Tree.{Tree, Trees}
-use Rattle.spa_format.specs.Words.{header_size}
-use Rattle.spa_format.specs.Faults.{Fault, StandsAtFront}
+use Rattle.spa_format.specs.Front.{Begins, IsRefused, HasFront, rest_of}
+use Rattle.spa_format.specs.Pod.{AreMembers, AreElements}
+use Rattle.spa_format.specs.Tree.{Tree, Trees, Shape, shape_number, object_type, struct_type}
+use Rattle.spa_format.specs.Words.{header_size, body_of, extent, word_at}
+use Rattle.spa_format.specs.Faults.{Fault, StandsAtFront, Short, Stands}
 use Rattle.spa_format.specs.Opened.{OpensHeaderAlone}
 use Rattle.spa_format.specs.Typed.{IsBytes}
 use Rattle.spa_bytes.specs.Opening.{Opens}
-use Rattle.spa_bodies.specs.Refusing.{Says, StandsInMembers, StandsInProperties}
-use Rattle.spa_canonical.specs.Canonical.{AreCanonical, AreCanonicalProperties, BeginsCanonical, IsSized, MissesOnly}
+use Rattle.spa_bodies.specs.Refusing.{Says, StandsInMembers, StandsInProperties, StandsInBody}
+use Rattle.spa_canonical.specs.Canonical.{AreCanonical, AreCanonicalProperties, BeginsCanonical, AreCanonicalElements, IsCanonicalBody, bytes_taken}
 use Rattle.spa_canonical.specs.Depth.{NestsDeeper, NestsDeeperInside, depth_of, levels_looked_into}
-use Rattle.spa_canonical.specs.Shorter.{AreShorter, AreShorterInside, BeginsShorter}
-use Rattle.spa_events.specs.Inside.{IsBehindKey, IsInside, key_size}
-use Rattle.spa_canonical.specs.Offsets.{IsFaultAt, StandsAt, scope_of}
+use Rattle.spa_canonical.specs.Rewriting.{AreShorter, AreShorterInside, BeginsShorter, IsShorterBody}
+use Rattle.spa_events.specs.Inside.{IsBehindKey, IsInside, key_size, HoldsPods}
 use Rattle.spa_canonical.specs.declared.inside.Found.{Found}
-use Rattle.spa_canonical.specs.declared.inside.Found.TheVariants as found
 use Rattle.spa_canonical.specs.declared.inside.Met.{Met}
-use Rattle.spa_canonical.specs.declared.inside.Met.TheVariants as met
 use Rattle.spa_canonical.specs.declared.look.AcceptedPod.{AcceptedPod}
 use Rattle.spa_canonical.specs.declared.look.AcceptedPods.{AcceptedPods}
 use Rattle.spa_canonical.specs.declared.look.FrontLook.{FrontLook}
-use Rattle.spa_canonical.specs.declared.look.FrontLook.TheVariants as front
 use Rattle.spa_canonical.specs.declared.look.Rejected.{Rejected}
+use Rattle.spa_fixed_sized.specs.Reading.{AreWhole}
+use Rattle.spa_format.specs.Kind.{Kind, Fixed, body_size, bool_kind, type_number}
+use Rattle.spa_format.specs.Normal.{kept_flags}
+use Rattle.spa_format.specs.Encoding.{fixed_bodies}
+use Rattle.spa_canonical.specs.declared.inside.Found.TheVariants as found
+use Rattle.spa_canonical.specs.declared.inside.Met.TheVariants as met
+use Rattle.spa_canonical.specs.declared.look.FrontLook.TheVariants as front
 use Rattle.spa_canonical.specs.declared.look.Rejected.TheVariants as rejected
+use Rattle.spa_fixed_sized.specs.declared.fault.Refusal.TheVariants as refusal
+
+-- what an offset counts from the front of: a pod, members, or properties
+pub data Scope : Type 0 where
+  from_pod : Scope
+  from_members : Scope
+  from_properties : Scope
+
+-- The fault stands at this offset. The pods before it are accepted, or hold it.
+pub data StandsAt (k : Fault) : Scope → ℕ → List ℕ → Type 0 where
+  at_pod : (b : List ℕ) → StandsAtFront k b → StandsAt k from_pod 0 b
+  in_struct : (at : ℕ) (b : List ℕ) → HasFront b → word_at b 4 ≡ struct_type → StandsAt k from_members at (body_of b) →
+      StandsAt k from_pod (header_size + at) b
+  in_object : (at : ℕ) (b : List ℕ) → HasFront b → word_at b 4 ≡ object_type → header_size ≤ length (body_of b) →
+      StandsAt k from_properties at (drop header_size (body_of b)) → StandsAt k from_pod (header_size + header_size + at) b
+  first_member : (at : ℕ) (b : List ℕ) → b ≢ [] → StandsAt k from_pod at b → StandsAt k from_members at b
+  next_member : (at : ℕ) (b : List ℕ) (v : Tree) → Begins b v → StandsAt k from_members at (rest_of b) →
+      StandsAt k from_members (extent (word_at b 0) + at) b
+  at_key : (b : List ℕ) → b ≢ [] → length b < header_size → k ≡ Short → StandsAt k from_properties 0 b
+  first_value : (at : ℕ) (b : List ℕ) → header_size ≤ length b → StandsAt k from_pod at (drop header_size b) →
+      StandsAt k from_properties (header_size + at) b
+  next_property : (at : ℕ) (b : List ℕ) (v : Tree) → header_size ≤ length b → Begins (drop header_size b) v →
+      StandsAt k from_properties at (rest_of (drop header_size b)) →
+      StandsAt k from_properties (header_size + extent (word_at (drop header_size b) 0) + at) b
+
+-- an offset in properties, or in members
+abbrev pub scope_of : Bool → Scope
+scope_of true = from_properties
+scope_of false = from_members
+
+-- The refusal names a fault of the pod at the front, which is refused for it: the fault stands at this place in it, and at this offset.
+pub record IsFaultAt (input place : List ℕ) (at : ℕ) (why : Refusal) : Type 0 where
+  pub refused : IsRefused input
+  pub stands : Says (λ k. Stands k place input) ⊥ why
+  pub offset : Says (λ k. StandsAt k from_pod at input) ⊥ why
+  pub within : at ≤ length input
+
+-- bodies of the kind of this type and size, which are as their values are written, where that is asked
+pub record AreElementsOf (canonical : Bool) (type size : ℕ) (elements : List ℕ) : Type 0 where
+  pub kind : Kind
+  pub its_type : type ≡ type_number kind
+  pub its_size : size ≡ body_size kind
+  pub whole : AreWhole (body_size kind) elements
+  pub own : canonical ≡ true → AreCanonicalElements kind elements
+
+-- They aren't: there is no such kind, or it has another size, or the last one isn't whole. None: they aren't as their values are written, where that is asked.
+abbrev pub AreNoElementsOf : Bool → ℕ → ℕ → List ℕ → Option Refusal → Type 0
+AreNoElementsOf canonical type size elements (Some refusal.InvalidType) = (k : Kind) → type ≢ type_number k
+AreNoElementsOf canonical type size elements (Some refusal.WrongSize) = (k : Kind) × (type ≡ type_number k) × (size ≡ body_size k → ¬ (AreWhole size elements))
+AreNoElementsOf canonical type size elements (Some _) = ⊥
+AreNoElementsOf canonical type size elements None = (canonical ≡ true) × ((k : Kind) → type ≡ type_number k → ¬ (AreCanonicalElements k elements))
+
+-- a choice of this shape keeps its flags, and takes all the bytes of its values, which are some
+pub record TakesAll (shape flags size all : ℕ) : Type 0 where
+  pub its_shape : Shape
+  pub number : shape ≡ shape_number its_shape
+  pub keeps : kept_flags its_shape flags ≡ flags
+  pub taken : bytes_taken its_shape size all ≡ all
+  pub some : 0 < all
+
+-- the body, which holds no pods, is accepted, and canonical where that is asked: the encoding of its pod is so many bytes shorter
+pub record IsLeafBody (canonical : Bool) (type : ℕ) (body : List ℕ) (surplus : ℕ) : Type 0 where
+  pub shorter : IsShorterBody type body surplus
+  pub own : canonical ≡ true → IsCanonicalBody type body
+
+-- It isn't, for this fault. None: it isn't canonical, where that is asked, or the type is that of a container.
+abbrev pub IsNoLeafBody : Bool → ℕ → List ℕ → Option Refusal → Type 0
+IsNoLeafBody canonical type body (Some why) = Says (StandsInBody type body) ⊥ why
+IsNoLeafBody canonical type body None =
+    (canonical ≡ false → (keyed : Bool) × HoldsPods type (length body) keyed) × ((c : IsCanonicalBody type body) → 0 < depth_of c.value)
+
+-- bodies of truth values, and these as they are written
+abbrev pub AreTruths : (words written : List ℕ) → Type 0
+AreTruths words written = (values : List Fixed) × AreElements bool_kind values words × (written ≡ fixed_bodies values)
 
 -- properties that are as their values are written, or members
 abbrev pub AreCanonicalInside : Bool → List ℕ → Type 0
@@ -88,16 +165,12 @@ pub record BeginsAsked (canonical : Bool) (input rest : List ℕ) (surplus : ℕ
 
 -- No such pod that holds no others is at the front.
 pub record IsNoLeaf (canonical : Bool) (here : List ℕ) : Type 0 where
-  pub differs : canonical ≡ true → MissesOnly here (λ v. 0 < depth_of v)
+  pub differs : canonical ≡ true → (rest : List ℕ) (c : BeginsCanonical here rest) → 0 < depth_of c.value
   pub refused : canonical ≡ false → (v : Tree) → Begins here v → 0 < depth_of v
 
 -- none is the first of these
 abbrev pub StopsBefore : Bool → Bool → List ℕ → Type 0
 StopsBefore keyed canonical left = (here : List ℕ) → IsBehindKey keyed left here → IsNoLeaf canonical here
-
--- no canonical pod of fixed size is
-abbrev pub StopsBeforeSized : Bool → Bool → List ℕ → Type 0
-StopsBeforeSized keyed canonical left = canonical ≡ true → (here : List ℕ) → IsBehindKey keyed left here → MissesOnly here (λ v. ¬ (IsSized v))
 
 -- keys and headers stand before what is inside the first of them, and so many bytes behind it
 abbrev pub Surround : Bool → List ℕ → Bool → List ℕ → ℕ → Type 0
@@ -140,6 +213,5 @@ pub record AreChanged (pods : List ℕ) (changed : ℕ) : Type 0 where
 
 -- and the encodings are so much shorter
 pub record AreAccepted (pods : List ℕ) (all : AcceptedPods) : Type 0 where
-  pub within : all.changed ≤ length pods
+  pub first : AreChanged pods all.changed
   pub shorter : AreShorter (take all.changed pods) all.surplus
-  pub canonical : AreCanonical (drop all.changed pods)

@@ -1,14 +1,14 @@
 //! Pods are replaced by their encodings where they are. It takes no memory and calls itself nowhere: the header of a container whose encoding is begun
 //! holds, until that is complete, where the container around it begins, and how much of that is left.
-ghost use Rattle.std.specs.Prelude.{[], ◌≡◌, ◌+◌, ◌-◌, ◌<◌, ◌≤◌, ◌++◌, Bool, IfNone, IfSome, drop, false, length, take};
+ghost use Rattle.std.specs.Prelude.{[], ◌≡◌, ◌+◌, ◌-◌, ◌/◌, ◌<◌, ◌≤◌, ◌++◌, Bool, IfNone, IfSome, drop, false, length, take};
 ghost use Rattle.spa_format.specs.Words.{header_size, size_limit, word_at, word_bytes};
 ghost use Rattle.spa_events.specs.Inside.{key_size};
-ghost use Rattle.spa_canonical.specs.Emit.{ArePlaced, Begins, Encodes, EncodesFirst, HoldsWhole, IsAround, IsLink, IsRun, last_bit, type_inside};
+ghost use Rattle.spa_canonical.specs.Emit.{ArePlaced, Begins, Encodes, EncodesFirst, HoldsWhole, IsAround, IsRun, type_inside};
 ghost use Rattle.spa_canonical.specs.Look.{AreChanged};
 ghost use Rattle.spa_canonical.specs.Rewriting.{AreRewritten};
 
-use crate::array::WORD_LEN;
-use crate::patch::{SECOND_HEADER, begins_word, clear_padding, encode_leaf};
+use crate::body::WORD_LEN;
+use crate::patch::{SECOND_HEADER, begins_word, clear_behind, encode_leaf};
 use spa_bytes::{HEADER_LEN, open, two_words, u32_at};
 use spa_events::{key_len, keyed_inside};
 use spa_utils::SpaTypes;
@@ -22,6 +22,8 @@ struct OpenList {
     end: usize,
     /// Where the header of the container that it is in ends, in the encodings.
     body: usize,
+    /// How many containers are begun around it.
+    depth: usize,
 }
 
 /// What follows pods that are replaced by their encodings.
@@ -68,8 +70,9 @@ fn emit(bytes: &mut [u8]) -> usize
         keyed: false,
         end: bytes.len(),
         body: 0,
+        depth: 0,
     };
-    let (mut depth, mut from, mut to) = (0, 0, 0);
+    let (mut from, mut to) = (0, 0);
     loop {
         let run = encode_leaves(list.keyed, &mut bytes[from..list.end]);
         move_down(from, run.kept, to, bytes);
@@ -78,19 +81,17 @@ fn emit(bytes: &mut [u8]) -> usize
         match run.after {
             After::More => {}
             After::Inner(inner, size) => {
-                let inside = begin(depth, list, inner, size, from, to, bytes);
+                let inside = begin(list, inner, size, from, to, bytes);
                 let head = inside.body + key_len(inner) - to;
                 from += head;
                 to += head;
-                depth += 1;
                 list = inside;
             }
             After::End => {
-                if depth == 0 {
+                if list.depth == 0 {
                     return to;
                 }
-                depth -= 1;
-                let around = list_around(depth, list, bytes);
+                let around = list_around(list, bytes);
                 put_words(
                     (to - list.body) as u32,
                     inner_type(list.keyed),
@@ -121,7 +122,7 @@ fn encode_leaves(keyed: bool, pods: &mut [u8]) -> Run
         let here = at + key_len(keyed);
         if begins_word(&pods[here..]) {
             at = here + SECOND_HEADER;
-            clear_padding(WORD_LEN, &mut pods[here..at]);
+            clear_behind(HEADER_LEN + WORD_LEN, &mut pods[here..at]);
             continue;
         }
         let Some(front) = open(&pods[here..]) else {
@@ -168,7 +169,6 @@ fn move_down(from: usize, len: usize, to: usize, bytes: &mut [u8])
 /// around it.
 #[inline(always)]
 fn begin(
-    depth: usize,
     list: OpenList,
     inner: bool,
     size: usize,
@@ -180,54 +180,60 @@ fn begin(
     requires within { from + key_size list.keyed + header_size + size ≤ list.end }
     requires key { key_size inner ≤ size }
     requires room { list.end ≤ length bytes.old }
-    requires back { 0 < depth → (list.body ≤ to) × (to + key_size list.keyed + header_size - list.body < size_limit) }
-    requires behind { 0 < depth → list.end - from < size_limit }
-    ensures { Begins depth list inner size from to bytes.old bytes.new result }
+    requires deep { list.depth ≤ to }
+    requires back { 0 < list.depth → (list.body ≤ to) × (to + key_size list.keyed + header_size - list.body < size_limit) }
+    requires behind { 0 < list.depth → list.end - from < size_limit }
+    ensures { Begins list inner size from to bytes.old bytes.new result }
 {
     let head = key_len(list.keyed) + HEADER_LEN;
     move_down(from, head + key_len(inner), to, bytes);
     let body = to + head;
     let end = from + head + size;
-    let (back, behind) = link_of(depth, list, body, end);
+    let (back, behind) = link_of(list, body, end);
     put_words(back, behind, body, bytes);
     OpenList {
         keyed: inner,
         end,
         body,
+        depth: list.depth + 1,
     }
 }
 
 /// The link from a container to the list around it: how far before its body the body of the container around it begins, and how many bytes of that list
 /// are left behind it, with 1 more where that list is keyed. The outermost list has no such container.
 #[inline(always)]
-fn link_of(depth: usize, list: OpenList, body: usize, end: usize) -> (u32, u32)
+#[tactic(auto, using(crate::proofs::Replacing::key_small))]
+fn link_of(list: OpenList, body: usize, end: usize) -> (u32, u32)
     requires end { end ≤ list.end }
-    requires back { 0 < depth → (list.body ≤ body) × (body - list.body < size_limit) }
-    requires behind { 0 < depth → list.end - end + 1 < size_limit }
-    ensures link { IsLink depth list body end result }
+    requires back { 0 < list.depth → (list.body ≤ body) × (body - list.body < size_limit) }
+    requires behind { 0 < list.depth → list.end - end + 1 < size_limit }
+    ensures link { 0 < list.depth → (result.0 ≡ body - list.body) × (result.1 ≡ list.end - end + key_size list.keyed / 8) }
     ensures small { (result.0 < size_limit) × (result.1 < size_limit) }
 {
-    if depth == 0 {
+    if list.depth == 0 {
         return (0, 0);
     }
-    let keyed = if list.keyed { 1 } else { 0 };
-    ((body - list.body) as u32, (list.end - end) as u32 + keyed)
+    let behind = list.end - end + key_len(list.keyed) / HEADER_LEN;
+    ((body - list.body) as u32, behind as u32)
 }
 
 /// The list around a container, by the link in its header.
 #[inline(always)]
-fn list_around(depth: usize, list: OpenList, bytes: &[u8]) -> OpenList
+fn list_around(list: OpenList, bytes: &[u8]) -> OpenList
+    requires deep { 0 < list.depth }
     requires header { header_size ≤ list.body }
     requires within { list.body ≤ length bytes.now }
-    requires back { 0 < depth → word_at bytes.now (list.body - header_size) ≤ list.body }
-    requires behind { 0 < depth → list.end + word_at bytes.now (list.body - 4) ≤ length bytes.now + 1 }
-    ensures { IsAround depth list bytes.now result }
+    requires back { 1 < list.depth → word_at bytes.now (list.body - header_size) ≤ list.body }
+    requires behind { 1 < list.depth → list.end + word_at bytes.now (list.body - 4) ≤ length bytes.now + 1 }
+    ensures { IsAround list bytes.now result }
 {
+    let depth = list.depth - 1;
     if depth == 0 {
         return OpenList {
             keyed: false,
             end: bytes.len(),
             body: 0,
+            depth,
         };
     }
     let back = u32_at(bytes, list.body - HEADER_LEN) as usize;
@@ -236,6 +242,7 @@ fn list_around(depth: usize, list: OpenList, bytes: &[u8]) -> OpenList
         keyed: behind % HEADER_LEN == 1,
         end: list.end + behind / HEADER_LEN * HEADER_LEN,
         body: list.body - back,
+        depth,
     }
 }
 

@@ -1,19 +1,17 @@
 //! Looks at pods: whether they are accepted, whether they are canonical, and how long their encodings are. They write nothing and call themselves
 //! nowhere, and take no memory.
-ghost use Rattle.std.specs.Prelude.{◌≡◌, ◌+◌, ◌<◌, ◌≤◌, ◌++◌, IfErr, IfNone, IfOk, IfSome, OnOk, [], length};
+ghost use Rattle.std.specs.Prelude.{◌≡◌, ◌+◌, ◌<◌, ◌≤◌, ◌++◌, IfErr, IfNone, IfOk, IfSome, List, OnOk, [], length, ℕ};
 ghost use Rattle.spa_format.specs.Front.{Begins, HasFront};
 ghost use Rattle.spa_format.specs.Pod.{AreMembers};
 ghost use Rattle.spa_format.specs.Tree.{Tree, Trees};
 ghost use Rattle.spa_canonical.specs.Look.{AreAccepted, AreChanged, IsAccepted, IsFrontLook, IsRejected};
 ghost use Rattle.spa_canonical.specs.declared.look.Rejected.TheVariants as rejected;
-ghost use Rattle.spa_canonical.specs.Rewriting.{IsLeft};
-ghost use Rattle.spa_canonical.specs.Shorter.{ArePodsWithin, BeginsShorter};
-ghost use Rattle.spa_canonical.specs.Canonical.{AreCanonical, BeginsCanonical, IsStretch, MissesOnly};
+ghost use Rattle.spa_canonical.specs.Rewriting.{ArePodsWithin, BeginsShorter, IsLeft};
+ghost use Rattle.spa_canonical.specs.Canonical.{AreCanonical, BeginsCanonical, IsStretch};
 ghost use Rattle.spa_canonical.specs.Depth.{AreShallow, NestsDeeper, depth_of, levels_looked_into};
 
-use crate::fault::fault;
-use crate::inside::{Found, Waiting, few_frames, look_inside, look_into, none_waiting};
-use crate::leaf::leaf;
+use crate::inside::{FEW, Found, Waiting, look_inside, look_into, none_waiting};
+use crate::leaf::{fault, leaf};
 use spa_bytes::{HEADER_LEN, open};
 use spa_events::inside_of;
 use spa_fixed_sized::Refusal;
@@ -69,7 +67,7 @@ pub fn look_at_pod(input: &[u8]) -> Result<AcceptedPod<'_>, Rejected<'_>>
     // Each pod of so many levels is accepted.
     ensures missed { IfErr result (λ _. (v : Tree) → Begins input.now v → levels_looked_into < depth_of v) }
 {
-    let mut frames = few_frames(input);
+    let mut frames = [none_waiting(input); FEW];
     match look_at_front(true, input, &mut frames) {
         FrontLook::Fits(rest, surplus) => Ok(AcceptedPod {
             rest,
@@ -98,7 +96,7 @@ pub fn look_at_pods(pods: &[u8]) -> Result<AcceptedPods, (&[u8], Rejected<'_>)>
     // Pods of so many levels are accepted.
     ensures missed { IfErr result (λ _. ¬ (ArePodsWithin levels_looked_into pods.now)) }
 {
-    let mut frames = few_frames(pods);
+    let mut frames = [none_waiting(pods); FEW];
     let mut left = pods;
     let (mut changed, mut surplus) = (0, 0);
     while !left.is_empty() {
@@ -122,9 +120,9 @@ pub fn look_at_pods(pods: &[u8]) -> Result<AcceptedPods, (&[u8], Rejected<'_>)>
 pub fn canonical_front(input: &[u8]) -> Option<&[u8]>
     ensures taken { IfSome result (λ rest. BeginsCanonical input.now rest.now) }
     ensures shorter { IfSome result (λ rest. length rest.now + 8 ≤ length input.now) }
-    ensures missed { IfNone result (MissesOnly input.now (λ v. levels_looked_into < depth_of v)) }
+    ensures missed { IfNone result ((rest : List ℕ) (c : BeginsCanonical input.now rest) → levels_looked_into < depth_of c.value) }
 {
-    next_canonical(input, &mut few_frames(input))
+    next_canonical(input, &mut [none_waiting(input); FEW])
 }
 
 /// The first pods, as many as `canonical_front` finds to be canonical, and what follows them.
@@ -137,7 +135,7 @@ pub fn canonical_stretch(input: &[u8]) -> (&[u8], &[u8])
     // Nothing follows where the input is such pods that nest no deeper.
     ensures all { AreShallow levels_looked_into input.now → result.1.now ≡ [] }
 {
-    let left = behind_canonical_pods(input, &mut few_frames(input));
+    let left = behind_canonical_pods(input, &mut [none_waiting(input); FEW]);
     input.split_at(input.len() - left.len())
 }
 
@@ -160,7 +158,7 @@ fn behind_canonical_pods<'a>(pods: &'a [u8], frames: &mut [Waiting<'a>]) -> &'a 
 fn next_canonical<'a>(input: &'a [u8], frames: &mut [Waiting<'a>]) -> Option<&'a [u8]>
     ensures taken { IfSome result (λ rest. BeginsCanonical input.now rest.now) }
     ensures shorter { IfSome result (λ rest. length rest.now + 8 ≤ length input.now) }
-    ensures missed { IfNone result (MissesOnly input.now (λ v. levels_looked_into < depth_of v)) }
+    ensures missed { IfNone result ((rest : List ℕ) (c : BeginsCanonical input.now rest) → levels_looked_into < depth_of c.value) }
 {
     match look_at_front(true, input, frames) {
         FrontLook::Fits(rest, _) => Some(rest),
@@ -214,7 +212,7 @@ pub fn accept_pod(input: &[u8]) -> Result<(&[u8], usize), Rejected<'_>>
     ensures accepted { IfOk result (λ front. BeginsShorter input.now front.0.now front.1) }
     ensures rejected { IfErr result (IsRejected input.now) }
 {
-    accept_front(input, &mut few_frames(input))
+    accept_front(input, &mut [none_waiting(input); FEW])
 }
 
 /// Does what `accept_pod` does for a pod that nests too deep for that, with this array for what is left of the structs and objects around a pod.

@@ -10,7 +10,7 @@ use Rattle.spa_format.specs.Walk.{extent_behind, walk_behind}
 use Rattle.spa_format.specs.Tree.{object_type, struct_type}
 use Rattle.spa_format.specs.Words.{body_of, extent, header_size, word_at}
 use Rattle.spa_format.proofs.WalkLemmas.{walk_behind-end, walk_behind-there}
-use Rattle.spa_items.specs.Contents.{before_values, content, element, element_count, elements, elements_along, flags_of_choice, values_behind, values_of, values_taken, word_or}
+use Rattle.spa_items.specs.Contents.{before_values, element, element_count, elements, elements_along, pod_item, values_behind, values_of, values_taken, word_or}
 use Rattle.spa_items.specs.Items.{head, items_along, items_in, items_inside, items_within}
 use Rattle.spa_items.specs.Puts.{AreElements, ArePut, IsFirst, first_of, item_of}
 use Rattle.spa_items.specs.declared.elements.Elements.{Elements}
@@ -39,49 +39,23 @@ pub no_levels : (levels depth : ℕ) (keyed : Bool) (at : ℕ) (b : List ℕ) �
 no_levels levels depth keyed at b e =
     ap (λ n. items_in n depth keyed at b) e ∙ no_items_along depth keyed at (walk_behind (key_size keyed) b)
 
--- the item, as one that begins at this byte
-abbrev begins_at : Item → ℕ → Item
-begins_at x n = record {
-  type_ = x.type_;
-  key = x.key;
-  flags = x.flags;
-  child = x.child;
-  choice_flags = x.choice_flags;
-  reserved = x.reserved;
-  depth = x.depth;
-  at = n;
-  first = x.first;
-  second = x.second;
-}
-
 -- the item of the first pod is that of its parts
 its_head : (keyed : Bool) (depth at body_at : ℕ) (b : List ℕ) (f : First) → IsFirst keyed b f → body_at ≡ at + key_size keyed + 8 →
     item_of depth body_at f ≡ head keyed depth at (first_of keyed b)
 its_head keyed depth at body_at b f i e =
     let p = first_of keyed b in
-    let t = word_at (drop (key_size keyed) p) 4 in
-    let make : ℕ → ℕ → ℕ → ℕ → List ℕ → Item = λ k l y x c.
-    let w = content y x c in
-    record {
-      type_ = y;
-      key = k;
-      flags = l;
-      child = word_or (values_of y c) 4;
-      choice_flags = flags_of_choice y c;
-      reserved = 0;
-      depth = depth;
-      at = x - 8;
-      first = w.first;
-      second = w.second;
-    } in
-    let here = make (if keyed then word_at p 0 else 0) (if keyed then word_at p 4 else 0) t (at + key_size keyed + 8) (body_of (drop (key_size keyed) p)) in
-    let begins : at + key_size keyed + 8 - 8 ≡ at + key_size keyed = omega arith in
-    ap (λ k. make k f.flags f.type_ body_at f.body.now) i.its_key
-    ∙ ap (λ l. make (if keyed then word_at p 0 else 0) l f.type_ body_at f.body.now) i.its_flags
-    ∙ ap (λ y. make (if keyed then word_at p 0 else 0) (if keyed then word_at p 4 else 0) y body_at f.body.now) i.its_type
-    ∙ ap (λ x. make (if keyed then word_at p 0 else 0) (if keyed then word_at p 4 else 0) t x f.body.now) e
-    ∙ ap (λ c. make (if keyed then word_at p 0 else 0) (if keyed then word_at p 4 else 0) t (at + key_size keyed + 8) c) i.its_body
-    ∙ ap (λ n. begins_at here n) begins
+    let pod = drop (key_size keyed) p in
+    let k = if keyed then word_at p 0 else 0 in
+    let l = if keyed then word_at p 4 else 0 in
+    let t = word_at pod 4 in
+    let start = at + key_size keyed in
+    let begins : start + 8 - 8 ≡ start = omega arith in
+    ap (λ n. pod_item n f.flags f.type_ depth (body_at - 8) body_at f.body.now) i.its_key
+    ∙ ap (λ n. pod_item k n f.type_ depth (body_at - 8) body_at f.body.now) i.its_flags
+    ∙ ap (λ n. pod_item k l n depth (body_at - 8) body_at f.body.now) i.its_type
+    ∙ ap (λ n. pod_item k l t depth (n - 8) n f.body.now) e
+    ∙ ap (λ c. pod_item k l t depth (start + 8 - 8) (start + 8) c) i.its_body
+    ∙ ap (λ n. pod_item k l t depth n (start + 8) (body_of pod)) begins
 
 -- the item of the pod at the front
 pub front_head : (at : ℕ) (b : List ℕ) (f : First) → IsFirst false b f → item_of 0 (at + 8) f ≡ head false 0 at (front_of b)

@@ -75,6 +75,22 @@ content type at b =
 abbrev pub flags_of_choice : ℕ → List ℕ → ℕ
 flags_of_choice type b = if nat_eq type choice_type then word_or b 4 else 0
 
+-- the item of a pod with this key, flags, type and body, which begins at the byte `at`, and its body at the byte `body_at`
+abbrev pub pod_item : (key flags type depth at body_at : ℕ) → List ℕ → Item
+pod_item key flags type depth at body_at b =
+    let c = content type body_at b in record {
+      type_ = type;
+      key = key;
+      flags = flags;
+      child = word_or (values_of type b) 4;
+      choice_flags = flags_of_choice type b;
+      reserved = 0;
+      depth = depth;
+      at = at;
+      first = c.first;
+      second = c.second;
+    }
+
 -- the item of a value without key, which begins at the byte `at`
 abbrev pub element : (type depth at : ℕ) → List ℕ → Item
 element type depth at b =

@@ -4,26 +4,15 @@ use Rattle.spa_events.specs.Inside.{key_size}
 use Rattle.spa_events.specs.Events.{is_object, is_struct}
 use Rattle.spa_format.specs.Walk.{walk_behind}
 use Rattle.spa_format.specs.Words.{body_of, header_size, word_at}
-use Rattle.spa_items.specs.Contents.{content, elements, flags_of_choice, values_of, word_or}
+use Rattle.spa_items.specs.Contents.{elements, pod_item}
 use Rattle.spa_items.specs.declared.item.Item.{Item}
 
 -- the item of a pod with the key and flags before it, if there are any, which begin at the byte `at`
 abbrev pub head : (keyed : Bool) → (depth at : ℕ) → List ℕ → Item
 head keyed depth at p =
     let pod = drop (key_size keyed) p in
-    let type = word_at pod 4 in
-    let c = content type (at + key_size keyed + header_size) (body_of pod) in record {
-      type_ = type;
-      key = if keyed then word_at p 0 else 0;
-      flags = if keyed then word_at p 4 else 0;
-      child = word_or (values_of type (body_of pod)) 4;
-      choice_flags = flags_of_choice type (body_of pod);
-      reserved = 0;
-      depth = depth;
-      at = at + key_size keyed;
-      first = c.first;
-      second = c.second;
-    }
+    let start = at + key_size keyed in
+    pod_item (if keyed then word_at p 0 else 0) (if keyed then word_at p 4 else 0) (word_at pod 4) depth start (start + header_size) (body_of pod)
 
 -- The items of pods one after another, the first of which begins at the byte `at`. The function gives those of one pod, by the byte at which it
 -- begins and the pod.

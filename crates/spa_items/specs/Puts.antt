@@ -3,7 +3,7 @@ use Rattle.std.specs.Prelude.{◌≡◌, ℕ, zero, suc, ◌+◌, ◌-◌, ◌�
 use Rattle.spa_events.specs.Inside.{key_size}
 use Rattle.spa_format.specs.Words.{body_of, header_size, word_at}
 use Rattle.spa_format.specs.Walk.{extent_behind}
-use Rattle.spa_items.specs.Contents.{before_values, content, element_count, flags_of_choice, values_of, word_or}
+use Rattle.spa_items.specs.Contents.{before_values, element_count, pod_item, values_of, word_or}
 use Rattle.spa_items.specs.Items.{items_in, items_within, overlaid}
 use Rattle.spa_items.specs.declared.elements.Elements.{Elements}
 use Rattle.spa_items.specs.declared.item.Item.{Item}
@@ -46,19 +46,7 @@ pub record AreElements (type at : ℕ) (b : List ℕ) (them : Elements) : Type 0
 
 -- the item of a pod with these parts, whose body begins at this byte
 abbrev pub item_of : (depth body_at : ℕ) → First → Item
-item_of depth body_at first =
-    let c = content first.type_ body_at first.body.now in record {
-      type_ = first.type_;
-      key = first.key;
-      flags = first.flags;
-      child = word_or (values_of first.type_ first.body.now) 4;
-      choice_flags = flags_of_choice first.type_ first.body.now;
-      reserved = 0;
-      depth = depth;
-      at = body_at - header_size;
-      first = c.first;
-      second = c.second;
-    }
+item_of depth body_at f = pod_item f.key f.flags f.type_ depth (body_at - header_size) body_at f.body.now
 
 -- the items of the pods in a pod that are still to be listed
 abbrev pub inner_items : (levels depth : ℕ) → Option Level → List Item

@@ -5,6 +5,9 @@ use Rattle.spa_fixed_sized.specs.declared.fault.DeserializeError.{DeserializeErr
 use Rattle.spa_fixed_sized.specs.declared.fault.DeserializeError.TheVariants as error
 use Rattle.spa_fixed_sized.specs.declared.fault.FaultKind.{FaultKind}
 use Rattle.spa_fixed_sized.specs.declared.fault.FaultKind.TheVariants as fault_kind
+use Rattle.spa_fixed_sized.specs.declared.fault.Refusal.{Refusal}
+use Rattle.spa_fixed_sized.specs.declared.fault.Refusal.TheVariants as refusal
+use Rattle.spa_bodies.specs.Refusing.{error_of}
 use Rattle.spa_fixed_sized.specs.Faults.{fault_kind_text, kind_text}
 
 -- a text that begins otherwise is another
@@ -30,3 +33,8 @@ named_memory error.UnreadMembers e = absurd (other (codes "UnreadMembers") (λ h
 named_memory error.NoElementLeft e = absurd (other (codes "NoElementLeft") (λ h. omega (arith, h)) e)
 named_memory error.FailedReader e = absurd (other (codes "FailedReader") (λ h. omega (arith, h)) e)
 named_memory error.OutOfMemory e = refl
+
+-- a refusal has the same name at any place
+pub same_cause : {I J : Type 0} (place : I) (other : J) (why : Refusal) → kind_text (error_of place why) ≡ kind_text (error_of other why)
+same_cause place other refusal.Short = refl
+same_cause place other _ = refl

@@ -11,9 +11,8 @@ use Rattle.spa_format.specs.Typed.{IsBytes}
 use Rattle.spa_format.proofs.Exacted.{no_longer_conveyed}
 use Rattle.spa_format.proofs.Origin.{IsBytes-first, IsBytes-others}
 use Rattle.spa_bodies.specs.Reading.{OnMemory}
-use Rattle.spa_rewrite.specs.InPlace as exact
-use Rattle.spa_canonical.specs.Rewriting.{AreRewritten}
-use Rattle.spa_canonical.specs.Shorter.{AreRewrittenAs}
+use Rattle.spa_rewrite.specs.Refusals as exact
+use Rattle.spa_canonical.specs.Rewriting.{AreRewritten, AreRewrittenAs}
 use Rattle.spa_canonical.proofs.Written.{further_behind}
 use Rattle.spa_lenient.specs.Rewriting.{AreRewrittenLeniently, AreRewrittenLenientlyAs, RefusesList, RefusesListAt}
 use Rattle.spa_lenient.proofs.Causes.{named_memory}

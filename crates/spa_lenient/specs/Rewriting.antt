@@ -6,7 +6,7 @@ use Rattle.spa_format.specs.Tree.{Tree, Trees, struct}
 use Rattle.spa_format.specs.Encoding.{encoding_of, member_encodings}
 use Rattle.spa_format.specs.Front.{HasFront}
 use Rattle.spa_format.specs.Lenient.{ConveyMembers}
-use Rattle.spa_rewrite.specs.InPlace.{IsFaultOf}
+use Rattle.spa_rewrite.specs.Refusals.{IsFaultOf}
 use Rattle.spa_bodies.specs.Reading.{IsShortAt, Names, OnFault, OnMemory}
 use Rattle.spa_canonical.specs.Rewriting.{AreRewritten}
 use Rattle.spa_read.specs.Reading.{ConveysAtFront, ConveysNothing, ConveysWith, StandsLeniently}

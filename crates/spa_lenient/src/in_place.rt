@@ -1,14 +1,15 @@
 //! Rewrites all pods of a buffer leniently, in place or into a buffer of the caller's.
 ghost use Rattle.std.specs.Prelude.{◌≡◌, ◌<◌, ◌≤◌, ◌++◌, [], List, ℕ, IfErr, IfOk, OnErr, drop, length, take};
 ghost use Rattle.std.specs.Borrow.{Bor};
-ghost use Rattle.spa_rewrite.specs.InPlace.{IsFaultOf};
+ghost use Rattle.spa_rewrite.specs.Refusals.{IsFaultOf};
 ghost use Rattle.spa_bodies.specs.Refusing.{error_of};
 ghost use Rattle.spa_lenient.specs.Rewriting.{AreRewrittenLeniently, AreRewrittenLenientlyAs, RefusesList, RefusesListAt};
-ghost use Rattle.spa_canonical.specs.Shorter.{ArePodsWithin};
+ghost use Rattle.spa_canonical.specs.Rewriting.{ArePodsWithin};
 ghost use Rattle.spa_canonical.specs.Depth.{levels_looked_into};
 
 use crate::rewriting::{append_all, rewrite_all_leniently};
-use spa_fixed_sized::{DeserializeError, Fault, FaultKind, Refusal};
+use spa_bodies::error_at;
+use spa_fixed_sized::{DeserializeError, Refusal};
 use spa_rewrite::{rewrite_in_place, rewrite_into};
 use std::alloc::Global;
 
@@ -93,19 +94,5 @@ fn put_first(bytes: &[u8], out: &mut [u8])
 fn cause_of(why: Refusal) -> DeserializeError<()>
     ensures { (place : Bor (List ℕ)) → IsFaultOf result (error_of place why) }
 {
-    match why {
-        Refusal::Short => DeserializeError::Nom(Fault {
-            input: (),
-            kind: FaultKind::Short,
-        }),
-        Refusal::Text => DeserializeError::Nom(Fault {
-            input: (),
-            kind: FaultKind::Text,
-        }),
-        Refusal::InvalidType => DeserializeError::InvalidType,
-        Refusal::InvalidChoiceType => DeserializeError::InvalidChoiceType,
-        Refusal::MissingChoiceValues => DeserializeError::MissingChoiceValues,
-        Refusal::WrongSize => DeserializeError::WrongSize,
-        Refusal::OutOfMemory => DeserializeError::OutOfMemory,
-    }
+    error_at((), why)
 }

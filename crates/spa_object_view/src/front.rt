@@ -5,13 +5,12 @@ ghost use Rattle.spa_format.specs.Words.{header_size, size_limit, word_at};
 ghost use Rattle.spa_bytes.specs.Opening.{Opens};
 ghost use Rattle.spa_object_view.specs.Fronts.{BeginsObjectIn, BeginsObjectOf, BeginsView, IsNoObject, IsObjectBody, IsUnread, IsViewIn};
 ghost use Rattle.spa_bodies.specs.Reading.{TakesMemory};
-ghost use Rattle.spa_canonical.specs.Canonical.{AreCanonicalProperties};
 ghost use Rattle.spa_canonical.specs.Depth.{NestsDeeper, levels_looked_into};
 ghost use Rattle.spa_canonical.specs.Rewriting.{IsRewriting};
 
 use crate::object_view::ObjectView;
 use spa_bytes::{Front, HEADER_LEN, SECOND_WORD, open, u32_at};
-use spa_canonical::{Rejected, canonical_front, leaf_properties, look_at_pod};
+use spa_canonical::{Rejected, are_flat_properties, canonical_front, look_at_pod};
 use spa_fixed_sized::DeserializeError;
 use spa_rewrite::rewrite;
 use spa_utils::SpaTypes;
@@ -82,20 +81,11 @@ fn canonical_object<'a>(input: &[u8], front: Front<'a>) -> Option<ObjectView<'a>
     ensures { IfSome result (BeginsView input.now) }
 {
     let object = object_of(front.body)?;
-    if has_leaves_alone(object.properties) {
+    if are_flat_properties(object.properties) {
         return Some(object);
     }
     let _rest = canonical_front(input)?;
     Some(object)
-}
-
-/// Whether properties are canonical, and none holds a struct or an object.
-#[inline(always)]
-fn has_leaves_alone(properties: &[u8]) -> bool
-    ensures { result ≡ true → AreCanonicalProperties properties.now }
-{
-    let (_, rest) = leaf_properties(properties);
-    rest.is_empty()
 }
 
 /// The rewriting of a front of a type whose values take memory.

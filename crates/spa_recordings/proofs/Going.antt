@@ -13,7 +13,7 @@ use Rattle.spa_format.specs.Walk.{walk}
 use Rattle.spa_format.specs.Words.{extent, word_at}
 use Rattle.spa_format.proofs.Fronts.{front_of_whole}
 use Rattle.spa_lenient.proofs.Structs.{struct_conveyed}
-use Rattle.spa_canonical.specs.Offsets.{IsFaultAt, StandsAt, from_pod}
+use Rattle.spa_canonical.specs.Look.{IsFaultAt, StandsAt, from_pod}
 use Rattle.spa_canonical.specs.Rewriting.{IsLeft}
 use Rattle.spa_bytes.specs.Opening.{Opens}
 use Rattle.spa_recordings.specs.Plausible.{IsPlausible, a_struct, an_object}

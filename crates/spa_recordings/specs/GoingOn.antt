@@ -15,7 +15,7 @@ use Rattle.spa_recordings.specs.declared.going_on.Refused.TheVariants.{LeftOut, 
 use Rattle.spa_recordings.specs.declared.going_on.RefusedPod.{RefusedPod}
 use Rattle.spa_recordings.specs.declared.reading.Reading.{Reading}
 use Rattle.spa_recordings.specs.declared.reading.Reading.TheVariants.{Exact, Lenient}
-use Rattle.spa_canonical.specs.Offsets.{StandsAt, from_pod}
+use Rattle.spa_canonical.specs.Look.{StandsAt, from_pod}
 
 -- what stays of the bytes that are passed with a refused pod
 abbrev pub kept_of : Refused → List ℕ → List ℕ

@@ -9,7 +9,7 @@ use Rattle.spa_bodies.specs.Refusing.{Says, StandsInMembers, StandsInProperties,
 use Rattle.spa_bodies.proofs.Refusals.{refused_as, says_through}
 use Rattle.spa_bytes.specs.Opening.{Opens}
 use Rattle.spa_events.specs.Inside.{IsInside}
-use Rattle.spa_canonical.specs.Offsets.{IsFaultAt, Scope, StandsAt, at_key, at_pod, first_member, first_value, from_members, from_pod, from_properties, in_object, in_struct, next_member, next_property}
+use Rattle.spa_canonical.specs.Look.{IsFaultAt, Scope, StandsAt, at_key, at_pod, first_member, first_value, from_members, from_pod, from_properties, in_object, in_struct, next_member, next_property}
 use Rattle.spa_canonical.specs.Rewriting.{IsLeft}
 use Rattle.spa_format.specs.Faults.{Fault, Short, Text, InvalidType, InvalidChoiceType, MissingChoiceValues, WrongSize, IsInvalidType, IsWrongSize, Stands, StandsAtFront, at_front, in_key, in_member, in_property, no_type, of_elements, of_values, of_fixed, of_array, of_choice, of_pointer, short_array, short_choice, short_object}
 use Rattle.spa_format.specs.Front.{Begins, HasFront, IsRefused, front_of, rest_of}

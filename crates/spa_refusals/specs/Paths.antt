@@ -9,7 +9,7 @@ use Rattle.spa_format.specs.Tree.{Trees, Properties, object_type, struct_type}
 use Rattle.spa_format.specs.Walk.{walk}
 use Rattle.spa_format.specs.Words.{body_of, extent, header_size, word_at}
 use Rattle.spa_bodies.specs.Refusing.{Says, StandsInMembers, StandsInProperties}
-use Rattle.spa_canonical.specs.Offsets.{Scope, StandsAt, from_members, from_pod, from_properties}
+use Rattle.spa_canonical.specs.Look.{Scope, StandsAt, from_members, from_pod, from_properties}
 use Rattle.spa_names.specs.Lookup.{keys_of, name_of}
 use Rattle.spa_names.specs.declared.table.Table.TheVariants.{Types}
 use Rattle.spa_refusals.specs.declared.names.TypeName.{TypeName}

@@ -1,7 +1,7 @@
 //! The path from a refused pod to the innermost one that its fault is in.
 ghost use Rattle.std.specs.Prelude.{◌≡◌, ◌<◌, ◌≤◌, IfNone, IfOk, IfSome, string_bytes};
 ghost use Rattle.spa_bodies.specs.Refusing.{Says};
-ghost use Rattle.spa_canonical.specs.Offsets.{from_members, from_pod, from_properties};
+ghost use Rattle.spa_canonical.specs.Look.{from_members, from_pod, from_properties};
 ghost use Rattle.spa_format.specs.Faults.{Stands};
 ghost use Rattle.spa_refusals.specs.Paths.{HaveRead, HoldsMember, HoldsProperty, IsBehind, IsFaultIn, IsInnermost, IsPath, IsWithin, StepsTo};
 

@@ -1,6 +1,6 @@
 //! The malformed pod inside a refused one, and the path that leads there.
 ghost use Rattle.std.specs.Prelude.{◌≡◌, IfOk, string_bytes};
-ghost use Rattle.spa_canonical.specs.Offsets.{from_pod};
+ghost use Rattle.spa_canonical.specs.Look.{from_pod};
 ghost use Rattle.spa_format.specs.Front.{IsRefused};
 ghost use Rattle.spa_read.specs.Reading.{ConveysNothing};
 ghost use Rattle.spa_recordings.specs.Reading.{IsNothing};
@@ -78,6 +78,7 @@ fn fault_of(alloc: Global, pod: &[u8]) -> Result<(Fault<'_>, usize), AllocError>
     ensures { IfOk result (λ it. IsFaultIn from_pod pod.now it.0.place.now it.1 it.0.why) }
 {
     match find_fault(alloc, pod) {
+        // A refused pod without a fault is an empty input: the front isn't there.
         Ok(()) => {
             let none = Fault {
                 place: pod,

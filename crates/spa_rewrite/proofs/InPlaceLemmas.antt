@@ -4,20 +4,20 @@ use Rattle.std.specs.Borrow.{Bor}
 use Rattle.std.specs.Prelude.{Option, Some}
 use Rattle.std.proofs.lemmas.List.{drop_at}
 use Rattle.spa_format.specs.Faults.{Short, Text}
-use Rattle.spa_fixed_sized.specs.declared.fault.DeserializeError.{DeserializeError}
-use Rattle.spa_fixed_sized.specs.declared.fault.DeserializeError.TheVariants as error
+use Rattle.spa_fixed_sized.specs.Faults.{kind_text}
+use Rattle.spa_format.specs.Pod.{AreMembers}
+use Rattle.spa_format.specs.Tree.{Trees}
 use Rattle.spa_fixed_sized.specs.declared.fault.Refusal.{Refusal}
 use Rattle.spa_fixed_sized.specs.declared.fault.Refusal.TheVariants as refusal
 use Rattle.spa_bodies.specs.Reading.{OnFault}
 use Rattle.spa_bodies.specs.Refusing.{error_of}
-use Rattle.spa_rewrite.specs.InPlace.{IsFaultOf, NamesOffset, RefusesListAt, moved}
-use Rattle.spa_rewrite.specs.Memory.{AsksMemory}
-use Rattle.spa_canonical.specs.Offsets.{IsFaultAt, StandsAt, from_pod}
+use Rattle.spa_rewrite.specs.Refusals.{NamesOffset, RefusesListAt}
+use Rattle.spa_rewrite.specs.Refusals.{AsksMemory}
+use Rattle.spa_canonical.specs.Look.{IsFaultAt, StandsAt, from_pod}
 use Rattle.spa_canonical.specs.Canonical.{AreCanonical}
 use Rattle.spa_format.specs.Encoding.{member_encodings}
 use Rattle.spa_format.proofs.Unique.{same_members}
-use Rattle.spa_canonical.specs.Rewriting.{AreRewritten, IsLeft, RefusesFront, RefusesList}
-use Rattle.spa_canonical.specs.Shorter.{AreRewrittenAs, AreShorter}
+use Rattle.spa_canonical.specs.Rewriting.{AreRewritten, AreRewrittenAs, AreShorter, IsLeft, RefusesFront, RefusesList}
 use Rattle.spa_canonical.proofs.FirstPods.{left_behind_pods}
 use Rattle.spa_canonical.proofs.Lengths.{lengths}
 use Rattle.spa_canonical.proofs.Stretches.{list_refused}
@@ -29,33 +29,31 @@ left_at input left at l e =
     ap (drop at) l.2 ∙ drop_at l.1 left at (omega lengths)
 
 -- a refusal says the same with another place
-pub moved_same : {J : Type 0} (place : J) (e : DeserializeError (Bor (List ℕ))) → IsFaultOf (moved place e) e
-moved_same place (error.Nom f) = refl
-moved_same place _ = refl
-
-moved_fact : {I J : Type 0} (F : Type 0) (place : J) (e : DeserializeError I) → OnFault F e → OnFault F (moved place e)
-moved_fact F place (error.Nom f) h = h
-moved_fact F place _ h = h
+same_elsewhere : {I J : Type 0} (F : Type 0) (place : I) (other : J) (why : Refusal) → OnFault F (error_of place why) →
+    (kind_text (error_of other why) ≡ kind_text (error_of place why)) × OnFault F (error_of other why)
+same_elsewhere F place other refusal.OutOfMemory h = (refl, tt)
+same_elsewhere F place other _ h = (refl, h)
 
 -- the offset that the look gives
 pub offset_known : (input left : List ℕ) (top at : ℕ) (place : Bor (List ℕ)) (why : Refusal) → drop top input ≡ left → IsFaultAt left place.now at why →
-    NamesOffset input top (moved (Some (top + at)) (error_of place why))
+    NamesOffset input top (error_of (Some (top + at)) why)
 offset_known input left top at place refusal.Short d f = (at, refl, subst (StandsAt Short from_pod at) (sym d) f.offset)
 offset_known input left top at place refusal.Text d f = (at, refl, subst (StandsAt Text from_pod at) (sym d) f.offset)
 offset_known input left top at place _ d f = tt
 
-pub refused_behind : (input first others left : List ℕ) (at : ℕ) (offset : Option ℕ) (placed : DeserializeError (Bor (List ℕ))) → input ≡ first ++ others →
-    AreCanonical first → RefusesList others left placed → at ≡ length input - length left → NamesOffset input at (moved offset placed) →
-    RefusesListAt input at (moved offset placed)
-refused_behind input first others left at offset placed i k f n o =
-    let r = list_refused input left placed (left_behind_pods input first others left k.values i k.members f.behind) f.front in
+pub refused_behind : (input first others left : List ℕ) (at : ℕ) (offset : Option ℕ) (place : Bor (List ℕ)) (why : Refusal) → input ≡ first ++ others →
+    AreCanonical first → RefusesList others left (error_of place why) → at ≡ length input - length left → NamesOffset input at (error_of offset why) →
+    RefusesListAt input at (error_of offset why)
+refused_behind input first others left at offset place why i k f n o =
+    let r = list_refused input left (error_of place why) (left_behind_pods input first others left k.values i k.members f.behind) f.front in
     let d = left_at input left at r.behind n in
+    let s = same_elsewhere ((vs : Trees) → ¬ (AreMembers vs input)) place offset why r.refused in
     record {
       behind = subst (IsLeft input) (sym d) r.behind;
-      refused = moved_fact _ offset placed r.refused;
-      placed = placed;
-      front = subst (λ l. RefusesFront l placed) (sym d) r.front;
-      same = moved_same offset placed;
+      refused = s.1;
+      placed = error_of place why;
+      front = subst (λ l. RefusesFront l (error_of place why)) (sym d) r.front;
+      same = s.0;
       offset = o;
     }
 

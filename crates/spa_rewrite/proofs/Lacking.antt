@@ -1,5 +1,5 @@
 -- Refusals of the pod at the front, and what memory is asked for.
-use Rattle.std.proofs.Common.{◌≡◌, ℕ, ◌<◌, List, ◌++◌, length, sym, ap, subst, arith}
+use Rattle.std.proofs.Common.{◌≡◌, ℕ, ◌<◌, List, ◌++◌, length, sym, ap, subst, arith, inl, inr}
 use Rattle.std.specs.Borrow.{Bor}
 use Rattle.spa_format.specs.Faults.{Stands}
 use Rattle.spa_format.specs.Front.{Begins, HasFront}
@@ -14,9 +14,16 @@ use Rattle.spa_fixed_sized.specs.declared.fault.Refusal.{Refusal}
 use Rattle.spa_fixed_sized.specs.declared.fault.Refusal.TheVariants as refusal
 use Rattle.spa_bodies.specs.Reading.{OnMemory}
 use Rattle.spa_bodies.specs.Refusing.{Says, error_of}
-use Rattle.spa_rewrite.specs.Memory.{FrontAsksMemory, IsRefusal}
+use Rattle.spa_rewrite.specs.Refusals.{FrontAsksMemory, IsRefusal}
 use Rattle.spa_canonical.proofs.Accepted.{fault_front}
-use Rattle.spa_canonical.proofs.Refusals.{front_refused}
+use Rattle.spa_canonical.proofs.Deeper.{its_front}
+use Rattle.spa_canonical.specs.Depth.{levels_looked_into}
+use Rattle.spa_fixed_sized.specs.declared.fault.DeserializeError.TheVariants as error
+
+-- the front that memory is asked for is there
+pub front_asking : (input : List ℕ) → FrontAsksMemory input → HasFront input
+front_asking input (inl b) = b.1.there
+front_asking input (inr d) = its_front levels_looked_into input d
 
 -- a list that isn't empty begins with a pod
 pub begins_all : (vs : Trees) (input : List ℕ) → AreMembers vs input → 0 < length input → (v : Tree) × Begins input v
@@ -34,10 +41,10 @@ first_begins input first others changed e k h l =
     begins_all vs input (subst (AreMembers vs) (sym e) (members_joined k.values m.0 first others k.members m.1)) l
 
 -- memory ran out
-pub lacks : (input : List ℕ) (place : Bor (List ℕ)) (why : Refusal) → why ≡ refusal.OutOfMemory → HasFront input → FrontAsksMemory input →
-    IsRefusal input (error_of place why)
-lacks input place why w h a =
-    subst (λ x. IsRefusal input (error_of place x)) (sym w) (record { refused = front_refused input place refusal.OutOfMemory h; asks = a })
+pub lacks : (input : List ℕ) → FrontAsksMemory input → IsRefusal input error.OutOfMemory
+lacks input a =
+    let h = front_asking input a in
+    record { refused = record { refused = tt; named = tt; short_first = λ n. absurd (n h); memory = h }; asks = a }
 
 -- not for want of memory
 pub fault_memory : (input : List ℕ) (place : Bor (List ℕ)) (why : Refusal) (A : Type 0) → Says (λ k. Stands k place.now input) ⊥ why →

@@ -23,10 +23,8 @@ pub fn is_canonical(alloc: Global, input: &[u8]) -> Result<bool, AllocError>
 {
     match look_at_pod(input) {
         Ok(pod) => Ok(pod.canonical),
-        Err(rejected) => match rejected {
-            Rejected::Fault(_, _, _) => Ok(false),
-            Rejected::TooDeep => is_deep_canonical(alloc, input),
-        },
+        Err(Rejected::Fault(_, _, _)) => Ok(false),
+        Err(Rejected::TooDeep) => is_deep_canonical(alloc, input),
     }
 }
 

@@ -4,8 +4,7 @@ ghost use Rattle.spa_format.specs.Pod.{AreMembers};
 ghost use Rattle.spa_format.specs.Tree.{Trees};
 ghost use Rattle.spa_canonical.specs.Depth.{NestsDeeper, levels_looked_into};
 ghost use Rattle.spa_canonical.specs.Look.{AreChanged, IsRejected};
-ghost use Rattle.spa_canonical.specs.Rewriting.{IsLeft};
-ghost use Rattle.spa_canonical.specs.Shorter.{ArePodsWithin, BeginsShorter};
+ghost use Rattle.spa_canonical.specs.Rewriting.{ArePodsWithin, BeginsShorter, IsLeft};
 
 use spa_canonical::{LEVELS, Rejected, accept_within, look_at_pods, none_waiting};
 use std::alloc::Global;
@@ -27,13 +26,11 @@ pub fn changed_pods(alloc: Global, input: &[u8]) -> Result<usize, (&[u8], Reject
     loop {
         match look_at_pods(left) {
             Ok(all) => return Ok(input.len() - left.len() + all.changed),
-            Err((pod, rejected)) => match rejected {
-                Rejected::Fault(_, _, _) => return Err((pod, rejected)),
-                Rejected::TooDeep => match accept_deep(alloc, pod) {
-                    Ok((rest, _)) => left = rest,
-                    Err(rejected) => return Err((pod, rejected)),
-                },
+            Err((pod, Rejected::TooDeep)) => match accept_deep(alloc, pod) {
+                Ok((rest, _)) => left = rest,
+                Err(rejected) => return Err((pod, rejected)),
             },
+            Err(refusal) => return Err(refusal),
         }
     }
 }
@@ -69,11 +66,8 @@ pub(crate) fn accept_deep(alloc: Global, input: &[u8]) -> Result<(&[u8], usize),
             return Err(Rejected::TooDeep);
         };
         match accept_within(input, frames.as_mut_slice()) {
-            Ok(accepted) => return Ok(accepted),
-            Err(rejected) => match rejected {
-                Rejected::Fault(_, _, _) => return Err(rejected),
-                Rejected::TooDeep => room = 4 * room,
-            },
+            Err(Rejected::TooDeep) => room = 4 * room,
+            answer => return answer,
         }
     }
 }

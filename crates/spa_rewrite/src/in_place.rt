@@ -1,16 +1,15 @@
 //! Rewriting in place, in the buffer of the input.
 ghost use Rattle.std.specs.Prelude.{◌≡◌, ◌≤◌, [], IfErr, IfOk, OnErr, length, take};
-ghost use Rattle.spa_rewrite.specs.InPlace.{RefusesListAt, moved};
+ghost use Rattle.spa_rewrite.specs.Refusals.{RefusesListAt};
 ghost use Rattle.spa_bodies.specs.Reading.{OnMemory};
-ghost use Rattle.spa_rewrite.specs.Memory.{AsksMemory};
-ghost use Rattle.spa_canonical.specs.Rewriting.{AreRewritten};
-ghost use Rattle.spa_canonical.specs.Shorter.{ArePodsWithin};
+ghost use Rattle.spa_rewrite.specs.Refusals.{AsksMemory};
+ghost use Rattle.spa_canonical.specs.Rewriting.{ArePodsWithin, AreRewritten};
 ghost use Rattle.spa_canonical.specs.Depth.{levels_looked_into};
 
 use crate::deep::changed_pods;
 use spa_bodies::error_at;
 use spa_canonical::{Rejected, canonical_stretch, encode_pods};
-use spa_fixed_sized::{DeserializeError, Fault};
+use spa_fixed_sized::DeserializeError;
 use std::alloc::Global;
 
 /// Puts the rewritings of all pods that the bytes are at their front, and answers how many bytes these take: never more than the
@@ -43,37 +42,11 @@ pub fn rewrite_in_place(
     match changed_pods(alloc, others) {
         Ok(changed) => Ok(from + encode_pods(changed, &mut bytes[from..])),
         Err((pod, rejected)) => match rejected {
-            Rejected::Fault(place, at, why) => {
+            Rejected::Fault(_, at, why) => {
                 let top = len - pod.len();
-                Err((top, with_offset(Some(top + at), error_at(place, why))))
+                Err((top, error_at(Some(top + at), why)))
             }
             Rejected::TooDeep => Err((len - pod.len(), DeserializeError::OutOfMemory)),
         },
-    }
-}
-
-/// The refusal with the place given by its offset.
-fn with_offset(
-    offset: Option<usize>,
-    error: DeserializeError<&[u8]>,
-) -> DeserializeError<Option<usize>>
-    ensures { result ≡ moved offset error.entry }
-{
-    match error {
-        DeserializeError::Nom(fault) => DeserializeError::Nom(Fault {
-            input: offset,
-            kind: fault.kind,
-        }),
-        DeserializeError::UnsupportedType => DeserializeError::UnsupportedType,
-        DeserializeError::InvalidType => DeserializeError::InvalidType,
-        DeserializeError::PropertyMissing => DeserializeError::PropertyMissing,
-        DeserializeError::PropertyWrongKey(key) => DeserializeError::PropertyWrongKey(key),
-        DeserializeError::InvalidChoiceType => DeserializeError::InvalidChoiceType,
-        DeserializeError::MissingChoiceValues => DeserializeError::MissingChoiceValues,
-        DeserializeError::WrongSize => DeserializeError::WrongSize,
-        DeserializeError::UnreadMembers => DeserializeError::UnreadMembers,
-        DeserializeError::NoElementLeft => DeserializeError::NoElementLeft,
-        DeserializeError::FailedReader => DeserializeError::FailedReader,
-        DeserializeError::OutOfMemory => DeserializeError::OutOfMemory,
     }
 }

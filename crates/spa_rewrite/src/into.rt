@@ -1,7 +1,6 @@
 //! Rewrites pods into another buffer. What is written may be shorter than the input.
-ghost use Rattle.std.specs.Prelude.{◌≡◌, ◌<◌, ◌≤◌, ◌++◌, IfNone, IfSome, [], drop, length, take};
-ghost use Rattle.spa_canonical.specs.Rewriting.{AreRewritten};
-ghost use Rattle.spa_canonical.specs.Shorter.{ArePodsWithin, AreRewrittenAs};
+ghost use Rattle.std.specs.Prelude.{◌≡◌, ◌<◌, ◌≤◌, ◌++◌, Decides, IfNone, IfSome, [], drop, length, take};
+ghost use Rattle.spa_canonical.specs.Rewriting.{ArePodsWithin, AreRewritten, AreRewrittenAs};
 ghost use Rattle.spa_canonical.specs.Depth.{levels_looked_into};
 
 use spa_canonical::{canonical_stretch, encode_pods, look_at_pods};
@@ -24,40 +23,33 @@ pub fn rewrite_into(input: &[u8], out: &mut [u8]) -> Option<usize>
 {
     let (first, others) = canonical_stretch(input);
     if others.is_empty() {
-        put_where_it_fits(input, out);
+        put_first(input, out);
         return Some(input.len());
     }
     let Ok(all) = look_at_pods(others) else {
         return None;
     };
     let len = input.len() - all.surplus;
-    if out.len() < input.len() {
+    if !put_first(input, out) {
         return Some(len);
     }
-    put_first(input, out);
     encode_pods(all.changed, &mut out[first.len()..input.len()]);
     Some(len)
 }
 
-/// Copies bytes to the front of an output that is as long or longer; of a shorter one nothing changes.
+/// Copies bytes to the front of an output that is as long or longer, and answers whether it is; of a shorter one nothing changes.
 #[inline(always)]
-fn put_where_it_fits(bytes: &[u8], out: &mut [u8])
+fn put_first(bytes: &[u8], out: &mut [u8]) -> bool
+    ensures fits { Decides result (length bytes.now ≤ length out.old) }
     ensures copied { length bytes.now ≤ length out.old → out.new ≡ bytes.now ++ drop (length bytes.now) out.old }
     ensures behind { drop (length bytes.now) out.new ≡ drop (length bytes.now) out.old }
     ensures unchanged { length out.old < length bytes.now → out.new ≡ out.old }
 {
-    if bytes.len() <= out.len() {
-        put_first(bytes, out);
+    if out.len() < bytes.len() {
+        return false;
     }
-}
-
-/// Copies bytes to the front of an output, where there are any.
-#[inline(always)]
-fn put_first(bytes: &[u8], out: &mut [u8])
-    requires { length bytes.now ≤ length out.old }
-    ensures { out.new ≡ bytes.now ++ drop (length bytes.now) out.old }
-{
     if !bytes.is_empty() {
         out[..bytes.len()].copy_from_slice(bytes);
     }
+    true
 }

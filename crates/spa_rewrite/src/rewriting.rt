@@ -1,25 +1,22 @@
 //! The rewriting of a pod is the encoding of its value.
 //!
 //! Pods are looked at first, and copied. Those that aren't canonical are then replaced by their encodings in the copy.
-ghost use Rattle.std.specs.Prelude.{◌≡◌, ◌≤◌, drop, length, take, IfErr, IfNone, IfOk, IfSome, IsErrAnd, OnErr, OnOk};
-ghost use Rattle.spa_fixed_sized.specs.declared.fault.Refusal.TheVariants as refusal;
+ghost use Rattle.std.specs.Prelude.{◌≡◌, ◌≤◌, ℕ, List, drop, length, take, IfErr, IfNone, IfOk, IfSome, IsErrAnd, OnErr, OnOk};
 ghost use Rattle.spa_format.specs.Faults.{Stands};
 ghost use Rattle.spa_format.specs.Front.{HasFront, IsRefused, rest_of};
 ghost use Rattle.spa_format.specs.Pod.{AreMembers};
 ghost use Rattle.spa_format.specs.Tree.{Tree, Trees};
-ghost use Rattle.spa_bodies.specs.Reading.{BeginsWith, IsShortAt, Names, OnFault, OnMemory};
-ghost use Rattle.spa_bodies.specs.Refusing.{error_of};
+ghost use Rattle.spa_bodies.specs.Reading.{IsShortAt, Names, OnFault, OnMemory};
 ghost use Rattle.spa_canonical.specs.Look.{AreChanged, IsRejected};
-ghost use Rattle.spa_rewrite.specs.Memory.{FrontAsksMemory, IsRefusal};
-ghost use Rattle.spa_canonical.specs.Rewriting.{AppendsFront, AreRewritten, IsLeft, IsRewriting, RefusesList};
-ghost use Rattle.spa_canonical.specs.Shorter.{ArePodsWithin};
+ghost use Rattle.spa_rewrite.specs.Refusals.{FrontAsksMemory, IsRefusal};
+ghost use Rattle.spa_canonical.specs.Rewriting.{AppendsFront, ArePodsWithin, AreRewritten, BeginsShorter, IsLeft, IsRewriting, RefusesList};
 ghost use Rattle.spa_canonical.specs.Canonical.{AreCanonical};
 ghost use Rattle.spa_canonical.specs.Depth.{NestsDeeper, levels_looked_into};
 
 use crate::deep::{accept_deep, changed_pods, find_fault};
 use spa_bodies::error_at;
 use spa_canonical::{Rejected, accept_pod, canonical_front, canonical_stretch, encode_pods};
-use spa_fixed_sized::{DeserializeError, Refusal};
+use spa_fixed_sized::DeserializeError;
 use std::alloc::Global;
 
 /// The encoding of the value that the front of the input says, and what follows that front.
@@ -44,7 +41,7 @@ pub fn rewrite(alloc: Global, input: &[u8]) -> Result<(&[u8], Vec<u8>), Deserial
     let mut out = Vec::new(alloc);
     match append_front(input, &mut out) {
         Ok(rest) => Ok((rest, out)),
-        Err(refused) => Err(error_at(refused.place, refused.why)),
+        Err(refusal) => Err(refusal),
     }
 }
 
@@ -88,10 +85,7 @@ pub fn rewrite_all<'a>(
             Some(()) => Ok(()),
             None => Err((input, DeserializeError::OutOfMemory)),
         },
-        Err((left, rejected)) => {
-            let refused = refusal_of(left, rejected);
-            Err((left, error_at(refused.place, refused.why)))
-        }
+        Err((left, rejected)) => Err((left, refusal_for(rejected))),
     }
 }
 
@@ -108,42 +102,19 @@ pub fn accept_all(alloc: Global, input: &[u8]) -> Result<(), (&[u8], Deserialize
 {
     match find_fault(alloc, input) {
         Ok(()) => Ok(()),
-        Err((pod, rejected)) => {
-            let refused = refusal_of(pod, rejected);
-            Err((pod, error_at(refused.place, refused.why)))
-        }
+        Err((pod, rejected)) => Err((pod, refusal_for(rejected))),
     }
-}
-
-/// A refusal, and the bytes from its place on.
-#[derive(Clone, Copy)]
-struct Refused<'a> {
-    /// These bytes.
-    place: &'a [u8],
-    /// The cause.
-    why: Refusal,
 }
 
 /// The refusal of a pod that isn't accepted: for its fault, or for want of memory where it nests too deep.
-#[tactic(auto, using(spa_canonical::proofs::Deeper::its_front, crate::proofs::Lacking::fault_memory, crate::proofs::Lacking::is_fault, crate::proofs::Lacking::lacks))]
-fn refusal_of<'a>(pod: &'a [u8], rejected: Rejected<'a>) -> Refused<'a>
-    requires { IsRejected pod.now rejected }
-    ensures refused { IsRefusal pod.now (error_of result.place result.why) }
-    ensures memory { OnMemory (NestsDeeper levels_looked_into pod.now) (error_of result.place result.why) }
+#[cold]
+fn refusal_for(rejected: Rejected<'_>) -> DeserializeError<&[u8]>
+    ensures refused { (pod : List ℕ) → IsRejected pod rejected.entry → IsRefusal pod result }
+    ensures memory { (pod : List ℕ) → IsRejected pod rejected.entry → OnMemory (NestsDeeper levels_looked_into pod) result }
 {
     match rejected {
-        Rejected::Fault(place, _, why) => Refused { place, why },
-        Rejected::TooDeep => lacking_memory(pod),
-    }
-}
-
-/// The refusal of the pod at the front of these bytes for want of memory.
-fn lacking_memory(pod: &[u8]) -> Refused<'_>
-    ensures { result.why ≡ refusal.OutOfMemory }
-{
-    Refused {
-        place: pod,
-        why: Refusal::OutOfMemory,
+        Rejected::Fault(place, _, why) => error_at(place, why),
+        Rejected::TooDeep => DeserializeError::OutOfMemory,
     }
 }
 
@@ -165,45 +136,42 @@ fn append_pods(canonical: usize, changed: usize, pods: &[u8], out: &mut Vec<u8>)
     Some(())
 }
 
-/// What follows the pod at the front, which is accepted, however deep it nests.
-fn accept_any(alloc: Global, input: &[u8]) -> Result<&[u8], Rejected<'_>>
-    ensures accepted { IfOk result (λ rest. (v : Tree) × BeginsWith input.now v rest.now) }
+/// Does what `accept_pod` does, however deep the pod nests.
+fn accept_any(alloc: Global, input: &[u8]) -> Result<(&[u8], usize), Rejected<'_>>
+    ensures accepted { IfOk result (λ front. BeginsShorter input.now front.0.now front.1) }
     ensures rejected { IfErr result (IsRejected input.now) }
 {
     match accept_pod(input) {
-        Ok((rest, _)) => Ok(rest),
-        Err(rejected) => match rejected {
-            Rejected::Fault(_, _, _) => Err(rejected),
-            Rejected::TooDeep => match accept_deep(alloc, input) {
-                Ok((rest, _)) => Ok(rest),
-                Err(rejected) => Err(rejected),
-            },
-        },
+        Err(Rejected::TooDeep) => accept_deep(alloc, input),
+        answer => answer,
     }
 }
 
 /// Appends the encoding of the pod at the front of the input, and answers what follows that pod.
 #[tactic(auto, using(crate::proofs::Appending::front_copied, crate::proofs::Appending::none_canonical, crate::proofs::Lacking::lacks))]
-fn append_front<'a>(input: &'a [u8], out: &mut Vec<u8>) -> Result<&'a [u8], Refused<'a>>
+fn append_front<'a>(
+    input: &'a [u8],
+    out: &mut Vec<u8>,
+) -> Result<&'a [u8], DeserializeError<&'a [u8]>>
     ensures appended { IfOk result (λ rest. AppendsFront input.now rest.now out.old.items out.new.items) }
     ensures unchanged { OnErr result (out.new.items ≡ out.old.items) }
-    ensures refused { IfErr result (λ refused. IsRefusal input.now (error_of refused.place refused.why)) }
+    ensures refused { IfErr result (IsRefusal input.now) }
 {
     if let Some(rest) = canonical_front(input) {
         let (front, _) = input.split_at(input.len() - rest.len());
         return match out.extend_from_slice(front) {
             Ok(()) => Ok(rest),
-            Err(_) => Err(lacking_memory(input)),
+            Err(_) => Err(DeserializeError::OutOfMemory),
         };
     }
     match accept_any(*out.allocator(), input) {
-        Ok(rest) => {
+        Ok((rest, _)) => {
             let (front, _) = input.split_at(input.len() - rest.len());
             match append_pods(0, front.len(), front, out) {
                 Some(()) => Ok(rest),
-                None => Err(lacking_memory(input)),
+                None => Err(DeserializeError::OutOfMemory),
             }
         }
-        Err(rejected) => Err(refusal_of(input, rejected)),
+        Err(rejected) => Err(refusal_for(rejected)),
     }
 }

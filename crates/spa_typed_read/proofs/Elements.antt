@@ -8,10 +8,9 @@ use Rattle.spa_format.specs.Encoding.{encoding_of}
 use Rattle.spa_format.specs.Front.{Begins, front_of}
 use Rattle.spa_format.specs.Normal.{kept_elements}
 use Rattle.spa_format.specs.Typed.{IsTyped}
-use Rattle.spa_format.specs.Writable.{IsWritable}
 use Rattle.spa_format.proofs.Back.{encoding_begins}
 use Rattle.spa_format.proofs.Unique.{one_value}
-use Rattle.spa_typed_read.specs.Members.{ArrayReader, HasElements, IsMadeOf, OpensArray, TakesElement, TakesElements, list_tree, single_tree}
+use Rattle.spa_typed_read.specs.Members.{ArrayReader, ElementsAreTheArrays, EncodingBegins, HasElements, ListsComeBack, OpensArray, TakesElement, TakesElements, single_tree}
 use Rattle.spa_bodies.specs.Reading.{IsRead}
 use Rattle.spa_bodies.proofs.Steps.{pod_read}
 
@@ -70,9 +69,7 @@ same_after : {C X : Type 0} (k : Kind) (fixed : C → Fixed) (made_of : C → X)
 same_after k fixed made_of a last [] t = ap (λ r. r.reader.after) t
 same_after k fixed made_of a last (x ∷ xs) t = same_after k fixed made_of t.0 last xs t.2 ∙ t.1.after
 
-pub all_elements : {C X : Type 0} (k : Kind) (fixed : C → Fixed) (made_of : C → X) (input : List ℕ) (xs : List X)
-    (first last : ArrayReader) → OpensArray k input first → TakesElements k fixed made_of first xs last → last.count ≡ 0 →
-    IsRead input last.reader.after (IsMadeOf k fixed made_of xs)
+pub all_elements : {C X : Type 0} (k : Kind) (fixed : C → Fixed) (made_of : C → X) → ElementsAreTheArrays k fixed made_of
 all_elements k fixed made_of input xs first last o t z =
     let all = all_bodies k fixed made_of first last xs o.elements t z in
     let value = array k (map fixed all.elements) in
@@ -127,10 +124,8 @@ abbrev pub says_all : {C X : Type 0} → (C → Fixed) → (X → C) → List X 
 says_all fixed stands_for xs = map (λ x. fixed (stands_for x)) xs
 
 pub comes_back : {C X : Type 0} (k : Kind) (fixed : C → Fixed) (stands_for : X → C) (made_of : C → X) →
-    ((c d : C) → fixed c ≡ fixed d → c ≡ d) → ((x : X) → made_of (stands_for x) ≡ x) →
-    (input : List ℕ) (xs ys : List X) (first last : ArrayReader) → Begins input (list_tree k fixed stands_for xs) →
-    OpensArray k input first → TakesElements k fixed made_of first ys last → last.count ≡ 0 → ys ≡ xs
-comes_back k fixed stands_for made_of same lawful input xs ys first last b o t z =
+    ((c d : C) → fixed c ≡ fixed d → c ≡ d) → ListsComeBack k fixed stands_for made_of
+comes_back k fixed stands_for made_of same input xs ys first last lawful b o t z =
     let all = all_elements k fixed made_of input ys first last o t z in
     let made = all.holds in
     let says = map (λ x. fixed (stands_for x)) xs in
@@ -154,8 +149,7 @@ kept_sized rectangle_kind xs h = refl
 kept_sized fraction_kind xs h = refl
 kept_sized fd_kind xs h = refl
 
-pub array_begins : (k : Kind) (xs : List Fixed) (rest : List ℕ) → 0 < body_size k → IsTyped (array k xs) →
-    IsWritable (array k xs) → Begins (encoding_of (array k xs) ++ rest) (array k xs)
+pub array_begins : (k : Kind) (xs : List Fixed) (rest : List ℕ) → 0 < body_size k → EncodingBegins rest (array k xs)
 array_begins k xs rest h t w =
     subst (λ ys. Begins (encoding_of (array k xs) ++ rest) (array k ys)) (kept_sized k xs h)
     (encoding_begins (array k xs) rest t w).1

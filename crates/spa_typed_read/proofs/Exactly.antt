@@ -2,7 +2,7 @@
 use Rattle.std.proofs.Common.{◌≡◌, ◌≢◌, ℕ, List, drop, refl, sym, ap, ◌∙◌, subst, arith, inl, inr}
 use Rattle.std.specs.Borrow.{Bor}
 use Rattle.spa_format.specs.Words.{body_of, header_size, word_at}
-use Rattle.spa_format.specs.Tree.{Tree, Trees, Properties, member, object, object_type, struct_type, type_of}
+use Rattle.spa_format.specs.Tree.{Tree, Trees, Properties, object, object_type, struct_type, type_of}
 use Rattle.spa_format.specs.Pod.{AreMembers, AreProperties, IsBody, IsPod}
 use Rattle.spa_format.specs.Front.{HasFront, Begins, rest_of}
 use Rattle.spa_format.proofs.Refused as format

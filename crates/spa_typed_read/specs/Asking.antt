@@ -13,18 +13,26 @@ use Rattle.spa_fixed_sized.specs.declared.fault.DeserializeError.{DeserializeErr
 use Rattle.spa_fixed_sized.specs.declared.fault.DeserializeError.TheVariants as error
 use Rattle.spa_bodies.specs.Reading.{OnFault, OnMemory, IsShortAt}
 
+-- a refusal of a read, which may name bytes of the input
+abbrev pub ReadRefusal : Type 0
+ReadRefusal = DeserializeError (Bor (List ℕ))
+
+-- how a read may be refused: the input, and the refusal
+abbrev pub RefusingRead : Type 1
+RefusingRead = List ℕ → ReadRefusal → Type 0
+
 -- the fault of an input whose front isn't there, or has another type number than the one asked for
 abbrev pub LacksBytes : ℕ → List ℕ → FaultKind → Type 0
 LacksBytes t b fault_kind.Short = ¬ (HasFront b)
 LacksBytes t b fault_kind.Tag = HasFront b × (word_at b 4 ≢ t)
 LacksBytes t b fault_kind.Text = ⊥
 
-abbrev pub LacksFront : ℕ → List ℕ → DeserializeError (Bor (List ℕ)) → Type 0
+abbrev pub LacksFront : ℕ → List ℕ → ReadRefusal → Type 0
 LacksFront t b (error.Nom f) = (f.input.now ≡ b) × LacksBytes t b f.kind
 LacksFront t b _ = ⊥
 
 -- the refusal where no object is at the front, or where the body of one is too short for its type and its id
-abbrev pub LacksObject : List ℕ → DeserializeError (Bor (List ℕ)) → Type 0
+abbrev pub LacksObject : List ℕ → ReadRefusal → Type 0
 LacksObject b (error.Nom f) = (f.input.now ≡ b) × LacksBytes object_type b f.kind
 LacksObject b error.WrongSize = HasFront b × (word_at b 4 ≡ object_type) × (length (body_of b) < header_size)
 LacksObject b _ = ⊥
@@ -73,7 +81,7 @@ NamesBytes a b fault_kind.Text = StandsAsked a fault.Text b
 
 -- The refusal names a fault that stands at the front of the input. One for want of memory names none, and there are no
 -- other refusals.
-abbrev pub NamesAsked : Asked → List ℕ → DeserializeError (Bor (List ℕ)) → Type 0
+abbrev pub NamesAsked : Asked → List ℕ → ReadRefusal → Type 0
 NamesAsked a b (error.Nom f) = (f.input.now ≡ b) × NamesBytes a b f.kind
 NamesAsked a b error.UnsupportedType = BeginsOther a b
 NamesAsked a b error.InvalidType = StandsAsked a fault.InvalidType b
@@ -86,7 +94,7 @@ NamesAsked a b _ = ⊥
 -- Any refusal but one for want of memory says that the input begins with no pod of a value that is asked for, and names
 -- a fault that stands. One for want of memory says that the front is there and of the type that is asked for, and that
 -- such a read takes memory. Where the front isn't there, the refusal is `Short`, whatever else the input has.
-pub record RefusesAsked (a : Asked) (takes_memory : Type 0) (b : List ℕ) (e : DeserializeError (Bor (List ℕ))) : Type 0 where
+pub record RefusesAsked (a : Asked) (takes_memory : Type 0) (b : List ℕ) (e : ReadRefusal) : Type 0 where
   pub refused : OnFault ((v : Tree) → Begins b v → ¬ (IsAsked a v)) e
   pub named : NamesAsked a b e
   pub memory : OnMemory (takes_memory × HasFront b × (word_at b 4 ≡ asked_type a)) e

@@ -5,12 +5,11 @@ use Rattle.spa_format.specs.Tree.{Tree, Properties, no_properties, property, obj
 use Rattle.spa_format.specs.Pod.{AreProperties}
 use Rattle.spa_format.specs.Words.{body_of, header_size, word_at}
 use Rattle.spa_format.specs.Front.{HasFront, rest_of}
-use Rattle.spa_fixed_sized.specs.declared.fault.DeserializeError.{DeserializeError}
 use Rattle.spa_bodies.specs.Reading.{IsRead, IsShortAt, Names, OnFault, OnMemory}
 use Rattle.spa_bodies.specs.Refusing.{StandsInProperties}
 use Rattle.spa_canonical.specs.Depth.{NestsDeeper, levels_looked_into}
 use Rattle.spa_fixed_sized.specs.declared.fault.DeserializeError.TheVariants as error
-use Rattle.spa_typed_read.specs.Asking.{LacksObject}
+use Rattle.spa_typed_read.specs.Asking.{LacksObject, ReadRefusal, RefusingRead}
 use Rattle.spa_typed_read.specs.Members.{ObjectReader, OpensObject}
 
 -- the value of the first property with this key; None where no property has it
@@ -32,7 +31,7 @@ AreNoProperties b = (ps : Properties) → ¬ (AreProperties ps b)
 
 -- A refusal of properties of any types: but for want of memory it says that these bytes are no properties, and names a fault that
 -- stands in them. One for want of memory says that there is at least one byte.
-pub record RefusesProperties (b : List ℕ) (e : DeserializeError (Bor (List ℕ))) : Type 0 where
+pub record RefusesProperties (b : List ℕ) (e : ReadRefusal) : Type 0 where
   pub unread : OnFault (AreNoProperties b) e
   pub named : Names (λ k place. StandsInProperties b place k) e
   pub memory : OnMemory (b ≢ []) e
@@ -89,7 +88,7 @@ FindsFirst reads key b read =
 
 -- The refusal of a search for the key: behind whole properties with other keys a key or a pod is short, or the value of the first property with
 -- the key is refused.
-pub data RefusesUnder (refuses : List ℕ → DeserializeError (Bor (List ℕ)) → Type 0) (key : ℕ) (b : List ℕ) (e : DeserializeError (Bor (List ℕ))) : Type 0 where
+pub data RefusesUnder (refuses : RefusingRead) (key : ℕ) (b : List ℕ) (e : ReadRefusal) : Type 0 where
   short_key : (left : List ℕ) → LeadsTo key left b → left ≢ [] → length left < header_size → IsShortAt left e → RefusesUnder refuses key b e
   short_pod : (left : List ℕ) → LeadsTo key left b → header_size ≤ length left → ¬ (HasFront (drop header_size left)) → IsShortAt (drop header_size left) e → RefusesUnder refuses key b e
   under_key : (left : List ℕ) → LeadsTo key left b → header_size ≤ length left → word_at left 0 ≡ key → refuses (drop header_size left) e → RefusesUnder refuses key b e
@@ -114,14 +113,14 @@ pub record ReadsObject {X : Type 0} (type id : ℕ) (reads : Properties → X �
 
 -- The refusal of the object at the front: it isn't opened, or has another type or id; or a property that is asked for is refused, or the
 -- properties as a whole are.
-pub data RefusesObjectOf (type id : ℕ) (refuses : List ℕ → DeserializeError (Bor (List ℕ)) → Type 0) (b : List ℕ) (e : DeserializeError (Bor (List ℕ))) : Type 0 where
+pub data RefusesObjectOf (type id : ℕ) (refuses : RefusingRead) (b : List ℕ) (e : ReadRefusal) : Type 0 where
   not_object : LacksObject b e → RefusesObjectOf type id refuses b e
   other_object : (r : ObjectReader) → OpensObject b r → (r.type ≢ type) ⊎ (r.id ≢ id) → e ≡ error.UnsupportedType → RefusesObjectOf type id refuses b e
   asked_for : (r : ObjectReader) → OpensObject b r → refuses r.reader.left e → RefusesObjectOf type id refuses b e
   passed : (r : ObjectReader) → OpensObject b r → RefusesProperties r.reader.left e → RefusesObjectOf type id refuses b e
 
 -- the refusal of a property that has to be there: its value is refused, or no property has its key
-abbrev pub RefusesRequired : (List ℕ → DeserializeError (Bor (List ℕ)) → Type 0) → ℕ → List ℕ → DeserializeError (Bor (List ℕ)) → Type 0
+abbrev pub RefusesRequired : RefusingRead → ℕ → List ℕ → ReadRefusal → Type 0
 RefusesRequired refuses key b e = RefusesUnder refuses key b e ⊎ ((e ≡ error.PropertyMissing) × LeadsTo key [] b)
 
 -- the reads of the properties asked for take memory in the object at the front, or one of its values nests deep

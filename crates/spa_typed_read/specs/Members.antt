@@ -5,11 +5,14 @@ use Rattle.spa_format.specs.Kind.{Kind, Fixed, IsFixedBody, body_size, type_numb
 use Rattle.spa_format.specs.Tree.{Tree, Trees, Properties, array, array_type, object_type, struct_type}
 use Rattle.spa_format.specs.Tree as tree
 use Rattle.spa_format.specs.Pod.{AreMembers, AreProperties}
+use Rattle.spa_format.specs.Encoding.{encoding_of}
+use Rattle.spa_format.specs.Front.{Begins}
+use Rattle.spa_format.specs.Typed.{IsTyped}
+use Rattle.spa_format.specs.Writable.{IsWritable}
 use Rattle.spa_bytes.specs.Opening.{Opens}
-use Rattle.std.specs.Borrow.{Bor}
-use Rattle.spa_fixed_sized.specs.declared.fault.DeserializeError.{DeserializeError}
 use Rattle.spa_fixed_sized.specs.declared.fault.DeserializeError.TheVariants as error
 use Rattle.spa_bodies.specs.Reading.{IsRead, IsShortAt}
+use Rattle.spa_typed_read.specs.Asking.{ReadRefusal, RefusingRead}
 
 -- a reader: the remaining bytes of the body, the bytes that follow the pod, and whether the reader has failed
 pub record Reader : Type 0 where
@@ -23,7 +26,7 @@ pub record AtEnd (r : Reader) : Type 0 where
   pub none_left : r.left ≡ []
 
 -- the refusal of ending a reader: a call was refused before, or bytes of the body are left
-abbrev pub RefusesEnd : Reader → DeserializeError (Bor (List ℕ)) → Type 0
+abbrev pub RefusesEnd : Reader → ReadRefusal → Type 0
 RefusesEnd r e =
     ((r.failed ≡ true) × (e ≡ error.FailedReader))
     ⊎ ((r.failed ≡ false) × (r.left ≢ []) × (e ≡ error.UnreadMembers))
@@ -114,13 +117,13 @@ pub record TakesProperty (old new : ObjectReader) (key flags : ℕ) (P : Tree �
 
 -- A refusal of the read of the next property by its key: the reader has failed; or no property is left, and the reader didn't move;
 -- or the next property, which was read, has another key.
-pub data RefusesKey (Takes : ℕ → ℕ → Type 0) (key : ℕ) (old new : ObjectReader) (e : DeserializeError (Bor (List ℕ))) : Type 0 where
+pub data RefusesKey (Takes : ℕ → ℕ → Type 0) (key : ℕ) (old new : ObjectReader) (e : ReadRefusal) : Type 0 where
   fails : new.reader.failed ≡ true → RefusesKey Takes key old new e
   missing : e ≡ error.PropertyMissing → AtEnd old.reader → new ≡ old → RefusesKey Takes key old new e
   wrong_key : (found flags : ℕ) → e ≡ error.PropertyWrongKey found → found ≢ key → Takes found flags → RefusesKey Takes key old new e
 
 -- Why the next property isn't read by its key: none is left; its key is short, or another one; or its value is refused.
-pub data RefusesNext (refuses : List ℕ → DeserializeError (Bor (List ℕ)) → Type 0) (key : ℕ) (b : List ℕ) (e : DeserializeError (Bor (List ℕ))) : Type 0 where
+pub data RefusesNext (refuses : RefusingRead) (key : ℕ) (b : List ℕ) (e : ReadRefusal) : Type 0 where
   key_missing : b ≡ [] → e ≡ error.PropertyMissing → RefusesNext refuses key b e
   key_short : b ≢ [] → length b < header_size → IsShortAt b e → RefusesNext refuses key b e
   key_other : header_size ≤ length b → word_at b 0 ≢ key → e ≡ error.PropertyWrongKey (word_at b 0) → RefusesNext refuses key b e
@@ -177,3 +180,18 @@ pub record IsMadeOf {C X : Type 0} (k : Kind) (fixed : C → Fixed) (made_of : C
   pub elements : List C
   pub value : v ≡ array k (map fixed elements)
   pub made : xs ≡ map made_of elements
+
+-- the law of `elements_are_the_arrays`: what is read of the array at the front, element by element, up to where none is left, is all of it
+abbrev pub ElementsAreTheArrays : {C X : Type 0} → Kind → (C → Fixed) → (C → X) → Type 0
+ElementsAreTheArrays {X = X} k fixed made_of = (input : List ℕ) (xs : List X) (first last : ArrayReader) → OpensArray k input first →
+    TakesElements k fixed made_of first xs last → last.count ≡ 0 → IsRead input last.reader.after (IsMadeOf k fixed made_of xs)
+
+-- the law of `lists_come_back`: what is so read of a pod of the array as which a list is written is that list
+abbrev pub ListsComeBack : {C X : Type 0} → Kind → (C → Fixed) → (X → C) → (C → X) → Type 0
+ListsComeBack {X = X} k fixed stands_for made_of = (input : List ℕ) (xs ys : List X) (first last : ArrayReader) →
+    ((x : X) → made_of (stands_for x) ≡ x) → Begins input (list_tree k fixed stands_for xs) → OpensArray k input first →
+    TakesElements k fixed made_of first ys last → last.count ≡ 0 → ys ≡ xs
+
+-- the encoding of this value, if the value can be written, is a pod of it, whatever follows
+abbrev pub EncodingBegins : List ℕ → Tree → Type 0
+EncodingBegins rest v = IsTyped v → IsWritable v → Begins (encoding_of v ++ rest) v

@@ -1,18 +1,16 @@
 -- The content that a visitor is handed, and the value that it makes of it.
 use Rattle.std.specs.Prelude.{◌≡◌, ◌≢◌, ℕ, List, [], map, false, true, ⊤, Vec}
-use Rattle.std.specs.Borrow.{Bor}
 use Rattle.std.specs.Global.{Global}
 use Rattle.spa_format.specs.Kind.{Kind, Fixed, none, bool, id, int, long, float, double, rectangle, fraction, fd}
 use Rattle.spa_format.specs.Tree.{Tree, Trees, Properties, fixed, string, bytes, bitmap, array, pointer, type_of, choice_type, struct_type}
 use Rattle.spa_format.specs.Pod.{IsBody}
 use Rattle.spa_format.specs.Front.{Begins, rest_of}
-use Rattle.spa_fixed_sized.specs.declared.fault.DeserializeError.{DeserializeError}
 use Rattle.spa_fixed_sized.specs.declared.fault.DeserializeError.TheVariants as error
 use Rattle.spa_value.specs.View.{choice_view}
 use Rattle.spa_bodies.specs.Reading.{OnFault, OnMemory}
 use Rattle.spa_typed_read.specs.Exactly.{AreUnread}
 use Rattle.spa_typed_read.specs.Lookup.{NoneRead}
-use Rattle.spa_typed_read.specs.Asking.{LacksFront, LacksObject, array_of, of_type, RefusesAsked}
+use Rattle.spa_typed_read.specs.Asking.{LacksFront, LacksObject, array_of, of_type, RefusesAsked, ReadRefusal}
 use Rattle.spa_typed_read.specs.Members.{Ahead, AheadIn, Further, FurtherIn, ObjectReader, OpensObject, OpensStruct, Reader}
 use Rattle.spa_typed_read.specs.declared.visitor.Visit.{Visit}
 use Rattle.spa_typed_read.specs.declared.visitor.Visit.TheVariants as visit
@@ -60,18 +58,19 @@ pub record IsVisited {E X : Type 0} (type : ℕ) (visits : Visit E → X → Typ
 
 -- The refusal of a visit: the read is refused, for memory only where it is that of a choice; or the visitor declined the
 -- content of the pod at the front.
-pub data RefusesVisit {E : Type 0} (type : ℕ) (declines : Visit E → DeserializeError (Bor (List ℕ)) → Type 0) (input : List ℕ) (e : DeserializeError (Bor (List ℕ))) : Type 0 where
+pub data RefusesVisit {E : Type 0} (type : ℕ) (declines : Visit E → ReadRefusal → Type 0) (input : List ℕ) (e : ReadRefusal) : Type 0 where
   unread : RefusesAsked (of_type type) (type ≡ choice_type) input e → RefusesVisit type declines input e
   declined : (given : Visit E) → IsHanded type input given → declines given e → RefusesVisit type declines input e
 
 -- The refusal of the visit of an array over this kind: the read is refused, or the visitor declined the elements.
-pub data RefusesArrayVisit {E : Type 0} (k : Kind) (fixed : E → Fixed) (declines : Visit E → DeserializeError (Bor (List ℕ)) → Type 0) (input : List ℕ) (e : DeserializeError (Bor (List ℕ))) : Type 0 where
+pub data RefusesArrayVisit {E : Type 0} (k : Kind) (fixed : E → Fixed) (declines : Visit E → ReadRefusal → Type 0) (input : List ℕ) (e : ReadRefusal) : Type 0 where
   no_array : RefusesAsked (array_of k) ⊤ input e → RefusesArrayVisit k fixed declines input e
   declined_array : (xs : Vec E Global) → Begins input (array k (map fixed xs.items)) → declines (visit.Array xs) e → RefusesArrayVisit k fixed declines input e
 
 -- The refusal of the visit of a struct: it isn't opened; or the visitor, which borrowed its reader, declined it; or the visitor made a value and
 -- left the reader failed, or members unread.
-pub data RefusesStruct (declines : Reader → Reader → DeserializeError (Bor (List ℕ)) → Type 0) (leaves : Reader → Reader → Type 0) (input : List ℕ) (e : DeserializeError (Bor (List ℕ))) : Type 0 where
+pub data RefusesStruct (declines : Reader → Reader → ReadRefusal → Type 0) (leaves : Reader → Reader → Type 0)
+    (input : List ℕ) (e : ReadRefusal) : Type 0 where
   no_struct : LacksFront struct_type input e → RefusesStruct declines leaves input e
   declined_struct : (lent now : Reader) → OpensStruct input lent → Further lent now → declines lent now e → RefusesStruct declines leaves input e
   failed_struct : (lent now : Reader) → OpensStruct input lent → leaves lent now → now.failed ≡ true → e ≡ error.FailedReader → RefusesStruct declines leaves input e
@@ -79,20 +78,21 @@ pub data RefusesStruct (declines : Reader → Reader → DeserializeError (Bor (
 
 -- The refusal of the visit of an object: it isn't opened; or the visitor, which borrowed its reader, declined it; or the visitor made a value
 -- and left the reader failed, or properties unread.
-pub data RefusesObject (declines : ObjectReader → ObjectReader → DeserializeError (Bor (List ℕ)) → Type 0) (leaves : ObjectReader → ObjectReader → Type 0) (input : List ℕ) (e : DeserializeError (Bor (List ℕ))) : Type 0 where
+pub data RefusesObject (declines : ObjectReader → ObjectReader → ReadRefusal → Type 0) (leaves : ObjectReader → ObjectReader → Type 0)
+    (input : List ℕ) (e : ReadRefusal) : Type 0 where
   no_object : LacksObject input e → RefusesObject declines leaves input e
   declined_object : (lent now : ObjectReader) → OpensObject input lent → FurtherIn lent now → declines lent now e → RefusesObject declines leaves input e
   failed_object : (lent now : ObjectReader) → OpensObject input lent → leaves lent now → now.reader.failed ≡ true → e ≡ error.FailedReader → RefusesObject declines leaves input e
   unread_object : (lent now : ObjectReader) → OpensObject input lent → AheadIn lent now → leaves lent now → now.reader.left ≢ [] → e ≡ error.UnreadMembers → RefusesObject declines leaves input e
 
 -- A visitor that was handed the content of this value declines it, unless for want of memory, only where no result is read of it.
-pub record DeclinesExactlyOf {X : Type 0} (reads : Tree → X → Type 0) (takes_memory : Type 0) (v : Tree) (e : DeserializeError (Bor (List ℕ))) : Type 0 where
+pub record DeclinesExactlyOf {X : Type 0} (reads : Tree → X → Type 0) (takes_memory : Type 0) (v : Tree) (e : ReadRefusal) : Type 0 where
   pub unread : OnFault ((x : X) → ¬ (reads v x)) e
   pub memory : OnMemory takes_memory e
 
 -- A visitor that borrowed a struct's reader at its first member declines it, unless for want of memory, only where no result is read of the
 -- members.
-pub record DeclinesExactly {X : Type 0} (reads : Trees → X → Type 0) (takes_memory : Type 0) (lent now : Reader) (e : DeserializeError (Bor (List ℕ))) : Type 0 where
+pub record DeclinesExactly {X : Type 0} (reads : Trees → X → Type 0) (takes_memory : Type 0) (lent now : Reader) (e : ReadRefusal) : Type 0 where
   pub unread : lent.failed ≡ false → OnFault (AreUnread reads lent.left) e
   pub memory : lent.failed ≡ false → OnMemory takes_memory e
 
@@ -102,7 +102,7 @@ pub record LeavesExactly {X : Type 0} (reads : Trees → X → Type 0) (lent now
   pub unread : lent.failed ≡ false → now.left ≢ [] → AreUnread reads lent.left
 
 -- the two of an object's reader: no result is read of the object's type, id and properties
-pub record DeclinesExactlyIn {X : Type 0} (reads : ℕ → ℕ → Properties → X → Type 0) (takes_memory : Type 0) (lent now : ObjectReader) (e : DeserializeError (Bor (List ℕ))) : Type 0 where
+pub record DeclinesExactlyIn {X : Type 0} (reads : ℕ → ℕ → Properties → X → Type 0) (takes_memory : Type 0) (lent now : ObjectReader) (e : ReadRefusal) : Type 0 where
   pub unread : lent.reader.failed ≡ false → OnFault (NoneRead (reads lent.type lent.id) lent.reader.left) e
   pub memory : lent.reader.failed ≡ false → OnMemory takes_memory e
 

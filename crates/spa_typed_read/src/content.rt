@@ -1,11 +1,10 @@
 //! Types that are made of a content that is read: of a struct's members, or of any other readable type.
 ghost use Rattle.std.specs.Prelude.{◌≡◌, ◌⊎◌, ℕ, List, false, true, IfErr, IfOk, IsErrAnd};
-ghost use Rattle.std.specs.Borrow.{Bor};
-ghost use Rattle.spa_fixed_sized.specs.declared.fault.DeserializeError.{DeserializeError};
 ghost use Rattle.spa_fixed_sized.specs.declared.fault.DeserializeError.TheVariants as error;
 ghost use Rattle.spa_format.specs.Front.{rest_of};
 ghost use Rattle.spa_format.specs.Tree.{Tree, Trees, no_trees};
 ghost use Rattle.spa_format.specs.Words.{body_of};
+ghost use Rattle.spa_typed_read.specs.Asking.{ReadRefusal};
 ghost use Rattle.spa_typed_read.specs.Exactly.{AreUnread, ReadsFirst, ReadsStruct, RefusesExactly, RefusesFirst, RefusesMore, RefusesStructOf};
 ghost use Rattle.spa_typed_read.specs.ExactlyLaws.{made_exactly};
 ghost use Rattle.spa_typed_read.specs.Members.{AllMembers, AtEnd, Further};
@@ -79,7 +78,7 @@ pub trait DeserializeMembers<'de>: Sized + Drop {
     ghost reads_members: { Trees → Self → Type 0 };
 
     /// The refusals of such members in these bytes.
-    ghost refuses_members: { List ℕ → DeserializeError (Bor (List ℕ)) → Type 0 };
+    ghost refuses_members: { List ℕ → ReadRefusal → Type 0 };
 
     /// Whether their reads take memory, in these bytes.
     ghost takes_memory: { List ℕ → Type 0 };

@@ -1,7 +1,5 @@
 //! The deserializer, which reads one pod from the front of an input.
 ghost use Rattle.std.specs.Prelude.{⊤, ◌≡◌, ℕ, ◌*◌, ◌<◌, ◌≤◌, List, IfErr, IfOk, IsErrAnd, length};
-ghost use Rattle.std.specs.Borrow.{Bor};
-ghost use Rattle.spa_fixed_sized.specs.declared.fault.DeserializeError.{DeserializeError};
 ghost use Rattle.spa_format.specs.Faults.{Stands};
 ghost use Rattle.spa_format.specs.Front.{Begins, HasFront, IsRefused, rest_of};
 ghost use Rattle.spa_format.specs.Opened.{OpensHeaders};
@@ -10,6 +8,7 @@ ghost use Rattle.spa_format.specs.Words.{header_size};
 ghost use Rattle.spa_bodies.specs.Reading.{IsRead, IsShortAt, MayLackMemory, Names, OnFault, OnMemory, RefusesInput};
 ghost use Rattle.spa_read.specs.Reading.{ConveysAtFront, ConveysNothing, StandsLeniently};
 ghost use Rattle.spa_value.specs.View.{view};
+ghost use Rattle.spa_typed_read.specs.Asking.{ReadRefusal};
 
 use spa_bodies::error_at;
 use spa_fixed_sized::DeserializeError;
@@ -24,7 +23,7 @@ pub trait PodDeserialize<'de>: Sized + Drop {
     ghost reads: { Tree → Self → Type 0 };
 
     /// The refusals of an input. A type that promises nothing of its refusals keeps the default.
-    ghost refuses: { List ℕ → DeserializeError (Bor (List ℕ)) → Type 0 } = { λ _ _. ⊤ };
+    ghost refuses: { List ℕ → ReadRefusal → Type 0 } = { λ _ _. ⊤ };
 
     /// Reads the pod at the front of the deserializer's input. `refuses` states the refusals.
     fn deserialize(

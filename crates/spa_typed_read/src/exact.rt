@@ -1,12 +1,10 @@
 //! Types whose reads are refused only where the input begins with no value that is read as one of them.
 ghost use Rattle.std.specs.Prelude.{⊤, ◌≡◌, ℕ, List, map};
-ghost use Rattle.std.specs.Borrow.{Bor};
 ghost use Rattle.std.proofs.Common.{ap, ◌∙◌};
-ghost use Rattle.spa_fixed_sized.specs.declared.fault.DeserializeError.{DeserializeError};
 ghost use Rattle.spa_format.specs.Kind as k;
 ghost use Rattle.spa_format.specs.Kind.{type_number};
 ghost use Rattle.spa_format.specs.Tree.{bitmap_type, bytes_type, pointer_type, string_type, type_of};
-ghost use Rattle.spa_typed_read.specs.Asking.{array_of, choice_of, of_type};
+ghost use Rattle.spa_typed_read.specs.Asking.{ReadRefusal, array_of, choice_of, of_type};
 ghost use Rattle.spa_typed_read.specs.Exactly.{RefusesExactly};
 ghost use Rattle.spa_typed_read.specs.ExactlyLaws.{any_exactly, asked_exactly, choice_asked};
 
@@ -25,7 +23,7 @@ pub trait ExactDeserialize<'de>: PodDeserialize<'de> {
 
     /// The law of its refusals. Any but one for want of memory says that the input begins with no such value; where the front isn't
     /// there, it is `Nom` with `Short`. Memory runs out only where the front is there and such a read takes memory.
-    ghost exactly: { (b : List ℕ) (e : DeserializeError (Bor (List ℕ))) → Self.refuses b e → RefusesExactly Self.reads (takes_memory b) b e };
+    ghost exactly: { (b : List ℕ) (e : ReadRefusal) → Self.refuses b e → RefusesExactly Self.reads (takes_memory b) b e };
 }
 
 impl<'de> ExactDeserialize<'de> for Value {

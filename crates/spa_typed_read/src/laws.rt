@@ -1,8 +1,6 @@
 //! Laws of values that are written and read back, of refusals, of arrays that are read element by element, and of borrowed readers. Each
 //! function does nothing: its contract is the law.
 ghost use Rattle.std.specs.Prelude.{◌≡◌, ◌<◌, ◌≤◌, ◌++◌, [], List, drop, length, ℕ};
-ghost use Rattle.std.specs.Borrow.{Bor};
-ghost use Rattle.spa_fixed_sized.specs.declared.fault.DeserializeError.{DeserializeError};
 ghost use Rattle.spa_fixed_sized.specs.declared.fault.DeserializeError.TheVariants as error;
 ghost use Rattle.spa_format.specs.Encoding.{encoding_of};
 ghost use Rattle.spa_format.specs.Normal.{normal_of};
@@ -13,9 +11,10 @@ ghost use Rattle.spa_format.specs.Typed.{IsTyped};
 ghost use Rattle.spa_format.specs.Words.{body_of, header_size, word_at};
 ghost use Rattle.spa_format.specs.Writable.{IsWritable};
 ghost use Rattle.spa_canonical.specs.Depth.{levels_looked_into, property_depth};
+ghost use Rattle.spa_typed_read.specs.Asking.{ReadRefusal};
 ghost use Rattle.spa_typed_read.specs.Exactly.{RefusesExactly};
 ghost use Rattle.spa_typed_read.specs.Lookup.{TakesIn};
-ghost use Rattle.spa_typed_read.specs.Members.{ArrayReader, Further, FurtherIn, IsMadeOf, ObjectReader, OpensArray, Reader, TakesElements, list_tree, single_tree};
+ghost use Rattle.spa_typed_read.specs.Members.{ArrayReader, ElementsAreTheArrays, EncodingBegins, Further, FurtherIn, ListsComeBack, ObjectReader, OpensArray, Reader, TakesElements, list_tree, single_tree};
 ghost use Rattle.spa_bodies.specs.Reading.{IsRead};
 
 use crate::exact::ExactDeserialize;
@@ -24,27 +23,17 @@ use spa_fixed_sized::{CanonicalFixedSizedPod, FixedSizedPod};
 
 /// The elements that an array's reader gives, up to where no element is left, are all elements of the array, in order.
 pub fn elements_are_the_arrays<E: FixedSizedPod>()
-    ensures { (input : List ℕ) (xs : List E) (first last : ArrayReader) → OpensArray E.CanonicalType.kind input first
-        → TakesElements E.CanonicalType.kind E.CanonicalType.fixed E.of_canonical first xs last → last.count ≡ 0
-        → IsRead input last.reader.after (IsMadeOf E.CanonicalType.kind E.CanonicalType.fixed E.of_canonical xs) }
+    ensures { ElementsAreTheArrays E.CanonicalType.kind E.CanonicalType.fixed E.of_canonical }
 {}
 
 /// A list that is written as an array is read back element by element as that list, where `of_canonical` of its type undoes `to_canonical`.
 /// Of units, which have no bytes, no element is read back.
 pub fn lists_come_back<E: FixedSizedPod>()
     // From a pod of that array,
-    ensures pod { (input : List ℕ) (xs ys : List E) (first last : ArrayReader)
-        → ((x : E) → E.of_canonical (E.to_canonical x) ≡ x)
-        → Begins input (list_tree E.CanonicalType.kind E.CanonicalType.fixed E.to_canonical xs)
-        → OpensArray E.CanonicalType.kind input first
-        → TakesElements E.CanonicalType.kind E.CanonicalType.fixed E.of_canonical first ys last → last.count ≡ 0
-        → ys ≡ xs }
+    ensures pod { ListsComeBack E.CanonicalType.kind E.CanonicalType.fixed E.to_canonical E.of_canonical }
     // such as its encoding,
     ensures encoding { (rest : List ℕ) (xs : List E) → 0 < E.CanonicalType.SIZE
-        → IsTyped (list_tree E.CanonicalType.kind E.CanonicalType.fixed E.to_canonical xs)
-        → IsWritable (list_tree E.CanonicalType.kind E.CanonicalType.fixed E.to_canonical xs)
-        → Begins (encoding_of (list_tree E.CanonicalType.kind E.CanonicalType.fixed E.to_canonical xs) ++ rest)
-        (list_tree E.CanonicalType.kind E.CanonicalType.fixed E.to_canonical xs) }
+        → EncodingBegins rest (list_tree E.CanonicalType.kind E.CanonicalType.fixed E.to_canonical xs) }
     // but not of units.
     ensures units { (input : List ℕ) (ys : List E) (first last : ArrayReader) → E.CanonicalType.SIZE ≡ 0
         → OpensArray E.CanonicalType.kind input first
@@ -66,13 +55,13 @@ pub fn values_come_back<E: FixedSizedPod>()
 /// A value of an exact type is read back from its encoding, whatever bytes follow that.
 pub fn exact_types_come_back<'de, P: ExactDeserialize<'de>>()
     // A refusal, unless for want of memory, says that the input begins with no value that is read so.
-    ensures exactly { (b : List ℕ) (e : DeserializeError (Bor (List ℕ))) → P.refuses b e
+    ensures exactly { (b : List ℕ) (e : ReadRefusal) → P.refuses b e
         → RefusesExactly P.reads (P.takes_memory b) b e }
     // The encoding of a value is read as its normal form, and the bytes that follow are left.
     ensures read { (v : Tree) (rest left : List ℕ) (x : P) → IsTyped v → IsWritable v
         → IsRead (encoding_of v ++ rest) left (λ w. P.reads w x) → P.reads (normal_of v) x × (left ≡ rest) }
     // Where the normal form is read as a value of the type, only memory can be wanting, and only where such a read takes memory.
-    ensures refused { (v : Tree) (rest : List ℕ) (x : P) (e : DeserializeError (Bor (List ℕ))) → IsTyped v
+    ensures refused { (v : Tree) (rest : List ℕ) (x : P) (e : ReadRefusal) → IsTyped v
         → IsWritable v → P.reads (normal_of v) x → P.refuses (encoding_of v ++ rest) e → (e ≡ error.OutOfMemory)
         × P.takes_memory (encoding_of v ++ rest) }
 {}

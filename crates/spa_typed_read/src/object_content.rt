@@ -1,10 +1,9 @@
 //! Objects whose properties are found by their keys, in any order.
 ghost use Rattle.std.specs.Prelude.{◌≡◌, ◌⊎◌, ℕ, List, MatchOption, Option, false, true, ⊤, IfErr, IfOk, IsErrAnd};
-ghost use Rattle.std.specs.Borrow.{Bor};
-ghost use Rattle.spa_fixed_sized.specs.declared.fault.DeserializeError.{DeserializeError};
 ghost use Rattle.spa_fixed_sized.specs.declared.fault.DeserializeError.TheVariants as error;
 ghost use Rattle.spa_format.specs.Pod.{AreProperties};
 ghost use Rattle.spa_format.specs.Tree.{Properties, Tree};
+ghost use Rattle.spa_typed_read.specs.Asking.{ReadRefusal};
 ghost use Rattle.spa_typed_read.specs.Exactly.{RefusesExactly};
 ghost use Rattle.spa_typed_read.specs.ExactlyLaws.{made_exactly};
 ghost use Rattle.spa_typed_read.specs.Lookup.{FindsIn, FindsUnder, HasFirst, IsUnder, LacksProperty, LeadsToAll, NoneRead, ReadsObject, RefusesObjectOf, RefusesRequired, RefusesUnder, TakesIn};
@@ -29,7 +28,7 @@ pub trait DeserializeProperties<'de>: Sized + Drop {
     ghost reads_properties: { Properties → Self → Type 0 };
 
     /// The refusals of these properties in these bytes: that of the first of them which isn't read.
-    ghost refuses_properties: { List ℕ → DeserializeError (Bor (List ℕ)) → Type 0 };
+    ghost refuses_properties: { List ℕ → ReadRefusal → Type 0 };
 
     /// Whether their reads take memory, in these bytes.
     ghost takes_memory: { List ℕ → Type 0 };

@@ -1,8 +1,7 @@
 //! Visitors, which make a value of the pod that a typed read finds.
-ghost use Rattle.std.specs.Prelude.{⊤, ℕ, IfErr, IfOk, List, OnOk};
-ghost use Rattle.std.specs.Borrow.{Bor};
-ghost use Rattle.spa_fixed_sized.specs.declared.fault.DeserializeError.{DeserializeError};
+ghost use Rattle.std.specs.Prelude.{⊤, ℕ, IfErr, IfOk, OnOk};
 ghost use Rattle.spa_format.specs.Tree.{Properties, Trees};
+ghost use Rattle.spa_typed_read.specs.Asking.{ReadRefusal};
 ghost use Rattle.spa_typed_read.specs.Members.{AllMembers, AllProperties, AtEnd, Further, FurtherIn, ObjectReader, Reader};
 ghost use Rattle.spa_typed_read.specs.declared.visitor.Visit.{Visit};
 
@@ -72,16 +71,16 @@ pub trait Visitor<'de>: Sized + Drop {
     ghost visits_object: { Self → ℕ → ℕ → Properties → Self.Value → Type 0 };
 
     /// The contents that the visitor may decline, and with which error. A visitor that promises nothing of that keeps the default.
-    ghost declines: { Self → Visit Self.ArrayElem → DeserializeError (Bor (List ℕ)) → Type 0 } = { λ _ _ _. ⊤ };
+    ghost declines: { Self → Visit Self.ArrayElem → ReadRefusal → Type 0 } = { λ _ _ _. ⊤ };
 
     /// The structs that the visitor may decline, and with which error: by the borrowed reader before and after the call.
-    ghost declines_struct: { Self → Reader → Reader → DeserializeError (Bor (List ℕ)) → Type 0 } = { λ _ _ _ _. ⊤ };
+    ghost declines_struct: { Self → Reader → Reader → ReadRefusal → Type 0 } = { λ _ _ _ _. ⊤ };
 
     /// How the visitor may leave the borrowed reader of a struct where it makes a value: by the reader before and after the call.
     ghost leaves_struct: { Self → Reader → Reader → Type 0 } = { λ _ _ _. ⊤ };
 
     /// The objects that the visitor may decline, and with which error.
-    ghost declines_object: { Self → ObjectReader → ObjectReader → DeserializeError (Bor (List ℕ)) → Type 0 } = { λ _ _ _ _. ⊤ };
+    ghost declines_object: { Self → ObjectReader → ObjectReader → ReadRefusal → Type 0 } = { λ _ _ _ _. ⊤ };
 
     /// How the visitor may leave the borrowed reader of an object where it makes a value.
     ghost leaves_object: { Self → ObjectReader → ObjectReader → Type 0 } = { λ _ _ _. ⊤ };

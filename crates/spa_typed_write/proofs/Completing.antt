@@ -1,5 +1,5 @@
 -- Writes that are refused only where they have to be.
-use Rattle.std.proofs.Common.{◌≡◌, ℕ, ◌+◌, ◌<◌, ◌≤◌, ◌⊎◌, inl, inr, ⊎_elim, List, [], ◌++◌, length, take, refl, sym, ap, ◌∙◌, subst, arith, append_assoc, length-append}
+use Rattle.std.proofs.Common.{◌≡◌, ℕ, ◌+◌, ◌<◌, ◌≤◌, inl, inr, ⊎_elim, List, [], ◌++◌, length, take, refl, sym, ap, ◌∙◌, subst, arith, append_assoc, length-append}
 use Rattle.std.specs.Prelude.{drop, max}
 use Rattle.std.proofs.lemmas.List.{append-nil, take-append-drop}
 use Rattle.spa_sink.specs.declared.gen_error.GenError.{GenError}
@@ -194,6 +194,16 @@ pub words_refused : {S : Type 0} {refuses : Refusing S} → RefusesLonger refuse
 words_refused longer a c key flags v ps e r =
     let l = property_length key flags v ps in
     by_output longer a c _ _ _ 8 (length (property_encodings (property key flags v ps))) e (omega arith) r
+
+pub value_refused : {S : Type 0} {content : S → List ℕ} {refuses : Refusing S} → RefusesLonger refuses → (a b : S) (key flags : ℕ)
+    (v : Tree) (ps : Properties) (e : GenError) → IsExtended content refuses a (key_words key flags) b → RefusesValue refuses b v e →
+    RefusesProperties refuses a (property key flags v ps) e
+value_refused longer a b key flags v ps e w r =
+    let l = property_length key flags v ps in
+    let two = two_words_length key flags in
+    let deep : depth_of v ≤ max (depth_of v) (property_depth ps) = omega arith in
+    bytes_refused a b _ _ _ _ _ _ _ _ e inl inl deep
+    (may_behind longer a b (key_words key flags) (length (encoding_of v)) (length (property_encodings (property key flags v ps))) e w (omega arith)) r
 
 pub behind_refused : {S : Type 0} {content : S → List ℕ} {refuses : Refusing S} → RefusesLonger refuses → (a b c : S) (key flags : ℕ)
     (v : Tree) (ps : Properties) (e : GenError) → IsExtended content refuses a (key_words key flags) b →

@@ -11,6 +11,11 @@ use Rattle.spa_bodies.specs.Written.{IsExtended, Refusing}
 use Rattle.spa_canonical.specs.Depth.{depth_of, member_depth, property_depth}
 use Rattle.spa_write.specs.DeepValues.{LacksMemory}
 
+-- why a value that is neither a struct nor an object isn't written: a text in it holds NUL, a size doesn't fit a word of 32 bits, or the output may
+-- refuse its bytes
+abbrev pub MayRefuseLeaf : {S : Type 0} → Refusing S → S → Tree → GenError → Type 0
+MayRefuseLeaf refuses old v e = RefusedFor (HasNul v) (IsTooLarge v) (λ _. ⊥) e ⊎ MayRefuse refuses old (length (encoding_of v)) e
+
 -- Why a value can't be written: a text in it holds NUL, a size doesn't fit a word of 32 bits, or it nests in more than 512 levels and memory ran
 -- out.
 abbrev pub Unwritable : Tree → GenError → Type 0

@@ -1,5 +1,5 @@
 -- Pods that are written member by member: docs/FORMAT.md, "The encoding of a value".
-use Rattle.std.specs.Prelude.{◌≡◌, ℕ, ◌+◌, ◌*◌, ◌<◌, ◌≤◌, List, ◌++◌, length, take, drop, Option, Some, None}
+use Rattle.std.specs.Prelude.{◌≡◌, ◌⊎◌, ℕ, ◌+◌, ◌*◌, ◌<◌, ◌≤◌, List, ◌++◌, length, take, drop, Option, Some, None}
 use Rattle.spa_sink.specs.declared.gen_error.GenError.{GenError}
 use Rattle.spa_sink.specs.Writing.{MayRefuse}
 use Rattle.spa_format.specs.Words.{header_size, size_limit, word_bytes}
@@ -44,6 +44,12 @@ pub record MayRefuseBehind {S : Type 0} (content : S → List ℕ) (refuses : Re
   pub output : S
   pub holds : content output ≡ b
   pub refused : MayRefuse refuses output n e
+
+-- an output with this open object may refuse key and flags of a property, or behind them a value of `n` bytes
+abbrev pub MayRefuseProperty : {S : Type 0} → (S → List ℕ) → Refusing S → Unfinished → (key flags n : ℕ) → GenError → Type 0
+MayRefuseProperty content refuses w key flags n e =
+    MayRefuseBehind content refuses (output_bytes w) header_size e
+    ⊎ MayRefuseBehind content refuses (output_bytes w ++ (word_bytes key ++ word_bytes flags)) n e
 
 -- the open struct or object of this type that begins at the offset `start` of these bytes
 abbrev pub open_pod_at : ℕ → ℕ → List ℕ → Unfinished

@@ -7,7 +7,7 @@ ghost use Rattle.spa_format.specs.Tree.{object_type, struct_type};
 ghost use Rattle.spa_format.specs.Typed.{IsTyped};
 ghost use Rattle.spa_format.specs.Words.{header_size, size_limit, word_bytes};
 ghost use Rattle.spa_format.specs.Writable.{IsWritable};
-ghost use Rattle.spa_typed_write.specs.Unfinished.{Grows, MayRefuseBehind, output_bytes};
+ghost use Rattle.spa_typed_write.specs.Unfinished.{Grows, MayRefuseBehind, MayRefuseProperty, output_bytes};
 
 use crate::open_pod::OpenPod;
 use crate::serializer::{PodSerialize, PodSerializer, SerializeSuccess};
@@ -131,9 +131,8 @@ impl<O: PodOutput> ObjectPodSerializer<O> {
         ensures writable { OnOk result (IsWritable (P.value value.now)) }
         ensures failed { OnErr result (self.new ≡ None) }
         ensures cause { IfErr result (λ e. MatchOption self.old (e ≡ Failed)
-            (λ w. P.refuses value.now e ⊎ (MayRefuseBehind O.content O.refuses (output_bytes w) header_size e
-            ⊎ MayRefuseBehind O.content O.refuses (output_bytes w ++ (word_bytes key ++ word_bytes flags.0))
-            (length (encoding_of (P.value value.now))) e))) }
+            (λ w. P.refuses value.now e
+            ⊎ MayRefuseProperty O.content O.refuses w key flags.0 (length (encoding_of (P.value value.now))) e)) }
     {
         self.pod.put_property(key, flags.bits(), value)
     }

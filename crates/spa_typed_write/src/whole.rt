@@ -1,11 +1,12 @@
 //! Writes pods at once.
-ghost use Rattle.std.specs.Prelude.{◌≡◌, ◌-◌, ◌≤◌, ◌++◌, ◌⊎◌, IfErr, IfOk, OnOk, length};
+ghost use Rattle.std.specs.Prelude.{◌≡◌, ◌-◌, ◌≤◌, ◌++◌, IfErr, IfOk, OnOk, length};
 ghost use Rattle.spa_fixed_sized.specs.Choices.{choice_tree};
-ghost use Rattle.spa_sink.specs.Writing.{MayRefuse, RefusedFor};
+ghost use Rattle.spa_sink.specs.Writing.{MayRefuse};
 ghost use Rattle.spa_format.specs.Encoding.{encoding_of};
 ghost use Rattle.spa_format.specs.Tree as tree;
 ghost use Rattle.spa_format.specs.Typed.{IsTyped};
-ghost use Rattle.spa_format.specs.Writable.{HasNul, IsTooLarge, IsWritable};
+ghost use Rattle.spa_format.specs.Writable.{IsWritable};
+ghost use Rattle.spa_typed_write.specs.Complete.{MayRefuseLeaf};
 
 use crate::serializer::{PodSerializer, SerializeSuccess};
 use spa_bodies::{put_alternatives, put_bitmap, put_bytes, put_number, put_pointer, put_text};
@@ -56,9 +57,7 @@ impl<O: PodOutput> PodSerializer<O> {
         ensures count { IfOk result (λ s. s.count ≡ length (encoding_of (tree.string text.now))) }
         ensures typed { OnOk result (IsTyped (tree.string text.now)) }
         ensures writable { OnOk result (IsWritable (tree.string text.now)) }
-        ensures cause { IfErr result
-            (λ e. RefusedFor (HasNul (tree.string text.now)) (IsTooLarge (tree.string text.now)) (λ _. ⊥) e
-            ⊎ MayRefuse O.refuses self (length (encoding_of (tree.string text.now))) e) }
+        ensures cause { IfErr result (MayRefuseLeaf O.refuses self (tree.string text.now)) }
     {
         let PodSerializer { mut out } = self;
         let start = out.len();
@@ -74,9 +73,7 @@ impl<O: PodOutput> PodSerializer<O> {
         ensures count { IfOk result (λ s. s.count ≡ length (encoding_of (tree.bytes bytes.now))) }
         ensures typed { OnOk result (IsTyped (tree.bytes bytes.now)) }
         ensures writable { OnOk result (IsWritable (tree.bytes bytes.now)) }
-        ensures cause { IfErr result
-            (λ e. RefusedFor (HasNul (tree.bytes bytes.now)) (IsTooLarge (tree.bytes bytes.now)) (λ _. ⊥) e
-            ⊎ MayRefuse O.refuses self (length (encoding_of (tree.bytes bytes.now))) e) }
+        ensures cause { IfErr result (MayRefuseLeaf O.refuses self (tree.bytes bytes.now)) }
     {
         let PodSerializer { mut out } = self;
         let start = out.len();
@@ -92,9 +89,7 @@ impl<O: PodOutput> PodSerializer<O> {
         ensures count { IfOk result (λ s. s.count ≡ length (encoding_of (tree.bitmap bytes.now))) }
         ensures typed { OnOk result (IsTyped (tree.bitmap bytes.now)) }
         ensures writable { OnOk result (IsWritable (tree.bitmap bytes.now)) }
-        ensures cause { IfErr result
-            (λ e. RefusedFor (HasNul (tree.bitmap bytes.now)) (IsTooLarge (tree.bitmap bytes.now)) (λ _. ⊥) e
-            ⊎ MayRefuse O.refuses self (length (encoding_of (tree.bitmap bytes.now))) e) }
+        ensures cause { IfErr result (MayRefuseLeaf O.refuses self (tree.bitmap bytes.now)) }
     {
         let PodSerializer { mut out } = self;
         let start = out.len();
@@ -113,10 +108,7 @@ impl<O: PodOutput> PodSerializer<O> {
         ensures count { IfOk result (λ s. s.count ≡ length (encoding_of (choice_tree T.kind T.fixed choice.now))) }
         ensures typed { OnOk result (IsTyped (choice_tree T.kind T.fixed choice.now)) }
         ensures writable { OnOk result (IsWritable (choice_tree T.kind T.fixed choice.now)) }
-        ensures cause { IfErr result
-            (λ e. RefusedFor (HasNul (choice_tree T.kind T.fixed choice.now))
-            (IsTooLarge (choice_tree T.kind T.fixed choice.now)) (λ _. ⊥) e
-            ⊎ MayRefuse O.refuses self (length (encoding_of (choice_tree T.kind T.fixed choice.now))) e) }
+        ensures cause { IfErr result (MayRefuseLeaf O.refuses self (choice_tree T.kind T.fixed choice.now)) }
     {
         let PodSerializer { mut out } = self;
         let start = out.len();

@@ -3,17 +3,18 @@ use Rattle.std.proofs.Common.{◌≡◌, ℕ, ◌+◌, ◌-◌, ◌<◌, ◌≤�
 use Rattle.std.proofs.lemmas.List.{append-nil}
 use Rattle.spa_sink.specs.declared.gen_error.GenError.{GenError}
 use Rattle.spa_sink.specs.declared.gen_error.GenError.TheVariants.{TooLarge}
-use Rattle.spa_sink.specs.Writing.{RefusesWrite, Sent, some_sent}
+use Rattle.spa_sink.specs.Writing.{Sent, some_sent}
 use Rattle.spa_sink.proofs.Sending.{AppendsMore, sent_before}
 use Rattle.spa_format.specs.Words.{header_size, size_limit, word_bytes}
 use Rattle.spa_format.specs.Tree.{struct, struct_type, Trees, no_trees, member}
 use Rattle.spa_format.specs.Encoding.{encoding_of, member_encodings}
 use Rattle.spa_format.specs.Typed.{AllTyped}
-use Rattle.spa_format.specs.Writable.{HasNul, IsTooLarge, IsWritable, SomeHasNul}
+use Rattle.spa_format.specs.Writable.{IsTooLarge, IsWritable, SomeHasNul}
 use Rattle.spa_format.proofs.Encodings.{length-encoded_pod, whole_members}
 use Rattle.spa_bodies.specs.Written.{Appending, Refusing, Stops}
 use Rattle.spa_bodies.proofs.Frames.{size_refused}
 use Rattle.spa_bodies.proofs.Parts.{TakesParts, stop_as, stop_behind, stop_first}
+use Rattle.spa_write.specs.Measured.{RefusesTree}
 use Rattle.spa_write.proofs.Stopping.{struct_parts}
 
 -- `outer` bytes of headers are before the second members in the encodings of the first
@@ -57,7 +58,7 @@ one_within vs ws us outer more h is sum =
 -- the refusal of the sum
 pub within_too_long : (vs ws : Trees) (outer big : ℕ) → AreWithin vs outer ws →
     big ≤ outer + length (member_encodings ws) → (e : GenError) → (e ≡ TooLarge) × (size_limit ≤ big) →
-    RefusesWrite (HasNul (struct vs)) (IsTooLarge (struct vs)) (λ _. ⊥) e
+    RefusesTree (struct vs) e
 within_too_long vs ws outer big h le e r =
     size_refused (SomeHasNul vs) (IsTooLarge (struct vs)) (λ _. ⊥) (size_limit ≤ big)
     (λ b. inl (omega (arith, b, le, h.size))) e r

@@ -3,17 +3,16 @@ use Rattle.std.proofs.Common.{◌≡◌, ℕ, ◌+◌, ◌<◌, ◌≤◌, inl, 
 use Rattle.std.proofs.lemmas.List.{append-nil}
 use Rattle.spa_sink.specs.declared.gen_error.GenError.{GenError}
 use Rattle.spa_sink.specs.declared.gen_error.GenError.TheVariants.{TooLarge}
-use Rattle.spa_sink.specs.Writing.{RefusesWrite}
 use Rattle.spa_format.specs.Words.{header_size, size_limit}
 use Rattle.spa_format.specs.Tree.{Tree, struct, struct_type, Trees, no_trees, member, join_members}
 use Rattle.spa_format.specs.Encoding.{encoding_of, member_encodings}
 use Rattle.spa_format.specs.Typed.{AllTyped, IsTyped}
-use Rattle.spa_format.specs.Writable.{HasNul, IsTooLarge, IsWritable, SomeHasNul, SomeTooLarge}
+use Rattle.spa_format.specs.Writable.{IsTooLarge, IsWritable, SomeHasNul, SomeTooLarge}
 use Rattle.spa_value.specs.declared.value.Value.{Value}
 use Rattle.spa_value.specs.View.{view}
 use Rattle.spa_value.specs.Views.{views}
 use Rattle.spa_value.proofs.ViewLaws.{views-at, views-take_more}
-use Rattle.spa_write.specs.Measured.{AreMeasured, IsMeasured}
+use Rattle.spa_write.specs.Measured.{AreMeasured, IsMeasured, RefusesTree}
 use Rattle.spa_format.proofs.Encodings.{length-encoded_pod, whole_members}
 use Rattle.spa_bodies.proofs.Frames.{size_refused}
 use Rattle.spa_bodies.proofs.SinkRefusals.{unwritable_through}
@@ -140,8 +139,7 @@ measured_next vs i v n m k l e h w sum short =
 
 -- the refusal of one
 pub member_unwritable : (vs : List Value) (i : ℕ) (v : Value) → i < length vs → v ≡ get_or vs i v →
-    (e : GenError) → RefusesWrite (HasNul (view v)) (IsTooLarge (view v)) (λ _. ⊥) e →
-    RefusesWrite (HasNul (struct (views vs))) (IsTooLarge (struct (views vs))) (λ _. ⊥) e
+    (e : GenError) → RefusesTree (view v) e → RefusesTree (struct (views vs)) e
 member_unwritable vs i v l e x r =
     let first = views (take i vs) in
     let rest = member (view v) (views (drop (i + 1) vs)) in
@@ -153,7 +151,7 @@ member_unwritable vs i v l e x r =
 pub members_too_long : (vs : List Value) (i : ℕ) (v : Value) (n m : ℕ) → i < length vs → v ≡ get_or vs i v →
     AreMeasured (views (take i vs)) n → IsMeasured (view v) m → (e : GenError) →
     (e ≡ TooLarge) × (size_limit ≤ n + m) →
-    RefusesWrite (HasNul (struct (views vs))) (IsTooLarge (struct (views vs))) (λ _. ⊥) e
+    RefusesTree (struct (views vs)) e
 members_too_long vs i v n m l e h w x r =
     size_refused (SomeHasNul (views vs)) (IsTooLarge (struct (views vs))) (λ _. ⊥) (size_limit ≤ n + m)
     (λ big. inl (omega (arith, big, h.size, w.size, members_length vs i v l e))) x r
@@ -169,6 +167,5 @@ struct_measured v vs n is h =
 
 -- the refusal of its members
 pub struct_unwritable : (v : Tree) (vs : Trees) → v ≡ struct vs → (e : GenError) →
-    RefusesWrite (HasNul (struct vs)) (IsTooLarge (struct vs)) (λ _. ⊥) e →
-    RefusesWrite (HasNul v) (IsTooLarge v) (λ _. ⊥) e
-struct_unwritable v vs is e r = subst (λ w. RefusesWrite (HasNul w) (IsTooLarge w) (λ _. ⊥) e) (sym is) r
+    RefusesTree (struct vs) e → RefusesTree v e
+struct_unwritable v vs is e r = subst (λ w. RefusesTree w e) (sym is) r

@@ -10,14 +10,14 @@ use Rattle.spa_format.specs.Words.{header_size, size_limit, word_bytes}
 use Rattle.spa_format.specs.Tree.{Tree, struct, object, struct_type, object_type, Properties}
 use Rattle.spa_format.specs.Encoding.{encoded_body, encoding_of, encoded_pod, member_encodings, property_encodings}
 use Rattle.spa_format.specs.Typed.{AllPropertiesTyped, AllTyped}
-use Rattle.spa_format.specs.Writable.{HasNul, IsTooLarge, SomeHasNul, SomeTooLarge, SomeValueHasNul, SomeValueTooLarge}
+use Rattle.spa_format.specs.Writable.{SomeHasNul, SomeTooLarge, SomeValueHasNul, SomeValueTooLarge}
 use Rattle.spa_value.specs.declared.value.Value.{Value}
 use Rattle.spa_value.specs.declared.object.Property.{Property}
 use Rattle.spa_value.specs.View.{view}
 use Rattle.spa_value.specs.Views.{views, property_views}
 use Rattle.spa_format.proofs.Encodings.{key_words, length-encoded_pod, property_encoding, two_words_length, whole_members, whole_properties}
 use Rattle.spa_bodies.specs.Written.{IsWholeSize, begun_length}
-use Rattle.spa_write.specs.Nesting.{AwaitsAllClosing, AwaitsClosing, Begins, IsAppended, LeftHasNul, LeftIsWritable, LeftTooLarge, LeftTyped, PutsAll, StopsAt, bytes_left, closed_at, left_encodings}
+use Rattle.spa_write.specs.Nesting.{AwaitsAllClosing, AwaitsClosing, Begins, IsAppended, LeftHasNul, LeftIsWritable, LeftTooLarge, LeftTyped, PutsAll, RefusesLeft, RefusesMade, StopsAt, bytes_left, closed_at, left_encodings}
 use Rattle.spa_write.specs.declared.left.Left.{Left}
 use Rattle.spa_write.specs.declared.left.Left.TheVariants as left
 use Rattle.spa_write.specs.declared.left.Begun.{Begun}
@@ -220,8 +220,7 @@ passed_value from behind old mid now v s a =
 
 -- the refusal of the value there
 pub value_refused : (from behind : Left) (old now : List ℕ) (v : Tree) (e : GenError) → StopsAt from old v behind now →
-    RefusesWrite (HasNul v) (IsTooLarge v) (λ d. d ≡ OutOfMemory) e →
-    RefusesWrite (LeftHasNul from) (LeftTooLarge from) (λ d. d ≡ OutOfMemory) e
+    RefusesMade v e → RefusesLeft from e
 value_refused from behind old now v e s r =
     refusal_through (λ n. s.nul.1 (inl n)) (λ n. s.large.1 (inl n)) e r
 

@@ -1,5 +1,5 @@
 -- Lists of properties, cut at one of them, and how long they are.
-use Rattle.std.proofs.Common.{◌≡◌, ℕ, ◌+◌, ◌<◌, ◌≤◌, ◌^◌, ◌⊎◌, inl, inr, ⊎_elim, List, ◌++◌, length, take, drop, get_or, refl, sym, ap, ◌∙◌, subst, arith, append_assoc, length-append}
+use Rattle.std.proofs.Common.{◌≡◌, ℕ, ◌+◌, ◌<◌, ◌≤◌, ◌^◌, inl, inr, ⊎_elim, List, ◌++◌, length, take, drop, get_or, refl, sym, ap, ◌∙◌, subst, arith, append_assoc, length-append}
 use Rattle.std.proofs.lemmas.List.{append-nil}
 use Rattle.spa_sink.specs.declared.gen_error.GenError.{GenError}
 use Rattle.spa_sink.specs.declared.gen_error.GenError.TheVariants.{TooLarge}
@@ -8,12 +8,12 @@ use Rattle.spa_format.specs.Words.{header_size, size_limit, word_bytes}
 use Rattle.spa_format.specs.Tree.{Tree, object, object_type, Properties, no_properties, property, join_properties}
 use Rattle.spa_format.specs.Encoding.{encoded_body, encoding_of, property_encodings}
 use Rattle.spa_format.specs.Typed.{AllPropertiesTyped, IsTyped}
-use Rattle.spa_format.specs.Writable.{HasNul, IsTooLarge, IsWritable, SomeValueHasNul, SomeValueTooLarge}
+use Rattle.spa_format.specs.Writable.{IsTooLarge, IsWritable, SomeValueHasNul, SomeValueTooLarge}
 use Rattle.spa_value.specs.declared.object.Property.{Property}
 use Rattle.spa_value.specs.View.{view}
 use Rattle.spa_value.specs.Views.{property_view, property_views}
 use Rattle.spa_value.proofs.ViewLaws.{property_views-at, property_views-take_more}
-use Rattle.spa_write.specs.Measured.{IsMeasured, PropertiesAreMeasured, PropertiesAreWritable}
+use Rattle.spa_write.specs.Measured.{IsMeasured, PropertiesAreMeasured, PropertiesAreTooLarge, PropertiesAreWritable, RefusesTree}
 use Rattle.spa_format.proofs.Encodings.{key_words, length-encoded_pod, property_encoding, two_words_length, whole_properties}
 use Rattle.spa_bodies.proofs.Frames.{size_refused}
 use Rattle.spa_bodies.proofs.SinkRefusals.{unwritable_through}
@@ -153,13 +153,9 @@ properties_measured_next ps i p n m k l e h w sum short =
       };
     }
 
--- a size word of these properties is past 32 bits, or of the object that they are in
-abbrev pub PropertiesAreTooLarge : Properties → Type 0
-PropertiesAreTooLarge ps = (size_limit ≤ length (property_encodings ps)) ⊎ SomeValueTooLarge ps
-
 -- the refusal of one
 pub property_unwritable : (ps : List Property) (i : ℕ) (p : Property) → i < length ps → p ≡ get_or ps i p →
-    (e : GenError) → RefusesWrite (HasNul (view p.value)) (IsTooLarge (view p.value)) (λ _. ⊥) e →
+    (e : GenError) → RefusesTree (view p.value) e →
     RefusesWrite (SomeValueHasNul (property_views ps)) (PropertiesAreTooLarge (property_views ps)) (λ _. ⊥) e
 property_unwritable ps i p l e x r =
     let first = property_views (take i ps) in
@@ -207,19 +203,19 @@ object_measured v t i ps n k is h sum short =
 -- the refusal of its properties
 pub object_unwritable : (v : Tree) (t i : ℕ) (ps : Properties) → v ≡ object t i ps → (e : GenError) →
     RefusesWrite (SomeValueHasNul ps) (PropertiesAreTooLarge ps) (λ _. ⊥) e →
-    RefusesWrite (HasNul v) (IsTooLarge v) (λ _. ⊥) e
+    RefusesTree v e
 object_unwritable v t i ps is e r =
     let body = length-object t i ps in
-    subst (λ w. RefusesWrite (HasNul w) (IsTooLarge w) (λ _. ⊥) e) (sym is)
+    subst (λ w. RefusesTree w e) (sym is)
     (unwritable_through {nul' = SomeValueHasNul ps} {large' = IsTooLarge (object t i ps)} (λ n. n) (⊎_elim (λ n. inl (omega (arith, n, body))) inr) e r)
 
 -- the refusal of its size
 pub object_too_long : (v : Tree) (t i : ℕ) (ps : Properties) (n : ℕ) → v ≡ object t i ps →
     PropertiesAreMeasured ps n → (e : GenError) → (e ≡ TooLarge) × (size_limit ≤ header_size + n) →
-    RefusesWrite (HasNul v) (IsTooLarge v) (λ _. ⊥) e
+    RefusesTree v e
 object_too_long v t i ps n is h e r =
     let body = length-object t i ps in
-    subst (λ w. RefusesWrite (HasNul w) (IsTooLarge w) (λ _. ⊥) e) (sym is)
+    subst (λ w. RefusesTree w e) (sym is)
     (size_refused (SomeValueHasNul ps) (IsTooLarge (object t i ps)) (λ _. ⊥) (size_limit ≤ header_size + n)
     (λ b. inl (omega (arith, b, h.size, body))) e r)
 

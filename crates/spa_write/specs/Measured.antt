@@ -1,11 +1,12 @@
 -- Values whose encodings' lengths are computed before they are written, and what a sink takes of them: docs/FORMAT.md, "The encoding of a value".
-use Rattle.std.specs.Prelude.{◌≡◌, ℕ, ◌<◌, List, get_or, length}
-use Rattle.spa_sink.specs.Writing.{Sent}
+use Rattle.std.specs.Prelude.{◌≡◌, ◌⊎◌, ℕ, ◌<◌, ◌≤◌, List, get_or, length}
+use Rattle.spa_sink.specs.declared.gen_error.GenError.{GenError}
+use Rattle.spa_sink.specs.Writing.{RefusesWrite, Sent}
 use Rattle.spa_format.specs.Words.{size_limit}
 use Rattle.spa_format.specs.Tree.{Tree, struct, Trees, Properties}
 use Rattle.spa_format.specs.Encoding.{encoding_of, member_encodings, property_encodings}
 use Rattle.spa_format.specs.Typed.{AllTyped, AllPropertiesTyped}
-use Rattle.spa_format.specs.Writable.{IsWritable, SomeValueHasNul, SomeValueTooLarge}
+use Rattle.spa_format.specs.Writable.{HasNul, IsTooLarge, IsWritable, SomeValueHasNul, SomeValueTooLarge}
 use Rattle.spa_value.specs.declared.value.Value.{Value}
 use Rattle.spa_value.specs.View.{view}
 use Rattle.spa_bodies.specs.Written.{Appending}
@@ -45,3 +46,11 @@ pub record ArePut {S : Type 0} (appends : Appending S) (old : S) (vs : Trees) (n
 pub record ArePropertiesPut {S : Type 0} (appends : Appending S) (old : S) (ps : Properties) (new : S) : Type 0 where
   pub encodings : Sent appends old (property_encodings ps) new
   pub typed : AllPropertiesTyped ps
+
+-- a size word of these properties is past 32 bits, or of the object that they are in
+abbrev pub PropertiesAreTooLarge : Properties → Type 0
+PropertiesAreTooLarge ps = (size_limit ≤ length (property_encodings ps)) ⊎ SomeValueTooLarge ps
+
+-- why a value can't be written: a text in it holds NUL, or a size doesn't fit a word of 32 bits
+abbrev pub RefusesTree : Tree → GenError → Type 0
+RefusesTree v = RefusesWrite (HasNul v) (IsTooLarge v) (λ _. ⊥)

@@ -1,5 +1,8 @@
 -- The containers that are begun, each inside the next one around it, and what is left of each: docs/FORMAT.md, "The encoding of a value".
 use Rattle.std.specs.Prelude.{◌≡◌, ℕ, ◌+◌, ◌<◌, ◌≤◌, ◌⊎◌, ◌↔◌, List, [], ◌∷◌, ◌++◌, length, take, drop, Option, Some, None}
+use Rattle.spa_sink.specs.declared.gen_error.GenError.{GenError}
+use Rattle.spa_sink.specs.declared.gen_error.GenError.TheVariants.{OutOfMemory}
+use Rattle.spa_sink.specs.Writing.{RefusesWrite}
 use Rattle.spa_format.specs.Words.{header_size, size_limit, word_bytes}
 use Rattle.spa_format.specs.Tree.{Tree, struct}
 use Rattle.spa_format.specs.Encoding.{encoded_body, encoding_of, member_encodings, property_encodings}
@@ -41,6 +44,14 @@ pub record LeftIsWritable (l : Left) : Type 0 where
   pub no_nul : ¬ (LeftHasNul l)
   pub fits : ¬ (LeftTooLarge l)
 
+-- why a value's encoding isn't made in memory: the value can't be written, or memory ran out
+abbrev pub RefusesMade : Tree → GenError → Type 0
+RefusesMade v = RefusesWrite (HasNul v) (IsTooLarge v) (λ e. e ≡ OutOfMemory)
+
+-- why what is left of the container isn't appended in memory: it can't be written, or memory ran out
+abbrev pub RefusesLeft : Left → GenError → Type 0
+RefusesLeft l = RefusesWrite (LeftHasNul l) (LeftTooLarge l) (λ e. e ≡ OutOfMemory)
+
 -- the tree of a container
 abbrev pub nested_tree : Nested → Tree
 nested_tree (nested.Struct vs) = struct (views vs.now)
@@ -79,11 +90,15 @@ PutsOn from old (Some s) new = StopsAt from old (nested_tree s.nested) s.left ne
 abbrev pub closed_at : ℕ → List ℕ → List ℕ
 closed_at start b = take start b ++ (word_bytes (begun_length b start) ++ drop (start + 4) b)
 
+-- the bytes once what is left of the container that is begun is appended
+abbrev pub filled : Begun → List ℕ → List ℕ
+filled begun b = b ++ left_encodings begun.left
+
 -- the header of the container with this tree was appended, and all in it is left
 pub record Begins (v : Tree) (old : List ℕ) (begun : Begun) (new : List ℕ) : Type 0 where
   pub room : begun.start + header_size ≤ length new
-  pub closed : closed_at begun.start (new ++ left_encodings begun.left) ≡ old ++ encoding_of v
-  pub size : begun_length (new ++ left_encodings begun.left) begun.start ≡ length (encoded_body v)
+  pub closed : closed_at begun.start (filled begun new) ≡ old ++ encoding_of v
+  pub size : begun_length (filled begun new) begun.start ≡ length (encoded_body v)
   pub typed : LeftTyped begun.left → IsTyped v
   pub nul : HasNul v ↔ LeftHasNul begun.left
   pub large : IsTooLarge v ↔ ((size_limit ≤ length (encoded_body v)) ⊎ LeftTooLarge begun.left)
@@ -93,8 +108,8 @@ pub record Begins (v : Tree) (old : List ℕ) (begun : Begun) (new : List ℕ) :
 -- container from being written, NUL or a size, keeps the whole value `v` from it.
 pub record AwaitsClosing (holds : List ℕ → Type 0) (v : Tree) (begun : Begun) (now : List ℕ) : Type 0 where
   pub room : begun.start + header_size ≤ length now
-  pub closes : LeftIsWritable begun.left → begun_length (now ++ left_encodings begun.left) begun.start < size_limit → holds (closed_at begun.start (now ++ left_encodings begun.left))
-  pub past : size_limit ≤ begun_length (now ++ left_encodings begun.left) begun.start → IsTooLarge v
+  pub closes : LeftIsWritable begun.left → begun_length (filled begun now) begun.start < size_limit → holds (closed_at begun.start (filled begun now))
+  pub past : size_limit ≤ begun_length (filled begun now) begun.start → IsTooLarge v
   pub nul : LeftHasNul begun.left → HasNul v
   pub large : LeftTooLarge begun.left → IsTooLarge v
 

@@ -2,11 +2,9 @@
 //!
 //! The encoding is put together in a vector of its own. A container's size word is written once all that it counts is there.
 ghost use Rattle.std.specs.Prelude.{◌≡◌, [], IfErr, IfOk, OnOk};
-ghost use Rattle.spa_sink.specs.Writing.{RefusesWrite};
 ghost use Rattle.spa_sink.specs.declared.gen_error.GenError.TheVariants.{OutOfMemory};
-ghost use Rattle.spa_format.specs.Writable.{HasNul, IsTooLarge};
 ghost use Rattle.spa_value.specs.View.{view};
-ghost use Rattle.spa_write.specs.Nesting.{Begins, IsAppended, LeftHasNul, LeftTooLarge, PutsOn, PutsOrPasses, nested_tree};
+ghost use Rattle.spa_write.specs.Nesting.{Begins, IsAppended, PutsOn, PutsOrPasses, RefusesLeft, RefusesMade, nested_tree};
 ghost use Rattle.spa_bodies.specs.Written.{IsLeaf};
 ghost use Rattle.spa_write.specs.declared.left.Left.TheVariants as left_variant;
 
@@ -25,8 +23,7 @@ use std::alloc::Global;
 /// 4294967296 or more, and as `OutOfMemory`.
 pub(crate) fn write_by_loop(alloc: Global, value: &Value) -> Result<Vec<u8>, GenError>
     ensures encoding { IfOk result (λ made. IsAppended (view value.now) [] made.items) }
-    ensures refused { IfErr result (RefusesWrite (HasNul (view value.now)) (IsTooLarge (view value.now))
-        (λ e. e ≡ OutOfMemory)) }
+    ensures refused { IfErr result (RefusesMade (view value.now)) }
 {
     let mut out = Vec::new(alloc);
     let Some(outermost) = put_or_pass(&mut out, value)? else {
@@ -60,8 +57,7 @@ pub(crate) fn write_by_loop(alloc: Global, value: &Value) -> Result<Vec<u8>, Gen
 #[inline(always)]
 fn put_or_pass<'a>(out: &mut Vec<u8>, value: &'a Value) -> Result<Option<Nested<'a>>, GenError>
     ensures put { IfOk result (λ nested. PutsOrPasses (view value.now) out.old.items nested out.new.items) }
-    ensures refused { IfErr result (RefusesWrite (HasNul (view value.now)) (IsTooLarge (view value.now))
-        (λ e. e ≡ OutOfMemory)) }
+    ensures refused { IfErr result (RefusesMade (view value.now)) }
 {
     match value {
         Value::Struct(members) => return Ok(Some(Nested::Struct(members.as_slice()))),
@@ -76,8 +72,7 @@ fn put_or_pass<'a>(out: &mut Vec<u8>, value: &'a Value) -> Result<Option<Nested<
 fn put_any_leaf(out: &mut Vec<u8>, value: &Value) -> Result<(), GenError>
     requires { IsLeaf (view value.now) }
     ensures put { OnOk result (IsAppended (view value.now) out.old.items out.new.items) }
-    ensures refused { IfErr result (RefusesWrite (HasNul (view value.now)) (IsTooLarge (view value.now))
-        (λ e. e ≡ OutOfMemory)) }
+    ensures refused { IfErr result (RefusesMade (view value.now)) }
 {
     match short_encoding(value) {
         Some(pod) => PodSink::append(out, &pod),
@@ -110,8 +105,7 @@ fn begin_nested<'a>(out: &mut Vec<u8>, nested: Nested<'a>) -> Result<Begun<'a>, 
 #[inline(always)]
 fn put_left<'a>(left: Left<'a>, out: &mut Vec<u8>) -> Result<Option<Stop<'a>>, GenError>
     ensures put { IfOk result (λ stop. PutsOn left.entry out.old.items stop out.new.items) }
-    ensures refused { IfErr result (RefusesWrite (LeftHasNul left.entry) (LeftTooLarge left.entry)
-        (λ e. e ≡ OutOfMemory)) }
+    ensures refused { IfErr result (RefusesLeft left.entry) }
 {
     match left {
         Left::Members(members) => put_members(members, out),
@@ -123,8 +117,7 @@ fn put_left<'a>(left: Left<'a>, out: &mut Vec<u8>) -> Result<Option<Stop<'a>>, G
 #[inline(always)]
 fn put_members<'a>(members: &'a [Value], out: &mut Vec<u8>) -> Result<Option<Stop<'a>>, GenError>
     ensures put { IfOk result (λ stop. PutsOn (left_variant.Members members.entry) out.old.items stop out.new.items) }
-    ensures refused { IfErr result (RefusesWrite (LeftHasNul (left_variant.Members members.entry))
-        (LeftTooLarge (left_variant.Members members.entry)) (λ e. e ≡ OutOfMemory)) }
+    ensures refused { IfErr result (RefusesLeft (left_variant.Members members.entry)) }
 {
     let mut left = members;
     while let Some((member, behind)) = left.split_first() {
@@ -146,8 +139,7 @@ fn put_properties<'a>(
 ) -> Result<Option<Stop<'a>>, GenError>
     ensures put { IfOk result
         (λ stop. PutsOn (left_variant.Properties properties.entry) out.old.items stop out.new.items) }
-    ensures refused { IfErr result (RefusesWrite (LeftHasNul (left_variant.Properties properties.entry))
-        (LeftTooLarge (left_variant.Properties properties.entry)) (λ e. e ≡ OutOfMemory)) }
+    ensures refused { IfErr result (RefusesLeft (left_variant.Properties properties.entry)) }
 {
     let mut left = properties;
     while let Some((property, behind)) = left.split_first() {

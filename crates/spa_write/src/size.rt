@@ -1,15 +1,14 @@
 //! Computes how long encodings are, before a byte of them is written.
-ghost use Rattle.std.specs.Prelude.{◌≡◌, ◌+◌, ◌<◌, ◌≤◌, ◌⊎◌, IfErr, IfOk, IfSome, length, map};
+ghost use Rattle.std.specs.Prelude.{◌≡◌, ◌+◌, ◌<◌, ◌≤◌, IfErr, IfOk, map};
 ghost use Rattle.spa_fixed_sized.specs.Choices.{choice_tree};
 ghost use Rattle.spa_sink.specs.Writing.{RefusesWrite};
 ghost use Rattle.spa_sink.specs.declared.gen_error.GenError.TheVariants.{TooLarge};
-ghost use Rattle.spa_format.specs.Encoding.{property_encodings};
 ghost use Rattle.spa_format.specs.Tree as tree;
 ghost use Rattle.spa_format.specs.Words.{extent, size_limit};
-ghost use Rattle.spa_format.specs.Writable.{HasNul, IsTooLarge, SomeValueHasNul, SomeValueTooLarge};
+ghost use Rattle.spa_format.specs.Writable.{SomeValueHasNul};
 ghost use Rattle.spa_value.specs.View.{array_view, choice_view, view};
 ghost use Rattle.spa_value.specs.Views.{property_views, views};
-ghost use Rattle.spa_write.specs.Measured.{AreMeasured, IsMeasured, PropertiesAreMeasured};
+ghost use Rattle.spa_write.specs.Measured.{AreMeasured, IsMeasured, PropertiesAreMeasured, PropertiesAreTooLarge, RefusesTree};
 ghost use Rattle.spa_bodies.specs.Written.{IsLeaf};
 
 use crate::count::only_struct;
@@ -31,8 +30,7 @@ const SIZE_LIMIT: u64 = 1 << 32;
 #[inline(always)]
 pub(crate) fn encoded_len(value: &Value) -> Result<u64, GenError>
     ensures measured { IfOk result (λ n. IsMeasured (view value.now) n) }
-    ensures cause { IfErr result (λ e. RefusesWrite (HasNul (view value.now)) (IsTooLarge (view value.now))
-        (λ _. ⊥) e) }
+    ensures cause { IfErr result (RefusesTree (view value.now)) }
 {
     match value {
         Value::Struct(members) => Ok(HEADER_LEN as u64 + members_len(members.as_slice())?),
@@ -49,9 +47,7 @@ pub(crate) fn encoded_len(value: &Value) -> Result<u64, GenError>
 #[cycle(size)]
 pub(crate) fn members_len(members: &[Value]) -> Result<u64, GenError>
     ensures measured { IfOk result (λ n. AreMeasured (views members.now) n) }
-    ensures cause { IfErr result
-        (λ e. RefusesWrite (HasNul (tree.struct (views members.now))) (IsTooLarge (tree.struct (views members.now)))
-        (λ _. ⊥) e) }
+    ensures cause { IfErr result (RefusesTree (tree.struct (views members.now))) }
 {
     let mut outer = 0;
     let mut left = members;
@@ -71,9 +67,7 @@ const SHORT_LIMIT: usize = 1 << 28;
 #[cycle(size)]
 fn all_len(members: &[Value]) -> Result<u64, GenError>
     ensures measured { IfOk result (λ n. AreMeasured (views members.now) n) }
-    ensures cause { IfErr result
-        (λ e. RefusesWrite (HasNul (tree.struct (views members.now))) (IsTooLarge (tree.struct (views members.now)))
-        (λ _. ⊥) e) }
+    ensures cause { IfErr result (RefusesTree (tree.struct (views members.now))) }
 {
     if members.len() < SHORT_LIMIT && are_short(members) {
         return Ok((LONGEST_POD_LEN * members.len()) as u64);
@@ -91,9 +85,8 @@ fn all_len(members: &[Value]) -> Result<u64, GenError>
 pub(crate) fn properties_len(properties: &[Property]) -> Result<u64, GenError>
     ensures measured { IfOk result (λ n. PropertiesAreMeasured (property_views properties.now) n) }
     ensures cause { IfErr result
-        (λ e. RefusesWrite (SomeValueHasNul (property_views properties.now))
-        ((size_limit ≤ length (property_encodings (property_views properties.now)))
-        ⊎ SomeValueTooLarge (property_views properties.now)) (λ _. ⊥) e) }
+        (RefusesWrite (SomeValueHasNul (property_views properties.now))
+        (PropertiesAreTooLarge (property_views properties.now)) (λ _. ⊥)) }
 {
     let mut total = 0;
     for property in properties {
@@ -137,8 +130,7 @@ fn next_sum(total: u64, more: u64) -> Result<u64, GenError>
 pub(crate) fn leaf_len(value: &Value) -> Result<u64, GenError>
     requires { IsLeaf (view value.now) }
     ensures measured { IfOk result (λ n. IsMeasured (view value.now) n) }
-    ensures cause { IfErr result (λ e. RefusesWrite (HasNul (view value.now)) (IsTooLarge (view value.now))
-        (λ _. ⊥) e) }
+    ensures cause { IfErr result (RefusesTree (view value.now)) }
 {
     match value {
         Value::None => number_len(&()),
@@ -166,9 +158,7 @@ pub(crate) fn leaf_len(value: &Value) -> Result<u64, GenError>
 #[inline(always)]
 fn number_len<T: CanonicalFixedSizedPod>(value: &T) -> Result<u64, GenError>
     ensures measured { IfOk result (λ n. IsMeasured (tree.fixed (T.fixed value.now)) n) }
-    ensures cause { IfErr result
-        (λ e. RefusesWrite (HasNul (tree.fixed (T.fixed value.now))) (IsTooLarge (tree.fixed (T.fixed value.now)))
-        (λ _. ⊥) e) }
+    ensures cause { IfErr result (RefusesTree (tree.fixed (T.fixed value.now))) }
 {
     Ok(pod_len(value) as u64)
 }
@@ -188,8 +178,7 @@ fn encoded_pod_len(size: usize) -> Result<u64, GenError>
 /// The length in bytes of the encoding of a text. Refused as `NulInText` and as `TooLarge`.
 fn text_len(text: &str) -> Result<u64, GenError>
     ensures measured { IfOk result (λ n. IsMeasured (tree.string text.now) n) }
-    ensures cause { IfErr result
-        (λ e. RefusesWrite (HasNul (tree.string text.now)) (IsTooLarge (tree.string text.now)) (λ _. ⊥) e) }
+    ensures cause { IfErr result (RefusesTree (tree.string text.now)) }
 {
     let bytes = text.as_bytes();
     if bytes.contains(&0) {
@@ -201,8 +190,7 @@ fn text_len(text: &str) -> Result<u64, GenError>
 /// The length in bytes of the encoding of bytes. Refused as `TooLarge`.
 fn bytes_len(bytes: &[u8]) -> Result<u64, GenError>
     ensures measured { IfOk result (λ n. IsMeasured (tree.bytes bytes.now) n) }
-    ensures cause { IfErr result
-        (λ e. RefusesWrite (HasNul (tree.bytes bytes.now)) (IsTooLarge (tree.bytes bytes.now)) (λ _. ⊥) e) }
+    ensures cause { IfErr result (RefusesTree (tree.bytes bytes.now)) }
 {
     encoded_pod_len(bytes.len())
 }
@@ -210,8 +198,7 @@ fn bytes_len(bytes: &[u8]) -> Result<u64, GenError>
 /// The length in bytes of the encoding of a bitmap. Refused as `TooLarge`.
 fn bitmap_len(bytes: &[u8]) -> Result<u64, GenError>
     ensures measured { IfOk result (λ n. IsMeasured (tree.bitmap bytes.now) n) }
-    ensures cause { IfErr result
-        (λ e. RefusesWrite (HasNul (tree.bitmap bytes.now)) (IsTooLarge (tree.bitmap bytes.now)) (λ _. ⊥) e) }
+    ensures cause { IfErr result (RefusesTree (tree.bitmap bytes.now)) }
 {
     encoded_pod_len(bytes.len())
 }
@@ -219,8 +206,7 @@ fn bitmap_len(bytes: &[u8]) -> Result<u64, GenError>
 /// The length in bytes of the encoding of a pointer.
 fn pointer_len(type_: u32, address: u64) -> Result<u64, GenError>
     ensures measured { IfOk result (λ n. IsMeasured (tree.pointer type_ address) n) }
-    ensures cause { IfErr result
-        (λ e. RefusesWrite (HasNul (tree.pointer type_ address)) (IsTooLarge (tree.pointer type_ address)) (λ _. ⊥) e) }
+    ensures cause { IfErr result (RefusesTree (tree.pointer type_ address)) }
 {
     Ok((HEADER_LEN + POINTER_LEN) as u64)
 }
@@ -228,9 +214,7 @@ fn pointer_len(type_: u32, address: u64) -> Result<u64, GenError>
 /// The length in bytes of the encoding of an array of these elements. Refused as `TooLarge`.
 fn elements_len<T: CanonicalFixedSizedPod>(values: &[T]) -> Result<u64, GenError>
     ensures measured { IfOk result (λ n. IsMeasured (tree.array T.kind (map T.fixed values.now)) n) }
-    ensures cause { IfErr result
-        (λ e. RefusesWrite (HasNul (tree.array T.kind (map T.fixed values.now)))
-        (IsTooLarge (tree.array T.kind (map T.fixed values.now))) (λ _. ⊥) e) }
+    ensures cause { IfErr result (RefusesTree (tree.array T.kind (map T.fixed values.now))) }
 {
     match array_size(values) {
         Some(size) => Ok(extent_of(size) as u64),
@@ -241,9 +225,7 @@ fn elements_len<T: CanonicalFixedSizedPod>(values: &[T]) -> Result<u64, GenError
 /// The length in bytes of the encoding of a choice over one type of fixed size. Refused as `TooLarge`.
 fn alternatives_len<T: ChoiceElement>(choice: &Choice<T>) -> Result<u64, GenError>
     ensures measured { IfOk result (λ n. IsMeasured (choice_tree T.kind T.fixed choice.now) n) }
-    ensures cause { IfErr result
-        (λ e. RefusesWrite (HasNul (choice_tree T.kind T.fixed choice.now))
-        (IsTooLarge (choice_tree T.kind T.fixed choice.now)) (λ _. ⊥) e) }
+    ensures cause { IfErr result (RefusesTree (choice_tree T.kind T.fixed choice.now)) }
 {
     match choice_size(choice) {
         Some(size) => Ok(extent_of(size) as u64),
@@ -255,8 +237,7 @@ fn alternatives_len<T: ChoiceElement>(choice: &Choice<T>) -> Result<u64, GenErro
 #[inline(always)]
 fn array_len(array: &ValueArray) -> Result<u64, GenError>
     ensures measured { IfOk result (λ n. IsMeasured (array_view array.now) n) }
-    ensures cause { IfErr result
-        (λ e. RefusesWrite (HasNul (array_view array.now)) (IsTooLarge (array_view array.now)) (λ _. ⊥) e) }
+    ensures cause { IfErr result (RefusesTree (array_view array.now)) }
 {
     match array {
         ValueArray::None(units) => elements_len(units.as_slice()),
@@ -276,8 +257,7 @@ fn array_len(array: &ValueArray) -> Result<u64, GenError>
 #[inline(always)]
 fn choice_len(choice: &ChoiceValue) -> Result<u64, GenError>
     ensures measured { IfOk result (λ n. IsMeasured (choice_view choice.now) n) }
-    ensures cause { IfErr result
-        (λ e. RefusesWrite (HasNul (choice_view choice.now)) (IsTooLarge (choice_view choice.now)) (λ _. ⊥) e) }
+    ensures cause { IfErr result (RefusesTree (choice_view choice.now)) }
 {
     match choice {
         ChoiceValue::Bool(values) => alternatives_len(values),

@@ -1,5 +1,5 @@
 //! Writes values with their members front to back: each size is computed before it is written.
-ghost use Rattle.std.specs.Prelude.{◌≡◌, ◌+◌, ◌<◌, ◌++◌, ◌⊎◌, ℕ, IfErr, IfOk, IfSome, OnErr, OnOk, Some, drop, length, take};
+ghost use Rattle.std.specs.Prelude.{◌≡◌, ◌+◌, ◌<◌, ◌++◌, ℕ, IfErr, IfOk, IfSome, OnErr, OnOk, Some, drop, length, take};
 ghost use Rattle.spa_sink.specs.Writing.{Begun, RefusesPiece};
 ghost use Rattle.spa_sink.specs.declared.gen_error.GenError.TheVariants.{OutOfMemory};
 ghost use Rattle.spa_format.specs.Encoding.{encoding_of, member_encodings, property_encodings};
@@ -9,7 +9,7 @@ ghost use Rattle.spa_canonical.specs.Depth.{depth_of};
 ghost use Rattle.spa_value.specs.View.{view};
 ghost use Rattle.spa_value.specs.Views.{property_views, views};
 ghost use Rattle.spa_write.specs.Measured.{ArePropertiesPut, ArePut, PropertiesAreWritable};
-ghost use Rattle.spa_write.specs.DeepValues.{LacksMemory};
+ghost use Rattle.spa_write.specs.DeepValues.{LacksMemory, RefusesEncoding};
 ghost use Rattle.spa_bodies.specs.Written.{IsLeaf, IsPut, Stops};
 ghost use Rattle.spa_format.specs.Words.{header_size, size_limit, word_bytes};
 
@@ -50,9 +50,8 @@ pub fn write_sized<S: PodSink>(sink: &mut S, value: &Value) -> Result<u64, GenEr
     ensures put { OnOk result (IsPut S.appends sink.old (view value.now) sink.new) }
     ensures count { IfOk result (λ n. n ≡ length (encoding_of (view value.now))) }
     ensures begun { OnErr result (Begun S.appends sink.old (encoding_of (view value.now)) sink.new) }
-    ensures refused { IfErr result (RefusesPiece (HasNul (view value.now)) (IsTooLarge (view value.now))
-        (λ e. LacksMemory (depth_of (view value.now)) e × (sink.new ≡ sink.old)
-        ⊎ S.refuses sink.old (length (encoding_of (view value.now))) sink.new e) sink.old sink.new) }
+    ensures refused { IfErr result (RefusesEncoding S.refuses (LacksMemory (depth_of (view value.now)))
+        sink.old (view value.now) sink.new) }
 {
     if !is_nested(value) {
         return write_measured(sink, value);
@@ -71,9 +70,8 @@ fn write_without_allocator<S: PodSink>(sink: &mut S, value: &Value) -> Result<u6
     ensures put { OnOk result (IsPut S.appends sink.old (view value.now) sink.new) }
     ensures count { IfOk result (λ n. n ≡ length (encoding_of (view value.now))) }
     ensures begun { OnErr result (Begun S.appends sink.old (encoding_of (view value.now)) sink.new) }
-    ensures refused { IfErr result (RefusesPiece (HasNul (view value.now)) (IsTooLarge (view value.now))
-        (λ e. LacksMemory (depth_of (view value.now)) e × (sink.new ≡ sink.old)
-        ⊎ S.refuses sink.old (length (encoding_of (view value.now))) sink.new e) sink.old sink.new) }
+    ensures refused { IfErr result (RefusesEncoding S.refuses (LacksMemory (depth_of (view value.now)))
+        sink.old (view value.now) sink.new) }
 {
     if may_be_deep(sink.room(), value) {
         match value {
@@ -115,9 +113,8 @@ pub fn write_value<S: PodSink>(alloc: Global, sink: &mut S, value: &Value) -> Re
     ensures put { OnOk result (IsPut S.appends sink.old (view value.now) sink.new) }
     ensures count { IfOk result (λ n. n ≡ length (encoding_of (view value.now))) }
     ensures begun { OnErr result (Begun S.appends sink.old (encoding_of (view value.now)) sink.new) }
-    ensures refused { IfErr result (RefusesPiece (HasNul (view value.now)) (IsTooLarge (view value.now))
-        (λ e. (e ≡ OutOfMemory) × (sink.new ≡ sink.old)
-        ⊎ S.refuses sink.old (length (encoding_of (view value.now))) sink.new e) sink.old sink.new) }
+    ensures refused { IfErr result (RefusesEncoding S.refuses (λ e. e ≡ OutOfMemory)
+        sink.old (view value.now) sink.new) }
 {
     let made = write_by_loop(alloc, value)?;
     sink.append(made.as_slice())?;

@@ -7,7 +7,7 @@ use Rattle.spa_format.specs.Faults.{Fault, Short, Text, InvalidType, InvalidChoi
 use Rattle.spa_format.specs.Front.{IsRefused}
 use Rattle.spa_format.specs.Pod.{AreMembers}
 use Rattle.spa_bodies.specs.Refusing.{Says}
-use Rattle.spa_canonical.specs.Offsets.{IsFaultAt, StandsAt, from_pod}
+use Rattle.spa_canonical.specs.Look.{IsFaultAt, StandsAt, from_pod}
 use Rattle.spa_canonical.specs.Rewriting.{IsLeft}
 use Rattle.spav.specs.Faults.{FaultStands, fault_number}
 

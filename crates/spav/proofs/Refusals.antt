@@ -9,7 +9,7 @@ use Rattle.spa_fixed_sized.specs.declared.fault.DeserializeError.TheVariants as 
 use Rattle.spa_fixed_sized.specs.Faults.{kind_text}
 use Rattle.spa_format.specs.Pod.{AreMembers}
 use Rattle.spa_bodies.specs.Reading.{OnFault}
-use Rattle.spa_rewrite.specs.InPlace.{RefusesListAt}
+use Rattle.spa_rewrite.specs.Refusals.{RefusesListAt}
 use Rattle.spa_format.specs.Lenient.{ConveyMembers}
 use Rattle.spa_read.specs.Reading.{ConveysNothing}
 use Rattle.spa_lenient.specs.Rewriting.{RefusesList}

@@ -4,7 +4,7 @@ use Rattle.spa_format.specs.Front.{Begins, HasFront, front_of, rest_of}
 use Rattle.spa_format.specs.Pod.{IsBody, IsPod}
 use Rattle.spa_format.specs.Tree.{Tree, type_of}
 use Rattle.spa_format.proofs.Fronts.{front_of_whole}
-use Rattle.spa_canonical.specs.Canonical.{MissesOnly}
+use Rattle.spa_canonical.specs.Canonical.{BeginsCanonical}
 use Rattle.spa_canonical.specs.Depth.{depth_of, levels_looked_into}
 use Rattle.spa_view.specs.Tests as t
 use Rattle.spav.specs.Building.{IsPodOf}
@@ -17,7 +17,7 @@ pub begun : (b : List ℕ) (v : Tree) → IsPod b v → Begins b v
 begun b v h = let w = whole_pod b v h in record { there = w.0; pod = subst (λ x. IsPod x v) w.1 h }
 
 -- none is missed
-pub not_missed : (b : List ℕ) (v : Tree) → MissesOnly b (λ w. levels_looked_into < depth_of w) → ¬ (IsPodOf b v)
+pub not_missed : (b : List ℕ) (v : Tree) → ((rest : List ℕ) (c : BeginsCanonical b rest) → levels_looked_into < depth_of c.value) → ¬ (IsPodOf b v)
 not_missed b v m h =
     let w = whole_pod b v h.pod in
     let l : levels_looked_into < depth_of v =

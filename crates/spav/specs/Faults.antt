@@ -4,7 +4,7 @@ use Rattle.spa_format.specs.Faults.{Fault, Short, Text, InvalidType, InvalidChoi
 use Rattle.spa_format.specs.Front.{IsRefused}
 use Rattle.spa_format.specs.Pod.{AreMembers}
 use Rattle.spa_format.specs.Tree.{Trees}
-use Rattle.spa_canonical.specs.Offsets.{StandsAt, from_pod}
+use Rattle.spa_canonical.specs.Look.{StandsAt, from_pod}
 use Rattle.spa_canonical.specs.Rewriting.{IsLeft}
 use Rattle.spa_canonical.specs.Depth.{NestsDeeper, levels_looked_into}
 

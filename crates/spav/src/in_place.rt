@@ -1,8 +1,8 @@
 //! Canonicalizes lists of pods in place, in the caller's memory.
 ghost use Rattle.std.specs.Prelude.{◌≡◌, false, true, ℕ};
 ghost use Rattle.spa_fixed_sized.specs.declared.fault.DeserializeError.TheVariants as refused;
-ghost use Rattle.spa_rewrite.specs.InPlace.{RefusesListAt};
-ghost use Rattle.spa_canonical.specs.Shorter.{ArePodsWithin};
+ghost use Rattle.spa_rewrite.specs.Refusals.{RefusesListAt};
+ghost use Rattle.spa_canonical.specs.Rewriting.{ArePodsWithin};
 ghost use Rattle.spa_canonical.specs.Depth.{levels_looked_into};
 ghost use Rattle.spav.specs.Answers.{IsChecked, IsDone, IsInvalid, IsNoMemory};
 ghost use Rattle.spav.specs.Lists.{IsForBytes, ListIsRefused, ListIsWritten};

@@ -8,7 +8,7 @@ ghost use Rattle.spa_format.specs.Tree.{Trees};
 ghost use Rattle.spa_format.specs.Walk.{walk};
 ghost use Rattle.spa_lenient.specs.Rewriting.{RefusesList};
 ghost use Rattle.spa_read.specs.Reading.{StandsLeniently};
-ghost use Rattle.spa_canonical.specs.Shorter.{ArePodsWithin};
+ghost use Rattle.spa_canonical.specs.Rewriting.{ArePodsWithin};
 ghost use Rattle.spa_canonical.specs.Depth.{NestsDeeper, SomeOf, levels_looked_into};
 ghost use Rattle.spav.specs.Answers.{IsAsked, IsChecked, IsDone, IsInvalid, IsNoMemory, IsNoRoom, IsReadLeniently, IsRewritten, IsTooDeep};
 ghost use Rattle.spav.specs.Items.{ArePast, AreRead};

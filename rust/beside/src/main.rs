@@ -3,7 +3,7 @@
 //! difference, and writes the input to `difference.pod`.
 //!
 //! `beside podtool PODTOOL FILE..` compares what the crate rewrites, fixates and finds in the files with what the program podtool writes, byte
-//! by byte, its refusals and its status included. `beside rows PODTOOL ROWS` does so on rows in the form of crates/podtool_rows/stdin.
+//! by byte, its refusals and its status included. `beside rows PODTOOL ROWS` does so on rows in the form of crates/podtool_tests/stdin.
 use spa_pod::pod::deserialize::PodDeserializer;
 use spa_pod::pod::serialize::PodSerializer;
 use spa_pod::pod::{Held, Pod, PodObject, accept_all, is_canonical, nests_within, rewrite, rewrite_all, rewrite_in_place};

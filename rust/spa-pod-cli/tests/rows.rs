@@ -1,6 +1,6 @@
 //! The rows on which the proved program is tested: crates/pod_rows has the words, what is given, and what is answered. And the files of
 //! crates/pod and crates/podtool, by the programs themselves.
-use spa_pod_cli::parts::pod_commands::{answer::report, files::Files, run::run, screen::Screen};
+use spa_pod_cli::parts::pod_commands::{answer::report, files::Files, run::{Start, run}, screen::Screen};
 use spa_pod_cli::parts::spa_meet_commands::progress::Unwatched;
 use std::io::{self, Cursor, ErrorKind, Read, Write};
 use std::process::{Command, Stdio};
@@ -84,7 +84,8 @@ fn answer_of(label: &str, words: &str, given: &str, room: usize) -> String {
     let mut input = Input(Cursor::new(bytes_of(given.trim_start_matches('%')).unwrap()), given.starts_with('%'));
     let screen = Screen { is_terminal: label.starts_with("terminal"), no_color: label.contains("NO_COLOR") };
     let (mut files, mut written, mut said) = (Spelt::default(), [0; ROOM], Vec::new());
-    let (answer, mut left) = run(&words, &mut input, &mut files, &mut Unwatched, &mut written[..room.min(ROOM)], screen);
+    let start = Start { words: &words, screen };
+    let (answer, mut left) = run(start, &mut input, &mut files, &mut Unwatched, &mut written[..room.min(ROOM)]);
     report(&mut left, &mut said, &answer).unwrap();
     let len = room.min(ROOM) - left.len();
     let are_pods = matches!(words.first(), Some(&("get" | "read" | "rewrite" | "fixate" | "meet" | "filter"))) && words.last() != Some(&"--help");

@@ -3,7 +3,7 @@
 
 use spa_pod_cli::parts::pod_commands::answer::{Answer, Failure, report};
 use spa_pod_cli::parts::pod_commands::files::SystemFiles;
-use spa_pod_cli::parts::pod_commands::run::run;
+use spa_pod_cli::parts::pod_commands::run::{Start, run};
 use spa_pod_cli::parts::pod_commands::screen::Screen;
 use spa_pod_cli::parts::spa_meet_commands::progress::Progress;
 use spa_pod_cli::streams::{Stdout, stdin, words};
@@ -25,7 +25,8 @@ fn main() -> ExitCode {
     let no_color = std::env::var_os("NO_COLOR").is_some_and(|value| !value.is_empty());
     let screen = Screen { is_terminal: output.is_terminal(), no_color };
     let mut progress = Told::new();
-    let (answer, mut output) = run(&words, &mut input, &mut SystemFiles {}, &mut progress, output, screen);
+    let start = Start { words: &words, screen };
+    let (answer, mut output) = run(start, &mut input, &mut SystemFiles {}, &mut progress, output);
     if !output.is_closed() {
         let _ = match &answer {
             Answer::Said(said) if said.is_version() => writeln!(output, "{} ({BUILD})", said.to_string().trim_end()),

@@ -19,13 +19,13 @@ returns-clause-made g c = ends _ _ _ _ _ _ _ _ _ (none_left c.args.names.now c.l
 
 pub returns-in_err-bytes-clause-refused : goal.returns-in_err-bytes-clause-refused
 returns-in_err-bytes-clause-refused g c =
-    cause_is (AreUnmade c.args.reading c.args.making (g.R.Read.remaining c.args.input.now) (g.S.Files.holds c.args.files.now) c.args.names.now) c.from_residual.result _
+    cause_is (AreUnmade c.args.reading c.args.making (g.R.Read.remaining c.args.inputs.input.now) (g.S.Files.holds c.args.inputs.files.now) c.args.names.now) c.from_residual.result _
     c.from_residual.ensures.1 (inl c.in_err-bytes.ensures.cause)
 
 pub returns-in_err-made-clause-refused : goal.returns-in_err-made-clause-refused
 returns-in_err-made-clause-refused g c =
     let d : Bor (List ℕ) = record { ref_ptr = (0, 0); now = [] } in
-    cause_is (AreUnmade c.args.reading c.args.making (g.R.Read.remaining c.args.input.now) (g.S.Files.holds c.args.files.now) c.args.names.now)
+    cause_is (AreUnmade c.args.reading c.args.making (g.R.Read.remaining c.args.inputs.input.now) (g.S.Files.holds c.args.inputs.files.now) c.args.names.now)
     c.from_residual-in_err-made.result _ c.from_residual-in_err-made.ensures.1
     (inr (
       _,
@@ -36,5 +36,5 @@ returns-in_err-made-clause-refused g c =
 
 pub returns-in_err-add-clause-refused : goal.returns-in_err-add-clause-refused
 returns-in_err-add-clause-refused g c =
-    cause_is (AreUnmade c.args.reading c.args.making (g.R.Read.remaining c.args.input.now) (g.S.Files.holds c.args.files.now) c.args.names.now)
+    cause_is (AreUnmade c.args.reading c.args.making (g.R.Read.remaining c.args.inputs.input.now) (g.S.Files.holds c.args.inputs.files.now) c.args.names.now)
     c.from_residual-in_err-add.result _ c.from_residual-in_err-add.ensures.1 (inl (inl refl))

@@ -19,7 +19,7 @@ loop-name-preserved g c =
     goes_on _ _ _ _ _ _ _ _ _ _ _ c.in_ok-bytes.bytes.items c.in-Ok.made.items _ _ olds news
     (next_left c.args.names.now c.loop-name.name-index d c.loop-name-test.true) c.in_ok-bytes.ensures.all c.read_named.ensures.left
     (subst (λ bytes. WorksThrough c.args.manner.reading c.args.manner.refused c.args.making name bytes c.in-Ok.made.items olds news)
-    c.as_slice-bytes.ensures.value c.in-Ok.ensures)
+    c.as_slice.ensures.value c.in-Ok.ensures)
     c.in_ok-add.ensures c.loop-name.invariant
 
 pub returns-clause-made : goal.returns-clause-made

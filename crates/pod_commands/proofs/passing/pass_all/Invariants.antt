@@ -4,5 +4,5 @@ use Rattle.pod_commands.proofs.passing.pass_all.Given as goal
 
 abbrev pub invariant-loop-name : goal.invariant-loop-name
 invariant-loop-name g l =
-    PassedSoFar l.manner.reading l.manner.refused l.making (g.R.Read.remaining l.fn.input) (g.S.Files.holds l.files) l.names
+    PassedSoFar l.manner.reading l.manner.refused l.making (g.R.Read.remaining l.fn.inputs.input.now) (g.S.Files.holds l.files) l.names
     (g.R.Read.remaining l.input) (drop l.name-index l.names) l.said.items (g.W.Write.contents l.fn.output) (g.W.Write.contents l.output)

@@ -2,11 +2,11 @@ use Rattle.pod_commands.proofs.Passed.{file_breaks, file_passes, unread}
 use Rattle.pod_commands.proofs.passing.pass_file.Goals as goal
 
 pub returns-in-Err-clause-broken : goal.returns-in-Err-clause-broken
-returns-in-Err-clause-broken g c = unread _ _ _ c.args.name.now _ _ c.in-Err.why c.requires c.in-Err.ensures.cause
+returns-in-Err-clause-broken g c = unread _ _ _ c.args.job.name.now _ _ c.in-Err.why c.requires c.in-Err.ensures.cause
 
 pub returns-clause-passed : goal.returns-clause-passed
 returns-clause-passed g c =
-    file_passes _ _ _ (λ v. v.items) c.args.name.now _ _ _ _ _ c.pass_reader.result c.in-Ok.ensures.opened c.pass_reader.ensures.passed
+    file_passes _ _ _ (λ v. v.items) c.args.job.name.now _ _ _ _ _ c.pass_reader.result c.in-Ok.ensures.opened c.pass_reader.ensures.passed
 
 pub returns-clause-broken : goal.returns-clause-broken
-returns-clause-broken g c = file_breaks _ _ _ c.args.name.now _ _ _ _ c.pass_reader.result c.in-Ok.ensures.opened c.pass_reader.ensures.broken
+returns-clause-broken g c = file_breaks _ _ _ c.args.job.name.now _ _ _ _ c.pass_reader.result c.in-Ok.ensures.opened c.pass_reader.ensures.broken

@@ -10,4 +10,4 @@ returns-in-Ok-clause-passed g c = passed _ c.stream_through.new.worker _ _ _ c.r
 
 pub returns-clause-broken : goal.returns-clause-broken
 returns-clause-broken g c =
-    broken _ c.args.name _ _ _ c.in-Err.why c.failure_of.result c.requires refl c.failure_of.ensures c.in-Err.ensures.stopped
+    broken _ c.args.job.name _ _ _ c.in-Err.why c.failure_of.result c.requires refl c.failure_of.ensures c.in-Err.ensures.stopped

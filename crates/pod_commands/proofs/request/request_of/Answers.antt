@@ -94,7 +94,7 @@ returns-clause-asked c =
       manner =
           subst (λ reading. HasManner reading c.in-Ok-manner_of.manner.fate c.in-Some-word_of.word) c.in-Ok-manner_of.ensures.reading
           c.in-Some-word_of.ensures.manner;
-      stream = subst (λ streams. HasStream streams c.in-Some-word_of.word) c.is_set.ensures c.in-Some-word_of.ensures.stream;
+      stream = subst (λ flags. HasStream flags.streams c.in-Some-word_of.word) c.flags_in.ensures c.in-Some-word_of.ensures.stream;
       flags = subst (λ flags. HasFlags flags c.in-Some-word_of.word) c.flags_in.ensures c.in-Some-word_of.ensures.flags;
       read_as = has_texts rows c.in-Some.name.now c.in-Some-word_of.word c.in-Ok-texts_for.read_as c.in-Some-word_of.ensures.word
           c.in-Some-word_of.ensures.texts c.in-Ok-texts_for.ensures.texts;

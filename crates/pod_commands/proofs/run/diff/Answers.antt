@@ -1,8 +1,7 @@
-use Rattle.std.proofs.Common.{◌≡◌, ℕ, List, [], arith, get_or, inl, subst, sym}
+use Rattle.std.proofs.Common.{◌≡◌, ℕ, List, [], arith, get_or, inl}
 use Rattle.std.proofs.lemmas.List.{nil_from_length}
 use Rattle.std.specs.Borrow.{Bor}
-use Rattle.pod_commands.specs.Answers.{IsCompared, outlet}
-use Rattle.pod_commands.specs.declared.answer.Answer.TheVariants.{Refused}
+use Rattle.pod_commands.specs.Answers.{outlet}
 use Rattle.pod_commands.proofs.Made.{two_names}
 use Rattle.pod_commands.proofs.Paired.{same_sent}
 use Rattle.pod_commands.proofs.Running.{untouched}
@@ -11,16 +10,14 @@ use Rattle.pod_commands.proofs.run.diff.Goals as goal
 pub returns-in-Err : goal.returns-in-Err
 returns-in-Err g c =
     let d : Bor (List ℕ) = record { ref_ptr = (0, 0); now = [] } in
-    let contents = g.W.Write.contents c.args.device in
-    let holds = g.S.Files.holds c.args.files.now in
-    subst (λ ns. IsCompared c.args.comparison c.args.reading (Refused c.in-Err.why) (g.R.Read.remaining c.args.input.now) ns (outlet c.args.target contents contents holds holds))
-    (sym (two_names c.args.names.now d (omega arith))) (inl (c.in-Err.ensures.refused, untouched c.args.target contents holds))
+    rw (two_names c.args.names.now d (omega arith))
+    (inl (c.in-Err.ensures.refused, untouched c.args.target (g.W.Write.contents c.args.io.device) (g.S.Files.holds c.args.io.files.now)))
 
 pub returns-then-is_empty : goal.returns-then-is_empty
 returns-then-is_empty g c =
     let d : Bor (List ℕ) = record { ref_ptr = (0, 0); now = [] } in
-    let o = outlet c.args.target (g.W.Write.contents c.args.device) (g.W.Write.contents c.answered.result.1) (g.S.Files.holds c.args.files.now)
+    let o = outlet c.args.target (g.W.Write.contents c.args.io.device) (g.W.Write.contents c.answered.result.1) (g.S.Files.holds c.args.io.files.now)
     (g.S.Files.holds c.answered.new.files) in
     let none : c.in-Ok.lines.items ≡ [] = nil_from_length c.in-Ok.lines.items (grind (arith, c.if-is_empty.true, c.is_empty.ensures)) in
-    subst (λ ns. IsCompared c.args.comparison c.args.reading c.answered.result.0 (g.R.Read.remaining c.args.input.now) ns o) (sym (two_names c.args.names.now d (omega arith)))
+    rw (two_names c.args.names.now d (omega arith))
     (same_sent _ _ _ (get_or c.args.names.now 0 d) (get_or c.args.names.now 1 d) c.in-Ok.lines.items o c.answered.result.0 none (c.in-Ok.ensures.same none) c.answered.ensures.made)

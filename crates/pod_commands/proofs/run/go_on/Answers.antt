@@ -3,4 +3,4 @@ use Rattle.pod_commands.proofs.Running.{untouched}
 use Rattle.pod_commands.proofs.run.go_on.Goals as goal
 
 pub returns-in-Err : goal.returns-in-Err
-returns-in-Err g c = inl (c.in-Err.ensures.refused, untouched c.args.target (g.W.Write.contents c.args.device) (g.S.Files.holds c.args.files.now))
+returns-in-Err g c = inl (c.in-Err.ensures.refused, untouched c.args.target (g.W.Write.contents c.args.io.device) (g.S.Files.holds c.args.io.files.now))

@@ -4,15 +4,15 @@ use Rattle.pod_commands.specs.Answers.{outlet}
 use Rattle.pod_commands.proofs.Leniently.{all_printed, none_printed}
 use Rattle.pod_commands.proofs.run.print_leniently.Goals as goal
 
-pub returns-in-Ok : goal.returns-in-Ok
-returns-in-Ok g c =
-    let o = outlet c.args.target (g.W.Write.contents c.args.device) (g.W.Write.contents c.answered.result.1) (g.S.Files.holds c.args.files.now)
+pub returns : goal.returns
+returns g c =
+    let o = outlet c.args.target (g.W.Write.contents c.args.io.device) (g.W.Write.contents c.answered.result.1) (g.S.Files.holds c.args.io.files.now)
     (g.S.Files.holds c.answered.new.files) in
-    all_printed c.args.printing (g.R.Read.remaining c.args.input.now) c.args.names.now o c.in-Ok.made.items c.of.result c.shown-done.result c.answered.result.0
+    all_printed c.args.printing (g.R.Read.remaining c.args.io.input.now) c.args.names.now o c.in-Ok.made.items c.of.result c.shown-done.result c.answered.result.0
     c.in-Ok.ensures.made c.of.ensures.refused
     (subst (λ z. Decides c.of.result.nothing (z ≡ [])) c.as_slice.ensures.value c.of.ensures.nothing) c.sought_in-sought.result c.sought_in-sought.ensures c.shown-done.ensures c.answered.ensures.made
 
 pub returns-in-Err : goal.returns-in-Err
 returns-in-Err g c =
-    none_printed c.args.printing c.args.target (g.R.Read.remaining c.args.input.now) (g.S.Files.holds c.args.files.now) c.args.names.now
-    (g.W.Write.contents c.args.device) c.in-Err.why c.in-Err.ensures.refused
+    none_printed c.args.printing c.args.target (g.R.Read.remaining c.args.io.input.now) (g.S.Files.holds c.args.io.files.now) c.args.names.now
+    (g.W.Write.contents c.args.io.device) c.in-Err.why c.in-Err.ensures.refused

@@ -6,19 +6,19 @@ use Rattle.pod_commands.proofs.run.print_to_file.Goals as goal
 
 pub returns-in-Ok : goal.returns-in-Ok
 returns-in-Ok g c =
-    let o = outlet c.args.target (g.W.Write.contents c.args.device) (g.W.Write.contents c.answered.result.1) (g.S.Files.holds c.args.files.now)
+    let o = outlet c.args.target (g.W.Write.contents c.args.io.device) (g.W.Write.contents c.answered.result.1) (g.S.Files.holds c.args.io.files.now)
     (g.S.Files.holds c.answered.new.files) in
     let made = c.in-Ok.ensures.streamed in
     let lines = c.stream_all.new.output.items in
-    shown_in c.args.printing (g.R.Read.remaining c.args.input.now) c.args.names.now o lines made.0 c.in-Ok.made c.shown-done.result c.answered.result.0
+    shown_in c.args.printing (g.R.Read.remaining c.args.io.input.now) c.args.names.now o lines made.0 c.in-Ok.made c.shown-done.result c.answered.result.0
     c.looked_for.result c.looked_for.ensures c.shown-done.ensures made.1 made.2
     (subst (λ z. Appends (Some z) (Some lines) made.0) c.new-printed.ensures.items made.3) c.answered.ensures.made
 
 pub returns-in-Err-Unwritten : goal.returns-in-Err-Unwritten
 returns-in-Err-Unwritten g c =
-    unshown_lines c.args.printing c.args.target (g.R.Read.remaining c.args.input.now) (g.S.Files.holds c.args.files.now) c.args.names.now (g.W.Write.contents c.args.device)
+    unshown_lines c.args.printing c.args.target (g.R.Read.remaining c.args.io.input.now) (g.S.Files.holds c.args.io.files.now) c.args.names.now (g.W.Write.contents c.args.io.device)
 
 pub returns : goal.returns
 returns g c =
-    unshown c.args.printing c.args.target (g.R.Read.remaining c.args.input.now) (g.S.Files.holds c.args.files.now) c.args.names.now (g.W.Write.contents c.args.device) _ _
+    unshown c.args.printing c.args.target (g.R.Read.remaining c.args.io.input.now) (g.S.Files.holds c.args.io.files.now) c.args.names.now (g.W.Write.contents c.args.io.device) _ _
     c.in-Err.why c.in-Err.ensures.broken

@@ -1,5 +1,5 @@
-use Rattle.std.proofs.Common.{◌∙◌, refl, subst, sym}
-use Rattle.pod_commands.specs.Answers.{IsDone, asked, no_memory, nothing, outlet, said, to_terminal}
+use Rattle.std.proofs.Common.{◌∙◌, refl, sym}
+use Rattle.pod_commands.specs.Answers.{asked, no_memory, nothing, said, to_terminal}
 use Rattle.pod_commands.proofs.Requested.{among}
 use Rattle.pod_commands.proofs.Running.{keeps_itself}
 use Rattle.pod_commands.proofs.run.run.Goals as goal
@@ -16,11 +16,7 @@ pub returns-in-Ok-Ok : goal.returns-in-Ok-Ok
 returns-in-Ok-Ok g c =
     asked c.in-Ok-Ok.request c.do_work.result.0 (rw c.in-Ok-Ok.field-0-is at c.in-Ok-Ok.ensures.asked)
     (sym c.fills_terminal.ensures ∙ c.if-fills_terminal.false)
-    (subst
-    (λ t. IsDone c.in-Ok-Ok.request.word c.do_work.result.0 (g.R.Read.remaining c.args.input.now) c.in-Ok-Ok.request.names.items
-    (outlet t (g.W.Write.contents c.args.device) (g.W.Write.contents c.do_work.result.1) (g.S.Files.holds c.args.files.now)
-    (g.S.Files.holds c.do_work.new.files)))
-    c.file_of-target.ensures c.do_work.ensures)
+    (rw c.file_of-target.ensures at c.do_work.ensures)
 
 pub returns-in-Ok-Err : goal.returns-in-Ok-Err
 returns-in-Ok-Err g c = nothing c.in-Ok-Err.why (rw c.in-Ok-Err.field-0-is at c.in-Ok-Err.ensures.nothing) (keeps_itself _) (λ name. refl)

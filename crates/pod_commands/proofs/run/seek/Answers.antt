@@ -1,6 +1,6 @@
-use Rattle.std.proofs.Common.{ℕ, List, [], arith, subst, sym}
+use Rattle.std.proofs.Common.{ℕ, List, [], arith}
 use Rattle.std.specs.Borrow.{Bor}
-use Rattle.pod_commands.specs.Answers.{IsAgreed, outlet}
+use Rattle.pod_commands.specs.Answers.{outlet}
 use Rattle.pod_commands.proofs.Made.{one_name, two_names}
 use Rattle.pod_commands.proofs.Running.{answers}
 use Rattle.pod_commands.proofs.run.seek.Goals as goal
@@ -8,19 +8,17 @@ use Rattle.pod_commands.proofs.run.seek.Goals as goal
 pub returns-in-len1 : goal.returns-in-len1
 returns-in-len1 g c =
     let d : Bor (List ℕ) = record { ref_ptr = (0, 0); now = [] } in
-    let o = outlet c.args.target (g.W.Write.contents c.args.device) (g.W.Write.contents c.answered.result.1) (g.S.Files.holds c.args.files.now)
+    let o = outlet c.args.target (g.W.Write.contents c.args.io.device) (g.W.Write.contents c.answered.result.1) (g.S.Files.holds c.args.io.files.now)
     (g.S.Files.holds c.answered.new.files) in
-    subst (λ ns. IsAgreed c.args.work c.args.reading c.answered.result.0 (g.R.Read.remaining c.args.input.now) ns o)
-    (sym (one_name c.args.names.now d (omega arith)))
+    rw (one_name c.args.names.now d (omega arith))
     (answers c.agree-made.result (λ v. v.items) _ _ o c.answered.result.0 c.agree-made.ensures.made c.agree-made.ensures.refused
     c.answered.ensures.made c.answered.ensures.refused)
 
 pub returns-in-len2 : goal.returns-in-len2
 returns-in-len2 g c =
     let d : Bor (List ℕ) = record { ref_ptr = (0, 0); now = [] } in
-    let o = outlet c.args.target (g.W.Write.contents c.args.device) (g.W.Write.contents c.answered-in-len2.result.1)
-    (g.S.Files.holds c.args.files.now) (g.S.Files.holds c.answered-in-len2.new.files) in
-    subst (λ ns. IsAgreed c.args.work c.args.reading c.answered-in-len2.result.0 (g.R.Read.remaining c.args.input.now) ns o)
-    (sym (two_names c.args.names.now d (omega arith)))
+    let o = outlet c.args.target (g.W.Write.contents c.args.io.device) (g.W.Write.contents c.answered-in-len2.result.1)
+    (g.S.Files.holds c.args.io.files.now) (g.S.Files.holds c.answered-in-len2.new.files) in
+    rw (two_names c.args.names.now d (omega arith))
     (answers c.agree_of_lists-made.result (λ v. v.items) _ _ o c.answered-in-len2.result.0 c.agree_of_lists-made.ensures.made
     c.agree_of_lists-made.ensures.refused c.answered-in-len2.ensures.made c.answered-in-len2.ensures.refused)

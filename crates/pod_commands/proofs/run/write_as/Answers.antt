@@ -3,8 +3,8 @@ use Rattle.pod_commands.proofs.run.write_as.Goals as goal
 
 pub returns-in-Ok : goal.returns-in-Ok
 returns-in-Ok g c =
-    all_written c.args.reading c.args.streaming c.args.target _ _ c.args.names.now _ _ c.in-Ok.made c.shown.result c.requires c.looked_for.result c.looked_for.ensures
+    all_written c.args.reading c.args.streaming _ _ c.args.names.now _ _ c.in-Ok.made c.shown.result c.looked_for.result c.looked_for.ensures
     c.shown.ensures c.in-Ok.ensures.streamed
 
 pub returns-in-Err : goal.returns-in-Err
-returns-in-Err g c = part_written c.args.reading c.args.streaming c.args.target _ _ c.args.names.now _ _ c.in-Err.why c.in-Err.ensures.broken
+returns-in-Err g c = part_written c.args.reading c.args.streaming _ _ c.args.names.now _ _ c.in-Err.why c.in-Err.ensures.broken

@@ -10,8 +10,8 @@ loop-pods-preserved-then-begins_word c =
     let p = c.loop-pods.invariant in
     let key = c.key_len.result in
     let begins = c.begins_word.ensures c.if-begins_word.true in (
-      word_replaced _ _ _ c.clear_padding.new.pod c.loop-pods.at key _ p.0 p.1 c.key_len.ensures c.if-pods-at-lt-HEADER_LEN.false begins (omega arith) c.clear_padding.ensures
-          c.clear_padding.auto.pod (λ i. omega (arith, c.type_inv.pods i)),
+      word_replaced _ _ _ c.clear_behind.new.pod c.loop-pods.at key _ p.0 p.1 c.key_len.ensures c.if-pods-at-lt-HEADER_LEN.false begins (omega arith) c.clear_behind.ensures
+          c.clear_behind.auto.pod (λ i. omega (arith, c.type_inv.pods i)),
       λ i. omega (arith, c.type_inv.pods i),
     )
 

@@ -1,5 +1,5 @@
 use Rattle.std.proofs.Common.{[], length, ap, arith, subst}
-use Rattle.spa_rewrite.specs.InPlace as exact
+use Rattle.spa_rewrite.specs.Refusals as exact
 use Rattle.spa_lenient.proofs.InPlace.{exactly_all, lacks_memory_at}
 use Rattle.spa_lenient.proofs.in_place.rewrite_in_place_leniently.Goals as goal
 

@@ -3,9 +3,9 @@ use Rattle.spa_format.specs.Typed.{IsBytes}
 use Rattle.spa_object_view.proofs.Opening.{begins_leaves, begins_view}
 use Rattle.spa_object_view.proofs.front.canonical_object.Goals as goal
 
-pub returns-then-has_leaves_alone : goal.returns-then-has_leaves_alone
-returns-then-has_leaves_alone c =
-    begins_leaves _ _ _ c.in_ok-object.object c.requires c.in_ok-object.ensures.parts (c.has_leaves_alone.ensures c.if-has_leaves_alone.true)
+pub returns-then-are_flat_properties : goal.returns-then-are_flat_properties
+returns-then-are_flat_properties c =
+    begins_leaves _ _ _ c.in_ok-object.object c.requires c.in_ok-object.ensures.parts (c.are_flat_properties.ensures c.if-are_flat_properties.true)
 
 pub returns : goal.returns
 returns c =

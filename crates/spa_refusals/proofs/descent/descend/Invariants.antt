@@ -1,5 +1,5 @@
 use Rattle.std.specs.Prelude.{string_bytes}
-use Rattle.spa_canonical.specs.Offsets.{from_pod}
+use Rattle.spa_canonical.specs.Look.{from_pod}
 use Rattle.spa_refusals.specs.Paths.{IsFaultIn, LeadsTo}
 use Rattle.spa_refusals.proofs.descent.descend.Given as goal
 

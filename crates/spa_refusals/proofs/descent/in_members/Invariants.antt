@@ -1,5 +1,5 @@
 use Rattle.std.proofs.Common.{◌≤◌, length}
-use Rattle.spa_canonical.specs.Offsets.{from_members}
+use Rattle.spa_canonical.specs.Look.{from_members}
 use Rattle.spa_refusals.specs.Paths.{IsFaultIn}
 use Rattle.spa_refusals.proofs.Passing.{PassedMembers}
 use Rattle.spa_refusals.proofs.descent.in_members.Given as goal

@@ -1,6 +1,6 @@
 use Rattle.std.proofs.Common.{◌≡◌, ◌≤◌, length}
 use Rattle.std.specs.Prelude.{string_bytes}
-use Rattle.spa_canonical.specs.Offsets.{from_properties}
+use Rattle.spa_canonical.specs.Look.{from_properties}
 use Rattle.spa_refusals.specs.Paths.{IsFaultIn}
 use Rattle.spa_refusals.proofs.Passing.{Passed}
 use Rattle.spa_refusals.proofs.descent.in_properties.Given as goal

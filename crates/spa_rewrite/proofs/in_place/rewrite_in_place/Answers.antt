@@ -1,20 +1,18 @@
-use Rattle.std.proofs.Common.{◌+◌, ◌-◌, ◌∙◌, ap, arith, length, refl, subst, sym, take}
+use Rattle.std.proofs.Common.{◌-◌, ◌∙◌, ap, arith, length, refl, subst, sym, take}
 use Rattle.std.specs.Prelude.{[], Some}
 use Rattle.std.proofs.lemmas.Bool.{eqb-true}
 use Rattle.std.proofs.lemmas.List.{take_all, take_at, take_rest}
 use Rattle.spa_fixed_sized.specs.declared.fault.Refusal.TheVariants as refusal
 use Rattle.spa_canonical.specs.Depth.{levels_looked_into}
 use Rattle.spa_canonical.proofs.Deeper.{its_front}
-use Rattle.spa_canonical.specs.Rewriting.{AreRewritten}
+use Rattle.spa_canonical.specs.Rewriting.{ArePodsWithin, AreRewritten}
 use Rattle.spa_canonical.specs.Look.{AreChanged, IsRejected}
-use Rattle.spa_canonical.specs.Shorter.{ArePodsWithin}
-use Rattle.spa_bodies.specs.Refusing.{error_of}
 use Rattle.spa_canonical.proofs.Accepted.{fault_front}
 use Rattle.spa_canonical.proofs.Lengths.{lengths}
 use Rattle.spa_canonical.proofs.Refusals.{front_refused}
 use Rattle.spa_canonical.proofs.ShorterLemmas.{within_behind}
 use Rattle.spa_canonical.proofs.Stretches.{all_canonical, canonical_rewritten, list_refused}
-use Rattle.spa_rewrite.specs.InPlace.{RefusesListAt, moved}
+use Rattle.spa_rewrite.specs.Refusals.{RefusesListAt}
 use Rattle.spa_rewrite.proofs.ChangedPods.{behind_first}
 use Rattle.spa_rewrite.proofs.InPlaceLemmas.{asks_behind, left_behind, offset_known, others_left, refused_behind}
 use Rattle.spa_rewrite.proofs.in_place.rewrite_in_place.Goals as goal
@@ -66,12 +64,11 @@ returns-in-Fault-clause-refused c =
     let bytes = c.args.bytes.now in
     let parts = c.canonical_stretch.ensures.parts in
     let first = c.canonical_stretch.ensures.canonical in
-    let placed = error_of c.in-Fault.place c.in-Fault.why in
-    let front = fault_front pod c.in-Fault.place c.in-Fault.why fault.stands in
+    let front = fault_front pod c.in-Fault.field-0 c.in-Fault.why fault.stands in
     let top = length bytes - length pod in
-    let offset = offset_known bytes pod top c.in-Fault.at c.in-Fault.place c.in-Fault.why (left_behind _ _ _ _ top parts first h refl) fault in
-    let is = c.with_offset.ensures ∙ ap (moved (Some (top + c.in-Fault.at))) c.error_at.ensures in
-    subst (RefusesListAt bytes top) (sym is) (refused_behind _ _ _ _ top _ placed parts first (list_refused others pod _ h front) refl offset)
+    let offset = offset_known bytes pod top c.in-Fault.at c.in-Fault.field-0 c.in-Fault.why (left_behind _ _ _ _ top parts first h refl) fault in
+    subst (RefusesListAt bytes top) (sym c.error_at.ensures)
+    (refused_behind _ _ _ _ top _ c.in-Fault.field-0 c.in-Fault.why parts first (list_refused others pod _ h front) refl offset)
 
 pub returns-in-Fault-clause-missed : goal.returns-in-Fault-clause-missed
 returns-in-Fault-clause-missed c = λ w.
@@ -86,7 +83,7 @@ returns-in-TooDeep-clause-refused c =
     let h = c.in-Err.ensures.left in
     let deep = subst (IsRejected pod) c.in-TooDeep.is c.in-Err.ensures.rejected in
     let front = front_refused pod c.in-Err.pod refusal.OutOfMemory (its_front levels_looked_into pod deep) in
-    refused_behind c.args.bytes.now _ others pod _ (Some 0) (error_of c.in-Err.pod refusal.OutOfMemory) c.canonical_stretch.ensures.parts
+    refused_behind c.args.bytes.now _ others pod _ (Some 0) c.in-Err.pod refusal.OutOfMemory c.canonical_stretch.ensures.parts
     c.canonical_stretch.ensures.canonical (list_refused others pod _ h front) refl tt
 
 pub returns-in-TooDeep-clause-missed : goal.returns-in-TooDeep-clause-missed

@@ -8,8 +8,7 @@ returns g c =
     let e = g.E.FixedSizedPod in
     let met = g.met.E.CanonicalType.CanonicalFixedSizedPod in
     record {
-      pod = λ input xs ys first last lawful b o t z.
-          comes_back k.kind k.fixed e.to_canonical e.of_canonical met.same lawful input xs ys first last b o t z;
+      pod = comes_back k.kind k.fixed e.to_canonical e.of_canonical met.same;
       encoding = λ rest xs sized t w.
           array_begins k.kind (says_all k.fixed e.to_canonical xs) rest (subst (λ n. 0 < n) met.its_size sized) t w;
       units = λ input ys first last none o t.

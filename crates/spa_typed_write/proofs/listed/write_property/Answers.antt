@@ -1,5 +1,5 @@
 use Rattle.std.proofs.lemmas.Result.{IfErr-weaker, on_err_weaker, on_ok_weaker}
-use Rattle.spa_typed_write.proofs.Completing.{behind_keeps, behind_refused, extended_by, property_written, value_keeps, words_keep, words_refused}
+use Rattle.spa_typed_write.proofs.Completing.{behind_keeps, behind_refused, extended_by, property_written, value_keeps, value_refused, words_keep, words_refused}
 use Rattle.spa_typed_write.proofs.listed.write_property.Goals as goal
 
 pub returns-in-Err-clause-refused : goal.returns-in-Err-clause-refused
@@ -7,6 +7,13 @@ returns-in-Err-clause-refused g c =
     words_refused g.met.O.PodSink.refuses_longer c.args.out.now c.put_two.new.sink c.args.key c.args.flags
     (g.A.PodSerialize.value c.args.value.now) (g.R.SerializeProperties.properties c.args.others.now) c.in-Err.e
     c.in-Err.ensures.cause
+
+pub returns-in-Err-write_exactly-clause-refused : goal.returns-in-Err-write_exactly-clause-refused
+returns-in-Err-write_exactly-clause-refused g c =
+    let words = extended_by g.met.O.PodOutput.content_appends g.met.O.PodSink.refuses_after c.args.out.now c.put_two.new.sink _ c.in_default.ensures.ok in
+    value_refused g.met.O.PodSink.refuses_longer c.args.out.now c.put_two.new.sink c.args.key c.args.flags
+    (g.A.PodSerialize.value c.args.value.now) (g.R.SerializeProperties.properties c.args.others.now) c.in-Err-write_exactly.e words
+    c.in-Err-write_exactly.ensures.refused
 
 pub returns-clause-written : goal.returns-clause-written
 returns-clause-written g c =

@@ -1,7 +1,7 @@
 use Rattle.std.proofs.Common.{length, refl, subst, arith, length-append, ap}
 use Rattle.spa_canonical.specs.Look.{IsRejected}
 use Rattle.spav.proofs.FirstFaults.{fault_stands}
-use Rattle.spa_canonical.proofs.Changed.{accepted_changed, changed_members}
+use Rattle.spa_canonical.proofs.Changed.{changed_members}
 use Rattle.spav.proofs.faults.spav_fault.Goals as goal
 
 pub overflow_add-at : goal.overflow_add-at
@@ -25,4 +25,4 @@ returns-in-Err-default-Fault-clause-fault c = λ _ _.
     fault_stands _ x.left.now _ _ x.behind _ x.why x.ensures.left refl (subst (IsRejected x.left.now) x.field-0-1-is x.ensures.rejected) c.number_of.ensures.said
 
 pub returns-in-Ok-clause-none : goal.returns-in-Ok-clause-none
-returns-in-Ok-clause-none c = λ _ _. changed_members _ _ (accepted_changed _ _ c.in-Ok.ensures.accepted)
+returns-in-Ok-clause-none c = λ _ _. changed_members _ _ c.in-Ok.ensures.accepted.first

@@ -25,6 +25,13 @@ pub trait Files {
     fn write_file(&mut self, name: &str, bytes: &[u8]) -> io::Result<()>;
 }
 
+/// What inputs are read from.
+pub(crate) struct Inputs<'io, R, S> {
+    /// The standard input.
+    pub(crate) input: &'io mut R,
+    pub(crate) files: &'io S,
+}
+
 /// The files of the system, of which nothing is known. A regular file that is opened is read as far as it is long then, so that it ends also where
 /// it is written to meanwhile.
 #[derive(Clone, Copy)]
@@ -95,17 +102,16 @@ pub(crate) fn open_named<'a, S: Files>(
 /// All bytes of the input of this name: what is left of the standard input, or a file's.
 pub(crate) fn read_named<'a, R: Read, S: Files>(
     name: &'a str,
-    input: &mut R,
-    files: &S,
+    inputs: Inputs<'_, R, S>,
 ) -> Result<Vec<u8>, Failure<'a>> {
     if name == "-" {
-        return match read_whole(input) {
+        return match read_whole(inputs.input) {
             Ok(bytes) => Ok(bytes),
             Err(ReadError::OutOfMemory) => Err(Failure::OutOfMemory),
             Err(ReadError::Failed) => Err(Failure::Unread(name, "read failed")),
         };
     }
-    match files.read_file(name) {
+    match inputs.files.read_file(name) {
         Ok(bytes) => Ok(bytes),
         Err(error) if error.kind() == ErrorKind::OutOfMemory => Err(Failure::OutOfMemory),
         Err(error) => Err(Failure::Unread(name, reason_of(error.kind()))),

@@ -4,7 +4,7 @@
 use spa_pod::shims::prelude::*;
 use crate::parts::pod_commands::answer::Failure;
 use crate::parts::pod_commands::colours::{Colours, colours_of, in_colours};
-use crate::parts::pod_commands::files::{Files, read_named};
+use crate::parts::pod_commands::files::{Files, Inputs, read_named};
 use crate::parts::pod_commands::reading::read_leniently;
 use crate::parts::pod_commands::refusing::{
     FormlessPod, first_formless, formless, refusal_of_formless, refused, unmade,
@@ -33,18 +33,18 @@ pub(crate) fn make_all<'a, R: Read, S: Files>(
     making: Making<'_>,
     reading: Reading,
     names: &[&'a str],
-    input: &mut R,
-    files: &S,
+    inputs: Inputs<'_, R, S>,
 ) -> Result<Vec<u8>, Failure<'a>> {
     if let Making::Check = making {
-        return match check_all(reading, names, input, files) {
+        return match check_all(reading, names, inputs) {
             Ok(()) => Ok(Vec::new()),
             Err(why) => Err(why),
         };
     }
+    let Inputs { input, files } = inputs;
     let mut out = Vec::new();
     for name in names {
-        let bytes = read_named(*name, input, files)?;
+        let bytes = read_named(*name, Inputs { input, files })?;
         let made = make_read(making, reading, *name, bytes)?;
         add(&mut out, made)?;
     }
@@ -238,6 +238,14 @@ impl Maker for Making<'_> {
     }
 }
 
+/// What is made of the input of a name, and how that is read.
+#[derive(Clone, Copy)]
+pub(crate) struct Job<'a, 'b> {
+    pub(crate) making: Making<'b>,
+    pub(crate) manner: Manner,
+    pub(crate) name: &'a str,
+}
+
 /// What was made of inputs, and what is said of their refused pods.
 pub(crate) struct Worked<'a> {
     pub(crate) out: Vec<u8>,
@@ -249,34 +257,32 @@ pub(crate) fn make_what_is_read<'a, R: Read, S: Files>(
     making: Making<'_>,
     manner: Manner,
     names: &[&'a str],
-    input: &mut R,
-    files: &S,
+    inputs: Inputs<'_, R, S>,
 ) -> Result<Worked<'a>, Failure<'a>> {
+    let Inputs { input, files } = inputs;
     let mut out = Vec::new();
     let mut refused = Vec::new();
     for name in names {
-        let bytes = read_named(*name, input, files)?;
-        let bytes = bytes.as_slice();
-        let Ok(made) = work_through(making, manner, *name, bytes, &mut refused) else {
-            return Err(unworked(making, manner, *name, bytes));
+        let bytes = read_named(*name, Inputs { input, files })?;
+        let job = Job {
+            making,
+            manner,
+            name: *name,
+        };
+        let Ok(made) = work_through(job, bytes.as_slice(), &mut refused) else {
+            return Err(unworked(job, bytes.as_slice()));
         };
         add(&mut out, made)?;
     }
     Ok(Worked { out, refused })
 }
 
-/// Why nothing is made of the input of this name, whose refused pods are left out or kept: `pw-dump` has no form for a pod that isn't left out for that, or
-/// memory ran out.
-fn unworked<'a>(
-    making: Making<'_>,
-    manner: Manner,
-    name: &'a str,
-    input: &[u8],
-) -> Failure<'a> {
-    if leaves_formless_out(manner.refused, making) {
+/// Why nothing is made of an input whose refused pods are left out or kept: `pw-dump` has no form for a pod that isn't left out for that, or memory ran out.
+fn unworked<'a>(job: Job<'a, '_>, input: &[u8]) -> Failure<'a> {
+    if leaves_formless_out(job.manner.refused, job.making) {
         return Failure::OutOfMemory;
     }
-    unmade(making, manner.reading, name, input)
+    unmade(job.making, job.manner.reading, job.name, input)
 }
 
 /// Whether pods for which `pw-dump` has no form are left out.
@@ -289,21 +295,18 @@ fn leaves_formless_out(refused: Refused, making: Making<'_>) -> bool {
 
 /// The first pod for which `pw-dump` has no form, where such pods are left out.
 fn formless_ahead(
-    making: Making<'_>,
-    manner: Manner,
+    job: Job<'_, '_>,
     left: &[u8],
 ) -> Result<Option<FormlessPod>, AllocError> {
-    if leaves_formless_out(manner.refused, making) {
-        return first_formless(manner.reading, left);
+    if leaves_formless_out(job.manner.refused, job.making) {
+        return first_formless(job.manner.reading, left);
     }
     Ok(None)
 }
 
-/// What is made of the input of this name, whose refused pods are left out or kept. What is said of these is added.
+/// What is made of an input, whose refused pods are left out or kept. What is said of these is added.
 fn work_through<'a>(
-    making: Making<'_>,
-    manner: Manner,
-    name: &'a str,
+    job: Job<'a, '_>,
     input: &[u8],
     said: &mut Vec<NamedRefusal<'a>>,
 ) -> Result<Vec<u8>, AllocError> {
@@ -312,15 +315,15 @@ fn work_through<'a>(
     let mut left = input;
     loop {
         let place = input.len() - left.len();
-        match formless_ahead(making, manner, left)? {
+        match formless_ahead(job, left)? {
             Some(found) => {
                 let (first, pod) = left.split_at(found.at);
-                let made = work_on(making, manner, name, before, place, first, said)?;
+                let made = work_on(job, before, place, first, said)?;
                 add(&mut out, made)?;
                 before += found.before + 1;
                 let refusal = refusal_of_formless(pod, place + found.at, before)?;
                 said.try_push(NamedRefusal {
-                    name,
+                    name: job.name,
                     refusal,
                     left_out: None,
                 })?;
@@ -328,7 +331,7 @@ fn work_through<'a>(
                 left = rest;
             }
             None => {
-                let made = work_on(making, manner, name, before, place, left, said)?;
+                let made = work_on(job, before, place, left, said)?;
                 add(&mut out, made)?;
                 return Ok(out);
             }
@@ -336,11 +339,9 @@ fn work_through<'a>(
     }
 }
 
-/// What is made of a part of the input of this name, which so many pods and bytes of it stand before. What is said of its refused pods is added.
+/// What is made of a part of an input, which so many pods and bytes of it stand before. What is said of its refused pods is added.
 pub(crate) fn work_on<'a>(
-    making: Making<'_>,
-    manner: Manner,
-    name: &'a str,
+    job: Job<'a, '_>,
     count: usize,
     place: usize,
     part: &[u8],
@@ -351,14 +352,14 @@ pub(crate) fn work_on<'a>(
         refused: Vec::new(),
     };
     let start = Progress {
-        name,
+        name: job.name,
         count,
         place,
         overlap: Overlap { more: 0, end: 0 },
     };
-    make_each(&making, manner, start, part, &mut made)?;
+    make_each(&job.making, job.manner, start, part, &mut made)?;
     add_refusals(
-        manner.reading,
+        job.manner.reading,
         place,
         part,
         made.refused.as_slice(),

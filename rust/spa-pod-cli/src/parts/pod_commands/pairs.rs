@@ -3,7 +3,7 @@
 
 use spa_pod::shims::prelude::*;
 use crate::parts::pod_commands::answer::Failure;
-use crate::parts::pod_commands::files::Files;
+use crate::parts::pod_commands::files::{Files, Inputs};
 use crate::parts::pod_commands::reading::read_pods;
 use crate::parts::pod_commands::refusing::either_refused;
 use crate::parts::spa_meet_commands::lists::of_lists;
@@ -13,23 +13,33 @@ use crate::parts::spa_recordings::reading::Reading;
 use crate::parts::spa_text_commands::comparing::{Comparison, differences};
 use std::io::Read;
 
+/// The names of two inputs.
+#[derive(Clone, Copy)]
+pub(crate) struct Two<'a> {
+    pub(crate) ours: &'a str,
+    pub(crate) theirs: &'a str,
+}
+
 /// The lines of text that differ of the pods as which two inputs are read: none where these say the same values.
 pub(crate) fn compare<'a, R: Read, S: Files>(
     comparison: Comparison,
     reading: Reading,
-    ours: &'a str,
-    theirs: &'a str,
-    input: &mut R,
-    files: &S,
+    names: Two<'a>,
+    inputs: Inputs<'_, R, S>,
 ) -> Result<Vec<u8>, Failure<'a>> {
-    let (first, second) = match read_both(reading, ours, theirs, input, files) {
+    let (first, second) = match read_both(reading, names, inputs) {
         Ok(both) => both,
         Err(why) => return Err(why),
     };
     match differences(comparison, first.as_slice(), second.as_slice()) {
         Ok(lines) => Ok(lines),
         // What is read leniently is refused for lack of memory alone.
-        Err(_) => Err(either_refused(ours, theirs, first.as_slice(), second.as_slice())),
+        Err(_) => Err(either_refused(
+            names.ours,
+            names.theirs,
+            first.as_slice(),
+            second.as_slice(),
+        )),
     }
 }
 
@@ -38,10 +48,9 @@ pub(crate) fn agree<'a, R: Read, S: Files>(
     work: Work,
     reading: Reading,
     name: &'a str,
-    input: &mut R,
-    files: &S,
+    inputs: Inputs<'_, R, S>,
 ) -> Result<Vec<u8>, Failure<'a>> {
-    let pods = match read_pods(reading, name, input, files) {
+    let pods = match read_pods(reading, name, inputs) {
         Ok(pods) => pods,
         Err(why) => return Err(why),
     };
@@ -55,36 +64,34 @@ pub(crate) fn agree<'a, R: Read, S: Files>(
 pub(crate) fn agree_of_lists<'a, R: Read, S: Files, P: Progress>(
     work: Work,
     reading: Reading,
-    ours: &'a str,
-    theirs: &'a str,
-    input: &mut R,
-    files: &S,
+    names: Two<'a>,
+    inputs: Inputs<'_, R, S>,
     progress: &mut P,
 ) -> Result<Vec<u8>, Failure<'a>> {
-    let (first, second) = match read_both(reading, ours, theirs, input, files) {
+    let (first, second) = match read_both(reading, names, inputs) {
         Ok(both) => both,
         Err(why) => return Err(why),
     };
     match of_lists(work, first.as_slice(), second.as_slice(), progress) {
         Ok(met) => Ok(met),
-        Err(why) => Err(Failure::Lists(ours, theirs, why)),
+        Err(why) => Err(Failure::Lists(names.ours, names.theirs, why)),
     }
 }
 
 /// The pods as which two inputs are read.
 fn read_both<'a, R: Read, S: Files>(
     reading: Reading,
-    ours: &'a str,
-    theirs: &'a str,
-    input: &mut R,
-    files: &S,
+    names: Two<'a>,
+    inputs: Inputs<'_, R, S>,
 ) -> Result<(Vec<u8>, Vec<u8>), Failure<'a>> {
-    let first = match read_pods(reading, ours, input, files) {
+    let Inputs { input, files } = inputs;
+    let first = match read_pods(reading, names.ours, Inputs { input, files }) {
         Ok(pods) => pods,
         Err(why) => return Err(why),
     };
-    match read_pods(reading, theirs, input, files) {
-        Ok(second) => Ok((first, second)),
-        Err(why) => Err(why),
-    }
+    let second = match read_pods(reading, names.theirs, Inputs { input, files }) {
+        Ok(pods) => pods,
+        Err(why) => return Err(why),
+    };
+    Ok((first, second))
 }

@@ -3,8 +3,8 @@
 
 use spa_pod::shims::prelude::*;
 use crate::parts::pod_commands::answer::Failure;
-use crate::parts::pod_commands::files::{Files, open_named};
-use crate::parts::pod_commands::making::work_on;
+use crate::parts::pod_commands::files::{Files, Inputs, open_named};
+use crate::parts::pod_commands::making::{Job, work_on};
 use crate::parts::pod_commands::request::Making;
 use crate::parts::pod_commands::streaming::failure_of;
 use crate::parts::spa_recordings::going_on::Manner;
@@ -18,13 +18,18 @@ pub(crate) fn pass_all<'a, R: Read, S: Files, W: Write>(
     making: Making<'_>,
     manner: Manner,
     names: &[&'a str],
-    input: &mut R,
-    files: &S,
+    inputs: Inputs<'_, R, S>,
     output: &mut W,
 ) -> Result<Vec<NamedRefusal<'a>>, Failure<'a>> {
+    let Inputs { input, files } = inputs;
     let mut said = Vec::new();
     for name in names {
-        match pass_named(making, manner, *name, input, files, output, said) {
+        let job = Job {
+            making,
+            manner,
+            name: *name,
+        };
+        match pass_named(job, Inputs { input, files }, output, said) {
             Ok(more) => said = more,
             Err(why) => return Err(why),
         }
@@ -32,67 +37,53 @@ pub(crate) fn pass_all<'a, R: Read, S: Files, W: Write>(
     Ok(said)
 }
 
-/// Writes what is made of the input of this name, and answers what is said of the refused pods, its own behind these.
+/// Writes what is made of an input, and answers what is said of the refused pods, its own behind these.
 fn pass_named<'a, R: Read, S: Files, W: Write>(
-    making: Making<'_>,
-    manner: Manner,
-    name: &'a str,
-    input: &mut R,
-    files: &S,
+    job: Job<'a, '_>,
+    inputs: Inputs<'_, R, S>,
     output: &mut W,
     said: Vec<NamedRefusal<'a>>,
 ) -> Result<Vec<NamedRefusal<'a>>, Failure<'a>> {
-    if name == "-" {
-        return pass_reader(making, manner, name, input, output, said);
+    if job.name == "-" {
+        return pass_reader(job, inputs.input, output, said);
     }
-    pass_file(making, manner, name, files, output, said)
+    pass_file(job, inputs.files, output, said)
 }
 
-/// Writes what is made of the file of this name, and answers what is said of the refused pods.
+/// Writes what is made of a file, and answers what is said of the refused pods.
 fn pass_file<'a, S: Files, W: Write>(
-    making: Making<'_>,
-    manner: Manner,
-    name: &'a str,
+    job: Job<'a, '_>,
     files: &S,
     output: &mut W,
     said: Vec<NamedRefusal<'a>>,
 ) -> Result<Vec<NamedRefusal<'a>>, Failure<'a>> {
-    let mut file = match open_named(name, files) {
+    let mut file = match open_named(job.name, files) {
         Ok(file) => file,
         Err(why) => return Err(why),
     };
-    pass_reader(making, manner, name, &mut file, output, said)
+    pass_reader(job, &mut file, output, said)
 }
 
-/// Writes what is made of what the reader of this name gives, and answers what is said of the refused pods.
+/// Writes what is made of what the reader gives, and answers what is said of the refused pods.
 fn pass_reader<'a, R: Read, W: Write>(
-    making: Making<'_>,
-    manner: Manner,
-    name: &'a str,
+    job: Job<'a, '_>,
     input: &mut R,
     output: &mut W,
     said: Vec<NamedRefusal<'a>>,
 ) -> Result<Vec<NamedRefusal<'a>>, Failure<'a>> {
-    let mut worker = Worker {
-        making,
-        manner,
-        name,
-        said,
-    };
+    let mut worker = Worker { job, said };
     match stream_through(&mut worker, input, output) {
         Ok(()) => {
             let Worker { said, .. } = worker;
             Ok(said)
         }
-        Err(why) => Err(failure_of(manner.reading, name, why)),
+        Err(why) => Err(failure_of(job.manner.reading, job.name, why)),
     }
 }
 
-/// What works on the blocks of the input of a name, and what is said of the refused pods so far.
+/// What works on the blocks of an input, and what is said of the refused pods so far.
 pub(crate) struct Worker<'a, 'b> {
-    making: Making<'b>,
-    manner: Manner,
-    name: &'a str,
+    job: Job<'a, 'b>,
     said: Vec<NamedRefusal<'a>>,
 }
 
@@ -104,15 +95,7 @@ impl BlockWorker for Worker<'_, '_> {
         block: &[u8],
         output: &mut W,
     ) -> Result<(), Unworked> {
-        let Ok(out) = work_on(
-            self.making,
-            self.manner,
-            self.name,
-            count,
-            place,
-            block,
-            &mut self.said,
-        ) else {
+        let Ok(out) = work_on(self.job, count, place, block, &mut self.said) else {
             return Err(Unworked::OutOfMemory);
         };
         match write_made(output, out.as_slice()) {

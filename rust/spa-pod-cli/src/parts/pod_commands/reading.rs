@@ -3,7 +3,7 @@
 
 use spa_pod::shims::prelude::*;
 use crate::parts::pod_commands::answer::Failure;
-use crate::parts::pod_commands::files::{Files, read_named};
+use crate::parts::pod_commands::files::{Files, Inputs, read_named};
 use crate::parts::pod_commands::refusing::refused;
 use spa_pod::parts::spa_lenient::rewrite_all_leniently;
 use crate::parts::spa_recordings::reading::Reading;
@@ -13,10 +13,9 @@ use std::io::Read;
 pub(crate) fn read_pods<'a, R: Read, S: Files>(
     reading: Reading,
     name: &'a str,
-    input: &mut R,
-    files: &S,
+    inputs: Inputs<'_, R, S>,
 ) -> Result<Vec<u8>, Failure<'a>> {
-    let bytes = match read_named(name, input, files) {
+    let bytes = match read_named(name, inputs) {
         Ok(bytes) => bytes,
         Err(why) => return Err(why),
     };

@@ -3,10 +3,10 @@
 
 use spa_pod::shims::prelude::*;
 use crate::parts::pod_commands::answer::{Answer, Failure};
-use crate::parts::pod_commands::files::Files;
+use crate::parts::pod_commands::files::{Files, Inputs};
 use crate::parts::pod_commands::making::{Worked, make_all, make_what_is_read};
 use crate::parts::pod_commands::misuse::{Excluded, Misuse};
-use crate::parts::pod_commands::pairs::{agree, agree_of_lists, compare};
+use crate::parts::pod_commands::pairs::{Two, agree, agree_of_lists, compare};
 use crate::parts::pod_commands::passing::pass_all;
 use crate::parts::pod_commands::request::{
     Fate, Making, Manner, Printing, Request, Streaming, Word, file_of, fills_terminal, request_of,
@@ -25,27 +25,49 @@ use crate::parts::spa_text_commands::comparing::Comparison;
 use crate::parts::spa_text_commands::selection::Selection;
 use std::io::{Read, Write};
 
-/// Does what the words ask for, the program's own name not among them.
+/// What the program is started with.
+#[derive(Clone, Copy)]
+pub struct Start<'a> {
+    /// The words, the program's own name not among them.
+    pub words: &'a [&'a str],
+    /// What the standard output is.
+    pub screen: Screen,
+}
+
+/// What a run reads and writes.
+struct Io<'io, R, S, P, W> {
+    files: &'io mut S,
+    input: &'io mut R,
+    progress: &'io mut P,
+    device: W,
+}
+
+/// Does what the words ask for.
 ///
 /// The words are settled before anything is read. But for `--stream`, and without `--lenient` for `show`, and for `json` with `--nth`, `--type`, `--id`, `--key` or
 /// `--hex`, nothing is written before all inputs are read and accepted; a file that is to be written is written at the end, by all words. Where the device is a terminal, `show` and `json`
 /// print in colours, unless `NO_COLOR` or `--color` says other, and no pods are written, unless `-o -` asks for it. A search among two lists tells how
 /// far it is.
 pub fn run<'a, R: Read, S: Files, P: Progress, W: Write>(
-    words: &'a [&'a str],
+    start: Start<'a>,
     input: &mut R,
     files: &mut S,
     progress: &mut P,
     device: W,
-    screen: Screen,
 ) -> (Answer<'a>, W) {
-    match request_of(words, screen) {
+    match request_of(start.words, start.screen) {
         Ok(Ok(request)) => {
-            if fills_terminal(&request, screen) {
+            if fills_terminal(&request, start.screen) {
                 return (Answer::Misused(Misuse::ToTerminal), device);
             }
             let target = file_of(request.target);
-            do_work(request, target, input, files, progress, device)
+            let io = Io {
+                files,
+                input,
+                progress,
+                device,
+            };
+            do_work(request, target, io)
         }
         Ok(Err(why)) => (Answer::Misused(why), device),
         Err(error) => match error.kind() {
@@ -59,60 +81,44 @@ pub fn run<'a, R: Read, S: Files, P: Progress, W: Write>(
 fn do_work<'a, R: Read, S: Files, P: Progress, W: Write>(
     request: Request<'a>,
     target: Option<&'a str>,
-    input: &mut R,
-    files: &mut S,
-    progress: &mut P,
-    device: W,
+    io: Io<'_, R, S, P, W>,
 ) -> (Answer<'a>, W) {
     let word = request.word;
     let names = request.names.as_slice();
     match word {
-        Word::Print(printing, manner) => {
-            print(printing, manner, names, target, input, files, device)
-        }
-        Word::Make(making, manner) => {
-            make(making, manner, names, target, input, files, device)
-        }
-        Word::Stream(streaming, manner) => {
-            stream(
-                streaming, manner, names, target, input, files, device,
-            )
-        }
-        Word::Diff(comparison, reading) => diff(
-            comparison, reading, names, target, input, files, device,
-        ),
-        Word::Agree(work, reading) => {
-            seek(
-                work, reading, names, target, input, files, progress, device,
-            )
-        }
+        Word::Print(printing, manner) => print(printing, manner, names, target, io),
+        Word::Make(making, manner) => make(making, manner, names, target, io),
+        Word::Stream(streaming, manner) => stream(streaming, manner, names, target, io),
+        Word::Diff(comparison, reading) => diff(comparison, reading, names, target, io),
+        Word::Agree(work, reading) => seek(work, reading, names, target, io),
     }
 }
 
 /// Makes this of the inputs of these names.
-fn make<'a, R: Read, S: Files, W: Write>(
+fn make<'a, R: Read, S: Files, P: Progress, W: Write>(
     making: Making<'_>,
     manner: Manner,
     names: &[&'a str],
     target: Option<&'a str>,
-    input: &mut R,
-    files: &mut S,
-    device: W,
+    io: Io<'_, R, S, P, W>,
 ) -> (Answer<'a>, W) {
     match manner.fate {
         Fate::Stops => {
+            let input = io.input;
+            let files = io.files;
             if may_read_twice(making, manner.reading, names, target, files) {
-                return rewrite_twice(names, target, input, files, device);
+                return rewrite_twice(names, Inputs { input, files }, io.device);
             }
-            let made = make_all(making, manner.reading, names, input, files);
-            answered(files, target, device, made, Answer::Done)
+            let inputs = Inputs { input, files };
+            let made = make_all(making, manner.reading, names, inputs);
+            answered(files, target, io.device, made, Answer::Done)
         }
         Fate::GoesOn(refused) => {
             let manner = recordings::Manner {
                 reading: manner.reading,
                 refused,
             };
-            go_on(making, manner, names, target, input, files, device)
+            go_on(making, manner, names, target, io)
         }
     }
 }
@@ -145,29 +151,21 @@ fn are_regular<S: Files>(names: &[&str], files: &S) -> bool {
 /// pass holds more than a block.
 fn rewrite_twice<'a, R: Read, S: Files, W: Write>(
     names: &[&'a str],
-    target: Option<&'a str>,
-    input: &mut R,
-    files: &mut S,
+    inputs: Inputs<'_, R, S>,
     device: W,
 ) -> (Answer<'a>, W) {
-    match check_all(Reading::Exact, names, input, files) {
-        Ok(()) => match emptied(names, files) {
-            Some(name) => {
-                let why = Failure::Unread(name, "emptied while it was read");
-                (Answer::Refused(why), device)
-            }
-            None => write_as(
-                Reading::Exact,
-                Streaming::Rewrite,
-                names,
-                target,
-                input,
-                files,
-                device,
-            ),
-        },
-        Err(why) => (Answer::Refused(why), device),
+    let Inputs { input, files } = inputs;
+    match check_all(Reading::Exact, names, Inputs { input, files }) {
+        Ok(()) => {}
+        Err(why) => return (Answer::Refused(why), device),
     }
+    if let Some(name) = emptied(names, files) {
+        let why = Failure::Unread(name, "emptied while it was read");
+        return (Answer::Refused(why), device);
+    }
+    let inputs = Inputs { input, files };
+    let streaming = Streaming::Rewrite;
+    write_as(Reading::Exact, streaming, names, inputs, device)
 }
 
 /// The first of these names, each of which was a regular file's with bytes, that isn't any more.
@@ -181,24 +179,24 @@ fn emptied<'a, S: Files>(names: &[&'a str], files: &S) -> Option<&'a str> {
 }
 
 /// Works on what is read of the inputs of these names, and answers which pods of them are refused.
-fn go_on<'a, R: Read, S: Files, W: Write>(
+fn go_on<'a, R: Read, S: Files, P: Progress, W: Write>(
     making: Making<'_>,
     manner: recordings::Manner,
     names: &[&'a str],
     target: Option<&'a str>,
-    input: &mut R,
-    files: &mut S,
-    device: W,
+    io: Io<'_, R, S, P, W>,
 ) -> (Answer<'a>, W) {
-    let made = match make_what_is_read(making, manner, names, input, files) {
+    let input = io.input;
+    let files = io.files;
+    let made = match make_what_is_read(making, manner, names, Inputs { input, files }) {
         Ok(made) => made,
-        Err(why) => return (Answer::Refused(why), device),
+        Err(why) => return (Answer::Refused(why), io.device),
     };
     let Worked { out, refused } = made;
     if refused.is_empty() {
-        return answered(files, target, device, Ok(out), Answer::Done);
+        return answered(files, target, io.device, Ok(out), Answer::Done);
     }
-    answered(files, target, device, Ok(out), Answer::Passed(refused))
+    answered(files, target, io.device, Ok(out), Answer::Passed(refused))
 }
 
 /// An option that `--stream` excludes, if one is given.
@@ -223,21 +221,21 @@ fn made_as<'a>(streaming: Streaming<'a>) -> Option<Making<'a>> {
 }
 
 /// Writes this of the inputs of these names as they come, where no option that `--stream` excludes is given.
-fn stream<'a, R: Read, S: Files, W: Write>(
+fn stream<'a, R: Read, S: Files, P: Progress, W: Write>(
     streaming: Streaming<'a>,
     manner: Manner,
     names: &[&'a str],
     target: Option<&'a str>,
-    input: &mut R,
-    files: &mut S,
-    device: W,
+    io: Io<'_, R, S, P, W>,
 ) -> (Answer<'a>, W) {
     if let Some(other) = excluded_in(manner.fate, target) {
-        return (Answer::Misused(Misuse::WithStream(other)), device);
+        return (Answer::Misused(Misuse::WithStream(other)), io.device);
     }
-    stream_by(
-        streaming, manner, names, target, input, files, device,
-    )
+    let input = io.input;
+    let files = io.files;
+    let inputs = Inputs { input, files };
+    let done = stream_by(streaming, manner, names, inputs, io.device);
+    done
 }
 
 /// Writes this of the inputs of these names as they come; no file is written.
@@ -245,30 +243,18 @@ fn stream_by<'a, R: Read, S: Files, W: Write>(
     streaming: Streaming<'a>,
     manner: Manner,
     names: &[&'a str],
-    target: Option<&'a str>,
-    input: &mut R,
-    files: &mut S,
+    inputs: Inputs<'_, R, S>,
     device: W,
 ) -> (Answer<'a>, W) {
     match manner.fate {
-        Fate::Stops => {
-            write_as(
-                manner.reading,
-                streaming,
-                names,
-                target,
-                input,
-                files,
-                device,
-            )
-        }
+        Fate::Stops => write_as(manner.reading, streaming, names, inputs, device),
         Fate::GoesOn(refused) => match made_as(streaming) {
             Some(making) => {
                 let manner = recordings::Manner {
                     reading: manner.reading,
                     refused,
                 };
-                pass(making, manner, names, target, input, files, device)
+                pass(making, manner, names, inputs, device)
             }
             None => (Answer::Misused(Misuse::WithPart(refused)), device),
         },
@@ -280,12 +266,11 @@ fn pass<'a, R: Read, S: Files, W: Write>(
     making: Making<'_>,
     manner: recordings::Manner,
     names: &[&'a str],
-    target: Option<&'a str>,
-    input: &mut R,
-    files: &mut S,
-    mut device: W,
+    inputs: Inputs<'_, R, S>,
+    device: W,
 ) -> (Answer<'a>, W) {
-    match pass_all(making, manner, names, input, files, &mut device) {
+    let mut device = device;
+    match pass_all(making, manner, names, inputs, &mut device) {
         Ok(said) => {
             if said.is_empty() {
                 return (Answer::Done, device);
@@ -301,12 +286,11 @@ fn write_as<'a, R: Read, S: Files, W: Write>(
     reading: Reading,
     streaming: Streaming<'a>,
     names: &[&'a str],
-    target: Option<&'a str>,
-    input: &mut R,
-    files: &mut S,
-    mut device: W,
+    inputs: Inputs<'_, R, S>,
+    device: W,
 ) -> (Answer<'a>, W) {
-    match stream_all(reading, streaming, names, input, files, &mut device) {
+    let mut device = device;
+    match stream_all(reading, streaming, names, inputs, &mut device) {
         Ok(made) => (shown(made, looked_for(streaming)), device),
         Err(why) => (Answer::Refused(why), device),
     }
@@ -346,143 +330,126 @@ fn shown<'a>(made: Made, sought: Option<Selection<'a>>) -> Answer<'a> {
 }
 
 /// Prints this of the inputs of these names, where no refused pod is to be left out.
-fn print<'a, R: Read, S: Files, W: Write>(
+fn print<'a, R: Read, S: Files, P: Progress, W: Write>(
     printing: Printing<'a>,
     manner: Manner,
     names: &[&'a str],
     target: Option<&'a str>,
-    input: &mut R,
-    files: &mut S,
-    device: W,
+    io: Io<'_, R, S, P, W>,
 ) -> (Answer<'a>, W) {
     match manner.fate {
-        Fate::Stops => {
-            print_read(
-                printing,
-                manner.reading,
-                names,
-                target,
-                input,
-                files,
-                device,
-            )
-        }
-        Fate::GoesOn(refused) => (Answer::Misused(Misuse::WithPart(refused)), device),
+        Fate::Stops => print_read(printing, manner.reading, names, target, io),
+        Fate::GoesOn(refused) => (Answer::Misused(Misuse::WithPart(refused)), io.device),
     }
 }
 
 /// Prints this of the inputs of these names, which are read so.
-fn print_read<'a, R: Read, S: Files, W: Write>(
+fn print_read<'a, R: Read, S: Files, P: Progress, W: Write>(
     printing: Printing<'a>,
     reading: Reading,
     names: &[&'a str],
     target: Option<&'a str>,
-    input: &mut R,
-    files: &mut S,
-    device: W,
+    io: Io<'_, R, S, P, W>,
 ) -> (Answer<'a>, W) {
     match reading {
-        Reading::Exact => print_inputs(printing, names, target, input, files, device),
-        Reading::Lenient => print_leniently(printing, names, target, input, files, device),
+        Reading::Exact => print_inputs(printing, names, target, io),
+        Reading::Lenient => print_leniently(printing, names, target, io),
     }
 }
 
 /// Prints this of the values that the inputs of these names convey, once all are read.
-fn print_leniently<'a, R: Read, S: Files, W: Write>(
+fn print_leniently<'a, R: Read, S: Files, P: Progress, W: Write>(
     printing: Printing<'a>,
     names: &[&'a str],
     target: Option<&'a str>,
-    input: &mut R,
-    files: &mut S,
-    device: W,
+    io: Io<'_, R, S, P, W>,
 ) -> (Answer<'a>, W) {
-    match make_all(
-        Making::Print(printing),
-        Reading::Lenient,
-        names,
-        input,
-        files,
-    ) {
-        Ok(made) => {
-            let sought = sought_in(printing.printout.selection);
-            let done = shown(Made::of(0, made.as_slice()), sought);
-            answered(files, target, device, Ok(made), done)
-        }
-        Err(why) => (Answer::Refused(why), device),
-    }
+    let input = io.input;
+    let files = io.files;
+    let inputs = Inputs { input, files };
+    let making = Making::Print(printing);
+    let made = match make_all(making, Reading::Lenient, names, inputs) {
+        Ok(made) => made,
+        Err(why) => return (Answer::Refused(why), io.device),
+    };
+    let sought = sought_in(printing.printout.selection);
+    let done = shown(Made::of(0, made.as_slice()), sought);
+    answered(files, target, io.device, Ok(made), done)
 }
 
 /// Prints this of the inputs of these names: as they come, or where a file is written, all of it at the end.
-fn print_inputs<'a, R: Read, S: Files, W: Write>(
+fn print_inputs<'a, R: Read, S: Files, P: Progress, W: Write>(
     printing: Printing<'a>,
     names: &[&'a str],
     target: Option<&'a str>,
-    input: &mut R,
-    files: &mut S,
-    device: W,
+    io: Io<'_, R, S, P, W>,
 ) -> (Answer<'a>, W) {
     match target {
-        None => write_as(
-            Reading::Exact,
-            Streaming::Print(printing),
-            names,
-            None,
-            input,
-            files,
-            device,
-        ),
-        Some(_) => print_to_file(printing, names, target, input, files, device),
+        None => {
+            let input = io.input;
+            let files = io.files;
+            let inputs = Inputs { input, files };
+            let streaming = Streaming::Print(printing);
+            let done = write_as(Reading::Exact, streaming, names, inputs, io.device);
+            done
+        }
+        Some(_) => print_to_file(printing, names, target, io),
     }
 }
 
 /// Prints this of the inputs of these names in the file that is written.
-fn print_to_file<'a, R: Read, S: Files, W: Write>(
+fn print_to_file<'a, R: Read, S: Files, P: Progress, W: Write>(
     printing: Printing<'a>,
     names: &[&'a str],
     target: Option<&'a str>,
-    input: &mut R,
-    files: &mut S,
-    device: W,
+    io: Io<'_, R, S, P, W>,
 ) -> (Answer<'a>, W) {
+    let input = io.input;
+    let files = io.files;
+    let inputs = Inputs { input, files };
+    let streaming = Streaming::Print(printing);
     let mut printed = Vec::new();
     match stream_all(
         Reading::Exact,
-        Streaming::Print(printing),
+        streaming,
         names,
-        input,
-        files,
+        inputs,
         &mut printed,
     ) {
         Ok(made) => {
-            let done = shown(made, looked_for(Streaming::Print(printing)));
-            answered(files, target, device, Ok(printed), done)
+            let done = shown(made, looked_for(streaming));
+            answered(files, target, io.device, Ok(printed), done)
         }
-        Err(Failure::Unwritten(_)) => (Answer::Refused(Failure::OutOfMemory), device),
-        Err(why) => (Answer::Refused(why), device),
+        Err(Failure::Unwritten(_)) => (Answer::Refused(Failure::OutOfMemory), io.device),
+        Err(why) => (Answer::Refused(why), io.device),
     }
 }
 
 /// Compares the two inputs of these names, which are read so, as this.
-fn diff<'a, R: Read, S: Files, W: Write>(
+fn diff<'a, R: Read, S: Files, P: Progress, W: Write>(
     comparison: Comparison,
     reading: Reading,
     names: &[&'a str],
     target: Option<&'a str>,
-    input: &mut R,
-    files: &mut S,
-    device: W,
+    io: Io<'_, R, S, P, W>,
 ) -> (Answer<'a>, W) {
     let [ours, theirs] = names else {
-        return (Answer::Misused(misuse_of(names)), device);
+        return (Answer::Misused(misuse_of(names)), io.device);
     };
-    let lines = match compare(comparison, reading, *ours, *theirs, input, files) {
+    let input = io.input;
+    let files = io.files;
+    let both = Two {
+        ours: *ours,
+        theirs: *theirs,
+    };
+    let lines = match compare(comparison, reading, both, Inputs { input, files }) {
         Ok(lines) => lines,
-        Err(why) => return (Answer::Refused(why), device),
+        Err(why) => return (Answer::Refused(why), io.device),
     };
     if lines.is_empty() {
-        return answered(files, target, device, Ok(lines), Answer::Done);
+        return answered(files, target, io.device, Ok(lines), Answer::Done);
     }
-    answered(files, target, device, Ok(lines), Answer::Differs)
+    answered(files, target, io.device, Ok(lines), Answer::Differs)
 }
 
 /// Seeks the object on which two of the inputs of these names, which are read so, agree.
@@ -491,21 +458,27 @@ fn seek<'a, R: Read, S: Files, P: Progress, W: Write>(
     reading: Reading,
     names: &[&'a str],
     target: Option<&'a str>,
-    input: &mut R,
-    files: &mut S,
-    progress: &mut P,
-    device: W,
+    io: Io<'_, R, S, P, W>,
 ) -> (Answer<'a>, W) {
     match names {
         [name] => {
-            let made = agree(work, reading, *name, input, files);
-            answered(files, target, device, made, Answer::Done)
+            let input = io.input;
+            let files = io.files;
+            let made = agree(work, reading, *name, Inputs { input, files });
+            answered(files, target, io.device, made, Answer::Done)
         }
         [ours, theirs] => {
-            let made = agree_of_lists(work, reading, *ours, *theirs, input, files, progress);
-            answered(files, target, device, made, Answer::Done)
+            let both = Two {
+                ours: *ours,
+                theirs: *theirs,
+            };
+            let input = io.input;
+            let files = io.files;
+            let inputs = Inputs { input, files };
+            let made = agree_of_lists(work, reading, both, inputs, io.progress);
+            answered(files, target, io.device, made, Answer::Done)
         }
-        _ => (Answer::Misused(misuse_of(names)), device),
+        _ => (Answer::Misused(misuse_of(names)), io.device),
     }
 }
 

@@ -55,6 +55,7 @@ fn innermost<'b>(pod: &'b [u8]) -> Result<(String, Unread<'b>), AllocError> {
 /// The fault of a refused pod, and its offset there.
 fn fault_of(pod: &[u8]) -> Result<(Fault<'_>, usize), AllocError> {
     match find_fault(pod) {
+        // A refused pod without a fault is an empty input: the front isn't there.
         Ok(()) => {
             let none = Fault {
                 place: pod,

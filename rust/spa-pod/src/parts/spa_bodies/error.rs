@@ -5,7 +5,7 @@ use crate::parts::spa_fixed_sized::{DeserializeError, Fault, FaultKind, Refusal}
 
 /// The public refusal for an inner one at this place. Only `Short` and `Text` keep the place.
 #[must_use]
-pub fn error_at(place: &[u8], why: Refusal) -> DeserializeError<&[u8]> {
+pub fn error_at<I: Copy>(place: I, why: Refusal) -> DeserializeError<I> {
     match why {
         Refusal::Short => DeserializeError::Nom(Fault {
             input: place,

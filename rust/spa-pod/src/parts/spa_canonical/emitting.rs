@@ -2,8 +2,8 @@
 //! Pods are replaced by their encodings where they are. It takes no memory and calls itself nowhere: the header of a container whose encoding is begun
 //! holds, until that is complete, where the container around it begins, and how much of that is left.
 
-use crate::parts::spa_canonical::array::WORD_LEN;
-use crate::parts::spa_canonical::patch::{SECOND_HEADER, begins_word, clear_padding, encode_leaf};
+use crate::parts::spa_canonical::body::WORD_LEN;
+use crate::parts::spa_canonical::patch::{SECOND_HEADER, begins_word, clear_behind, encode_leaf};
 use crate::parts::spa_bytes::{HEADER_LEN, open, two_words, u32_at};
 use crate::parts::spa_events::{key_len, keyed_inside};
 use crate::parts::spa_utils::SpaTypes;
@@ -17,6 +17,8 @@ struct OpenList {
     end: usize,
     /// Where the header of the container that it is in ends, in the encodings.
     body: usize,
+    /// How many containers are begun around it.
+    depth: usize,
 }
 
 /// What follows pods that are replaced by their encodings.
@@ -57,8 +59,9 @@ fn emit(bytes: &mut [u8]) -> usize {
         keyed: false,
         end: bytes.len(),
         body: 0,
+        depth: 0,
     };
-    let (mut depth, mut from, mut to) = (0, 0, 0);
+    let (mut from, mut to) = (0, 0);
     loop {
         let run = encode_leaves(list.keyed, &mut bytes[from..list.end]);
         move_down(from, run.kept, to, bytes);
@@ -67,19 +70,17 @@ fn emit(bytes: &mut [u8]) -> usize {
         match run.after {
             After::More => {}
             After::Inner(inner, size) => {
-                let inside = begin(depth, list, inner, size, from, to, bytes);
+                let inside = begin(list, inner, size, from, to, bytes);
                 let head = inside.body + key_len(inner) - to;
                 from += head;
                 to += head;
-                depth += 1;
                 list = inside;
             }
             After::End => {
-                if depth == 0 {
+                if list.depth == 0 {
                     return to;
                 }
-                depth -= 1;
-                let around = list_around(depth, list, bytes);
+                let around = list_around(list, bytes);
                 put_words(
                     (to - list.body) as u32,
                     inner_type(list.keyed),
@@ -108,7 +109,7 @@ fn encode_leaves(keyed: bool, pods: &mut [u8]) -> Run {
         let here = at + key_len(keyed);
         if begins_word(&pods[here..]) {
             at = here + SECOND_HEADER;
-            clear_padding(WORD_LEN, &mut pods[here..at]);
+            clear_behind(HEADER_LEN + WORD_LEN, &mut pods[here..at]);
             continue;
         }
         let Some(front) = open(&pods[here..]) else {
@@ -151,7 +152,6 @@ fn move_down(from: usize, len: usize, to: usize, bytes: &mut [u8]) {
 /// around it.
 #[cfg_attr(not(debug_assertions), inline(always))]
 fn begin(
-    depth: usize,
     list: OpenList,
     inner: bool,
     size: usize,
@@ -163,34 +163,37 @@ fn begin(
     move_down(from, head + key_len(inner), to, bytes);
     let body = to + head;
     let end = from + head + size;
-    let (back, behind) = link_of(depth, list, body, end);
+    let (back, behind) = link_of(list, body, end);
     put_words(back, behind, body, bytes);
     OpenList {
         keyed: inner,
         end,
         body,
+        depth: list.depth + 1,
     }
 }
 
 /// The link from a container to the list around it: how far before its body the body of the container around it begins, and how many bytes of that list
 /// are left behind it, with 1 more where that list is keyed. The outermost list has no such container.
 #[cfg_attr(not(debug_assertions), inline(always))]
-fn link_of(depth: usize, list: OpenList, body: usize, end: usize) -> (u32, u32) {
-    if depth == 0 {
+fn link_of(list: OpenList, body: usize, end: usize) -> (u32, u32) {
+    if list.depth == 0 {
         return (0, 0);
     }
-    let keyed = if list.keyed { 1 } else { 0 };
-    ((body - list.body) as u32, (list.end - end) as u32 + keyed)
+    let behind = list.end - end + key_len(list.keyed) / HEADER_LEN;
+    ((body - list.body) as u32, behind as u32)
 }
 
 /// The list around a container, by the link in its header.
 #[cfg_attr(not(debug_assertions), inline(always))]
-fn list_around(depth: usize, list: OpenList, bytes: &[u8]) -> OpenList {
+fn list_around(list: OpenList, bytes: &[u8]) -> OpenList {
+    let depth = list.depth - 1;
     if depth == 0 {
         return OpenList {
             keyed: false,
             end: bytes.len(),
             body: 0,
+            depth,
         };
     }
     let back = u32_at(bytes, list.body - HEADER_LEN) as usize;
@@ -199,6 +202,7 @@ fn list_around(depth: usize, list: OpenList, bytes: &[u8]) -> OpenList {
         keyed: behind % HEADER_LEN == 1,
         end: list.end + behind / HEADER_LEN * HEADER_LEN,
         body: list.body - back,
+        depth,
     }
 }
 

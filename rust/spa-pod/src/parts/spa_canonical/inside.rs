@@ -2,7 +2,6 @@
 //! Looks at the pods inside a struct or an object. What is left of the structs and objects around a pod waits in an array, or in memory.
 
 use crate::parts::spa_canonical::leaf::{long_leaf, short_leaf};
-use crate::parts::spa_canonical::scan::LEVELS;
 use crate::parts::spa_bytes::{HEADER_LEN, SECOND_WORD, open, u32_at};
 use crate::parts::spa_events::{Inside, behind_key, inside_of, is_container, key_len};
 
@@ -37,17 +36,14 @@ pub struct Waiting<'a> {
     pods: &'a [u8],
 }
 
+/// How many structs and objects may stand in one another in a pod that is looked into without memory.
+pub const LEVELS: u32 = 1000;
+
 /// How many lists can wait in the short array.
-const FEW: usize = 8;
+pub(crate) const FEW: usize = 8;
 
 /// How many can wait in the next one, which is taken where the short one is full.
 const SOME: usize = 64;
-
-/// The short array, in which no list waits yet.
-#[cfg_attr(not(debug_assertions), inline(always))]
-pub(crate) fn few_frames(pods: &[u8]) -> [Waiting<'_>; FEW] {
-    [none_waiting(pods); FEW]
-}
 
 /// An entry of an array in which no list waits.
 #[cfg_attr(not(debug_assertions), inline(always))]
@@ -72,6 +68,19 @@ pub(crate) fn look_into<'a>(
     if left.is_empty() {
         return Found::Fits(surplus);
     }
+    look_behind(canonical, keyed, pods, left, surplus, frames)
+}
+
+/// Looks at what follows the first pods, which hold no others: a struct or an object, or a pod that isn't accepted, or canonical.
+#[cfg_attr(not(debug_assertions), inline(always))]
+fn look_behind<'a>(
+    canonical: bool,
+    keyed: bool,
+    pods: &'a [u8],
+    left: &'a [u8],
+    surplus: usize,
+    frames: &mut [Waiting<'a>],
+) -> Found<'a> {
     if let Met::None(place) = meet(keyed, left) {
         return Found::Stops(place, 0);
     }
@@ -169,34 +178,38 @@ fn meet(keyed: bool, left: &[u8]) -> Met<'_> {
 }
 
 /// What follows the first pods that hold no others and are canonical, where that is asked, or accepted, and by how many bytes their encodings are
-/// shorter. Each of four loops is made for its case.
+/// shorter. Canonical properties need no call.
 #[cfg_attr(not(debug_assertions), inline(always))]
 fn behind_leaves(canonical: bool, keyed: bool, pods: &[u8]) -> (&[u8], usize) {
     if !canonical {
-        return behind_accepted(keyed, pods);
+        return behind_others(keyed, pods);
     }
-    if keyed {
-        return behind_each(true, true, pods);
+    if !keyed {
+        return (behind_members(pods), 0);
     }
-    behind_each(true, false, pods)
+    (behind_each(true, true, pods).0, 0)
 }
 
-/// Whether a struct or an object is first.
-#[cfg_attr(not(debug_assertions), inline(always))]
-fn is_inside_first(keyed: bool, pods: &[u8]) -> bool {
-    if pods.len() < 2 * HEADER_LEN {
-        return false;
-    }
-    is_container(u32_at(pods, key_len(keyed) + SECOND_WORD))
+/// Does what `behind_leaves` does of canonical members.
+#[inline(never)]
+fn behind_members(pods: &[u8]) -> &[u8] {
+    behind_each(true, false, pods).0
 }
 
 /// Does what `behind_leaves` does, where a struct or an object is met most often.
 #[cfg_attr(not(debug_assertions), inline(always))]
 fn behind_first(canonical: bool, keyed: bool, pods: &[u8]) -> (&[u8], usize) {
-    if is_inside_first(keyed, pods) {
+    if pods.len() >= 2 * HEADER_LEN && is_container(u32_at(pods, key_len(keyed) + SECOND_WORD)) {
         return (pods, 0);
     }
     behind_leaves(canonical, keyed, pods)
+}
+
+/// Does what `behind_leaves` does of accepted pods. What `behind_accepted` returns needs room in memory, which is taken here, and in no caller.
+#[cfg_attr(not(debug_assertions), inline(always))]
+fn behind_others(keyed: bool, pods: &[u8]) -> (&[u8], usize) {
+    let (left, surplus) = behind_accepted(keyed, pods);
+    (left, surplus)
 }
 
 /// Does what `behind_leaves` does of accepted pods.
@@ -213,23 +226,21 @@ fn behind_accepted(keyed: bool, pods: &[u8]) -> (&[u8], usize) {
 fn behind_each(canonical: bool, keyed: bool, pods: &[u8]) -> (&[u8], usize) {
     let mut left = behind_short(canonical, keyed, pods);
     let mut surplus = 0;
-    loop {
-        let Some(here) = behind_key(keyed, left) else {
-            return (left, surplus);
-        };
-        let Some((rest, more)) = long_leaf(canonical, here) else {
-            return (left, surplus);
-        };
+    while let Some((rest, more)) = behind_one(canonical, keyed, left) {
         surplus += more;
         left = behind_short(canonical, keyed, rest);
     }
+    (left, surplus)
 }
 
-/// What follows the first pods of fixed size that are canonical, or accepted.
+/// What follows the first pods whose bodies are one or two words.
 #[cfg_attr(not(debug_assertions), inline(always))]
 fn behind_short(canonical: bool, keyed: bool, pods: &[u8]) -> &[u8] {
-    let mut left = pods;
-    while let Some(rest) = behind_one(canonical, keyed, left) {
+    let Some(first) = behind_short_one(canonical, keyed, pods) else {
+        return pods;
+    };
+    let mut left = first;
+    while let Some(rest) = behind_short_one(canonical, keyed, left) {
         left = rest;
     }
     left
@@ -238,14 +249,29 @@ fn behind_short(canonical: bool, keyed: bool, pods: &[u8]) -> &[u8] {
 /// The length in bytes of a key, flags and a pod whose body is one or two words.
 const KEYED_LEN: usize = 24;
 
-/// What follows the first pod, where it is of fixed size, and canonical, or accepted.
+/// What follows the first pod, where its body is one or two words.
 #[cfg_attr(not(debug_assertions), inline(always))]
-fn behind_one(canonical: bool, keyed: bool, pods: &[u8]) -> Option<&[u8]> {
+fn behind_short_one(canonical: bool, keyed: bool, pods: &[u8]) -> Option<&[u8]> {
     if keyed && pods.len() < KEYED_LEN {
         return None;
     }
-    let Some(here) = behind_key(keyed, pods) else {
-        return None;
-    };
+    let here = behind_key(keyed, pods)?;
     short_leaf(canonical, here)
+}
+
+/// What follows the first pod, which holds no others, where it is canonical, if that is asked, or accepted, and by how many bytes its encoding is shorter.
+#[cfg_attr(not(debug_assertions), inline(always))]
+fn behind_one(canonical: bool, keyed: bool, pods: &[u8]) -> Option<(&[u8], usize)> {
+    if keyed && pods.len() < 2 * HEADER_LEN {
+        return None;
+    }
+    let here = behind_key(keyed, pods)?;
+    long_leaf(canonical, here)
+}
+
+/// Whether properties are canonical, and none holds a struct or an object.
+#[cfg_attr(not(debug_assertions), inline(always))]
+#[must_use]
+pub(crate) fn are_flat_properties(properties: &[u8]) -> bool {
+    behind_each(true, true, properties).0.is_empty()
 }

@@ -2,9 +2,8 @@
 //! Looks at pods: whether they are accepted, whether they are canonical, and how long their encodings are. They write nothing and call themselves
 //! nowhere, and take no memory.
 
-use crate::parts::spa_canonical::fault::fault;
-use crate::parts::spa_canonical::inside::{Found, Waiting, few_frames, look_inside, look_into, none_waiting};
-use crate::parts::spa_canonical::leaf::leaf;
+use crate::parts::spa_canonical::inside::{FEW, Found, Waiting, look_inside, look_into, none_waiting};
+use crate::parts::spa_canonical::leaf::{fault, leaf};
 use crate::parts::spa_bytes::{HEADER_LEN, open};
 use crate::parts::spa_events::inside_of;
 use crate::parts::spa_fixed_sized::Refusal;
@@ -54,7 +53,7 @@ enum FrontLook<'a> {
 ///
 /// It takes no memory. Any pod is accepted in which at most 1000 structs and objects stand in one another.
 pub fn look_at_pod(input: &[u8]) -> Result<AcceptedPod<'_>, Rejected<'_>> {
-    let mut frames = few_frames(input);
+    let mut frames = [none_waiting(input); FEW];
     match look_at_front(true, input, &mut frames) {
         FrontLook::Fits(rest, surplus) => Ok(AcceptedPod {
             rest,
@@ -77,7 +76,7 @@ pub fn look_at_pod(input: &[u8]) -> Result<AcceptedPod<'_>, Rejected<'_>> {
 ///
 /// It takes no memory, and accepts pods as `look_at_pod` does. Of the first pod it isn't asked whether it is canonical.
 pub fn look_at_pods(pods: &[u8]) -> Result<AcceptedPods, (&[u8], Rejected<'_>)> {
-    let mut frames = few_frames(pods);
+    let mut frames = [none_waiting(pods); FEW];
     let mut left = pods;
     let (mut changed, mut surplus) = (0, 0);
     while !left.is_empty() {
@@ -100,14 +99,14 @@ pub fn look_at_pods(pods: &[u8]) -> Result<AcceptedPods, (&[u8], Rejected<'_>)> 
 /// canonical.
 #[must_use]
 pub fn canonical_front(input: &[u8]) -> Option<&[u8]> {
-    next_canonical(input, &mut few_frames(input))
+    next_canonical(input, &mut [none_waiting(input); FEW])
 }
 
 /// The first pods, as many as `canonical_front` finds to be canonical, and what follows them.
 #[inline(never)]
 #[must_use]
 pub fn canonical_stretch(input: &[u8]) -> (&[u8], &[u8]) {
-    let left = behind_canonical_pods(input, &mut few_frames(input));
+    let left = behind_canonical_pods(input, &mut [none_waiting(input); FEW]);
     input.split_at(input.len() - left.len())
 }
 
@@ -168,7 +167,7 @@ fn look_at_front<'a>(canonical: bool, input: &'a [u8], frames: &mut [Waiting<'a>
 
 /// What follows the pod at the front, which is accepted, and by how many bytes its encoding is shorter.
 pub(crate) fn accept_pod(input: &[u8]) -> Result<(&[u8], usize), Rejected<'_>> {
-    accept_front(input, &mut few_frames(input))
+    accept_front(input, &mut [none_waiting(input); FEW])
 }
 
 /// Does what `accept_pod` does for a pod that nests too deep for that, with this array for what is left of the structs and objects around a pod.

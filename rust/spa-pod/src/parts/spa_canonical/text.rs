@@ -7,7 +7,6 @@ use core::str;
 
 /// Whether the body of a string is a text without NUL, and one NUL behind it.
 #[cfg_attr(not(debug_assertions), inline(always))]
-#[must_use]
 pub(crate) fn is_text(body: &[u8]) -> bool {
     let Some((last, text)) = body.split_last() else {
         return false;
@@ -25,10 +24,69 @@ pub(crate) fn is_padded_text(body: &[u8], behind: &[u8]) -> bool {
     ends_in_zeros(behind, text.len()) && are_characters(text)
 }
 
-/// Whether bytes are UTF-8 without NUL. ASCII is found by pieces of eight bytes, anything else by std's two walks.
+/// Whether bytes are UTF-8 without NUL. ASCII needs no call.
 #[cfg_attr(not(debug_assertions), inline(always))]
 fn are_characters(text: &[u8]) -> bool {
-    is_ascii_text(text) || !text.has_nul() && core::str::from_utf8(text).is_ok()
+    is_ascii_text(text) || holds_characters(text)
+}
+
+/// Does what `are_characters` does, for characters of any length.
+#[inline(never)]
+fn holds_characters(text: &[u8]) -> bool {
+    let mut left = behind_ascii(text);
+    while let Some((first, behind)) = left.split_first() {
+        if is_ascii(*first) {
+            left = behind;
+            continue;
+        }
+        let len = character_len(left);
+        if len == 0 {
+            return is_text_content(left);
+        }
+        let (_, rest) = left.split_at(len);
+        left = behind_ascii(rest);
+    }
+    true
+}
+
+/// What follows the first pieces that are ASCII, and half a piece at the end.
+#[cfg_attr(not(debug_assertions), inline(always))]
+fn behind_ascii(text: &[u8]) -> &[u8] {
+    if text.is_empty() || !is_ascii(text[0]) {
+        return text;
+    }
+    let mut left = text;
+    while left.len() >= PIECE {
+        if !are_ascii(left) {
+            return left;
+        }
+        let (_, rest) = left.split_at(PIECE);
+        left = rest;
+    }
+    if left.len() < HALF_PIECE || !are_four_ascii(left) {
+        return left;
+    }
+    let (_, rest) = left.split_at(HALF_PIECE);
+    rest
+}
+
+/// Whether bytes are UTF-8 without NUL, by two walks over them.
+fn is_text_content(text: &[u8]) -> bool {
+    !text.has_nul() && core::str::from_utf8(text).is_ok()
+}
+
+/// How many bytes the first character takes, where it takes two, or three of which the first one doesn't limit the second: in UTF-8 it is 194 to 223,
+/// or 225 to 236. 0: another character, or none, is first.
+#[cfg_attr(not(debug_assertions), inline(always))]
+fn character_len(text: &[u8]) -> usize {
+    if text.len() < 2 || !is_following(text[1]) {
+        return 0;
+    }
+    match text[0] {
+        194..=223 => 2,
+        225..=236 if text.len() > 2 && is_following(text[2]) => 3,
+        _ => 0,
+    }
 }
 
 /// The length in bytes of the pieces that are looked at at once.
@@ -105,4 +163,10 @@ const LAST_ASCII: u8 = 127;
 #[cfg_attr(not(debug_assertions), inline(always))]
 fn is_ascii(byte: u8) -> bool {
     byte.wrapping_sub(1) < LAST_ASCII
+}
+
+/// Whether a byte is one that follows the first byte of a character in UTF-8.
+#[cfg_attr(not(debug_assertions), inline(always))]
+fn is_following(byte: u8) -> bool {
+    matches!(byte, 128..=191)
 }

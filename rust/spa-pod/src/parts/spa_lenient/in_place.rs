@@ -3,7 +3,8 @@
 
 use crate::shims::prelude::*;
 use crate::parts::spa_lenient::rewriting::{append_all, rewrite_all_leniently};
-use crate::parts::spa_fixed_sized::{DeserializeError, Fault, FaultKind, Refusal};
+use crate::parts::spa_bodies::error_at;
+use crate::parts::spa_fixed_sized::{DeserializeError, Refusal};
 use crate::parts::spa_rewrite::{rewrite_in_place, rewrite_into};
 
 /// Rewrites all pods that the bytes consist of leniently in place, and answers the length of the outcome in bytes: never more than there were. What
@@ -62,19 +63,5 @@ fn put_first(bytes: &[u8], out: &mut [u8]) {
 
 /// The public refusal without a place.
 fn cause_of(why: Refusal) -> DeserializeError<()> {
-    match why {
-        Refusal::Short => DeserializeError::Nom(Fault {
-            input: (),
-            kind: FaultKind::Short,
-        }),
-        Refusal::Text => DeserializeError::Nom(Fault {
-            input: (),
-            kind: FaultKind::Text,
-        }),
-        Refusal::InvalidType => DeserializeError::InvalidType,
-        Refusal::InvalidChoiceType => DeserializeError::InvalidChoiceType,
-        Refusal::MissingChoiceValues => DeserializeError::MissingChoiceValues,
-        Refusal::WrongSize => DeserializeError::WrongSize,
-        Refusal::OutOfMemory => DeserializeError::OutOfMemory,
-    }
+    error_at((), why)
 }

@@ -4,7 +4,7 @@
 use crate::shims::prelude::*;
 use crate::parts::spa_object_view::object_view::ObjectView;
 use crate::parts::spa_bytes::{Front, HEADER_LEN, SECOND_WORD, open, u32_at};
-use crate::parts::spa_canonical::{Rejected, canonical_front, leaf_properties, look_at_pod};
+use crate::parts::spa_canonical::{Rejected, are_flat_properties, canonical_front, look_at_pod};
 use crate::parts::spa_fixed_sized::DeserializeError;
 use crate::parts::spa_rewrite::rewrite;
 use crate::parts::spa_utils::SpaTypes;
@@ -64,18 +64,11 @@ pub fn object_pod(input: &[u8]) -> Result<ObjectPod<'_>, NoObject> {
 #[cfg_attr(not(debug_assertions), inline(always))]
 fn canonical_object<'a>(input: &[u8], front: Front<'a>) -> Option<ObjectView<'a>> {
     let object = object_of(front.body)?;
-    if has_leaves_alone(object.properties) {
+    if are_flat_properties(object.properties) {
         return Some(object);
     }
     let _rest = canonical_front(input)?;
     Some(object)
-}
-
-/// Whether properties are canonical, and none holds a struct or an object.
-#[cfg_attr(not(debug_assertions), inline(always))]
-fn has_leaves_alone(properties: &[u8]) -> bool {
-    let (_, rest) = leaf_properties(properties);
-    rest.is_empty()
 }
 
 /// The rewriting of a front of a type whose values take memory.

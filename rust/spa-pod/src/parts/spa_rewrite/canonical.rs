@@ -13,10 +13,8 @@ use crate::shims::memory::AllocError;
 pub fn is_canonical(input: &[u8]) -> Result<bool, AllocError> {
     match look_at_pod(input) {
         Ok(pod) => Ok(pod.canonical),
-        Err(rejected) => match rejected {
-            Rejected::Fault(_, _, _) => Ok(false),
-            Rejected::TooDeep => is_deep_canonical(input),
-        },
+        Err(Rejected::Fault(_, _, _)) => Ok(false),
+        Err(Rejected::TooDeep) => is_deep_canonical(input),
     }
 }
 

@@ -15,13 +15,11 @@ pub(crate) fn changed_pods(input: &[u8]) -> Result<usize, (&[u8], Rejected<'_>)>
     loop {
         match look_at_pods(left) {
             Ok(all) => return Ok(input.len() - left.len() + all.changed),
-            Err((pod, rejected)) => match rejected {
-                Rejected::Fault(_, _, _) => return Err((pod, rejected)),
-                Rejected::TooDeep => match accept_deep(pod) {
-                    Ok((rest, _)) => left = rest,
-                    Err(rejected) => return Err((pod, rejected)),
-                },
+            Err((pod, Rejected::TooDeep)) => match accept_deep(pod) {
+                Ok((rest, _)) => left = rest,
+                Err(rejected) => return Err((pod, rejected)),
             },
+            Err(refusal) => return Err(refusal),
         }
     }
 }
@@ -46,11 +44,8 @@ pub(crate) fn accept_deep(input: &[u8]) -> Result<(&[u8], usize), Rejected<'_>> 
             return Err(Rejected::TooDeep);
         };
         match accept_within(input, frames.as_mut_slice()) {
-            Ok(accepted) => return Ok(accepted),
-            Err(rejected) => match rejected {
-                Rejected::Fault(_, _, _) => return Err(rejected),
-                Rejected::TooDeep => room = 4 * room,
-            },
+            Err(Rejected::TooDeep) => room = 4 * room,
+            answer => return answer,
         }
     }
 }

@@ -4,7 +4,7 @@
 use crate::parts::spa_rewrite::deep::changed_pods;
 use crate::parts::spa_bodies::error_at;
 use crate::parts::spa_canonical::{Rejected, canonical_stretch, encode_pods};
-use crate::parts::spa_fixed_sized::{DeserializeError, Fault};
+use crate::parts::spa_fixed_sized::DeserializeError;
 
 /// Puts the rewritings of all pods that the bytes are at their front, and answers how many bytes these take: never more than the
 /// pods took. What the bytes behind them are isn't said.
@@ -26,36 +26,11 @@ pub fn rewrite_in_place(
     match changed_pods(others) {
         Ok(changed) => Ok(from + encode_pods(changed, &mut bytes[from..])),
         Err((pod, rejected)) => match rejected {
-            Rejected::Fault(place, at, why) => {
+            Rejected::Fault(_, at, why) => {
                 let top = len - pod.len();
-                Err((top, with_offset(Some(top + at), error_at(place, why))))
+                Err((top, error_at(Some(top + at), why)))
             }
             Rejected::TooDeep => Err((len - pod.len(), DeserializeError::OutOfMemory)),
         },
-    }
-}
-
-/// The refusal with the place given by its offset.
-fn with_offset(
-    offset: Option<usize>,
-    error: DeserializeError<&[u8]>,
-) -> DeserializeError<Option<usize>> {
-    match error {
-        DeserializeError::Nom(fault) => DeserializeError::Nom(Fault {
-            input: offset,
-            kind: fault.kind,
-        }),
-        DeserializeError::UnsupportedType => DeserializeError::UnsupportedType,
-        DeserializeError::InvalidType => DeserializeError::InvalidType,
-        DeserializeError::PropertyMissing => DeserializeError::PropertyMissing,
-        DeserializeError::PropertyWrongKey(key) => DeserializeError::PropertyWrongKey(key),
-        DeserializeError::InvalidChoiceType => DeserializeError::InvalidChoiceType,
-        DeserializeError::MissingChoiceValues => DeserializeError::MissingChoiceValues,
-        DeserializeError::WrongSize => DeserializeError::WrongSize,
-        DeserializeError::UnreadMembers => DeserializeError::UnreadMembers,
-        DeserializeError::NoElementLeft => DeserializeError::NoElementLeft,
-        DeserializeError::FailedReader => DeserializeError::FailedReader,
-        DeserializeError::OutOfMemory => DeserializeError::OutOfMemory,
-        DeserializeError::TooDeep => DeserializeError::TooDeep,
     }
 }

@@ -12,33 +12,28 @@ use crate::parts::spa_canonical::{canonical_stretch, encode_pods, look_at_pods};
 pub fn rewrite_into(input: &[u8], out: &mut [u8]) -> Option<usize> {
     let (first, others) = canonical_stretch(input);
     if others.is_empty() {
-        put_where_it_fits(input, out);
+        put_first(input, out);
         return Some(input.len());
     }
     let Ok(all) = look_at_pods(others) else {
         return None;
     };
     let len = input.len() - all.surplus;
-    if out.len() < input.len() {
+    if !put_first(input, out) {
         return Some(len);
     }
-    put_first(input, out);
     encode_pods(all.changed, &mut out[first.len()..input.len()]);
     Some(len)
 }
 
-/// Copies bytes to the front of an output that is as long or longer; of a shorter one nothing changes.
+/// Copies bytes to the front of an output that is as long or longer, and answers whether it is; of a shorter one nothing changes.
 #[cfg_attr(not(debug_assertions), inline(always))]
-fn put_where_it_fits(bytes: &[u8], out: &mut [u8]) {
-    if bytes.len() <= out.len() {
-        put_first(bytes, out);
+fn put_first(bytes: &[u8], out: &mut [u8]) -> bool {
+    if out.len() < bytes.len() {
+        return false;
     }
-}
-
-/// Copies bytes to the front of an output, where there are any.
-#[cfg_attr(not(debug_assertions), inline(always))]
-fn put_first(bytes: &[u8], out: &mut [u8]) {
     if !bytes.is_empty() {
         out[..bytes.len()].copy_from_slice(bytes);
     }
+    true
 }

@@ -7,7 +7,7 @@ use crate::shims::prelude::*;
 use crate::parts::spa_rewrite::deep::{accept_deep, changed_pods, find_fault};
 use crate::parts::spa_bodies::error_at;
 use crate::parts::spa_canonical::{Rejected, accept_pod, canonical_front, canonical_stretch, encode_pods};
-use crate::parts::spa_fixed_sized::{DeserializeError, Refusal};
+use crate::parts::spa_fixed_sized::DeserializeError;
 
 /// The encoding of the value that the front of the input says, and what follows that front.
 ///
@@ -19,7 +19,7 @@ pub fn rewrite(input: &[u8]) -> Result<(&[u8], Vec<u8>), DeserializeError<&[u8]>
     let mut out = Vec::new();
     match append_front(input, &mut out) {
         Ok(rest) => Ok((rest, out)),
-        Err(refused) => Err(error_at(refused.place, refused.why)),
+        Err(refusal) => Err(refusal),
     }
 }
 
@@ -47,10 +47,7 @@ pub fn rewrite_all<'a>(
             Some(()) => Ok(()),
             None => Err((input, DeserializeError::OutOfMemory)),
         },
-        Err((left, rejected)) => {
-            let refused = refusal_of(left, rejected);
-            Err((left, error_at(refused.place, refused.why)))
-        }
+        Err((left, rejected)) => Err((left, refusal_for(rejected))),
     }
 }
 
@@ -60,35 +57,16 @@ pub fn rewrite_all<'a>(
 pub fn accept_all(input: &[u8]) -> Result<(), (&[u8], DeserializeError<&[u8]>)> {
     match find_fault(input) {
         Ok(()) => Ok(()),
-        Err((pod, rejected)) => {
-            let refused = refusal_of(pod, rejected);
-            Err((pod, error_at(refused.place, refused.why)))
-        }
+        Err((pod, rejected)) => Err((pod, refusal_for(rejected))),
     }
-}
-
-/// A refusal, and the bytes from its place on.
-#[derive(Clone, Copy)]
-struct Refused<'a> {
-    /// These bytes.
-    place: &'a [u8],
-    /// The cause.
-    why: Refusal,
 }
 
 /// The refusal of a pod that isn't accepted: for its fault, or for want of memory where it nests too deep.
-fn refusal_of<'a>(pod: &'a [u8], rejected: Rejected<'a>) -> Refused<'a> {
+#[cold]
+fn refusal_for(rejected: Rejected<'_>) -> DeserializeError<&[u8]> {
     match rejected {
-        Rejected::Fault(place, _, why) => Refused { place, why },
-        Rejected::TooDeep => lacking_memory(pod),
-    }
-}
-
-/// The refusal of the pod at the front of these bytes for want of memory.
-fn lacking_memory(pod: &[u8]) -> Refused<'_> {
-    Refused {
-        place: pod,
-        why: Refusal::OutOfMemory,
+        Rejected::Fault(place, _, why) => error_at(place, why),
+        Rejected::TooDeep => DeserializeError::OutOfMemory,
     }
 }
 
@@ -104,37 +82,34 @@ fn append_pods(canonical: usize, changed: usize, pods: &[u8], out: &mut Vec<u8>)
     Some(())
 }
 
-/// What follows the pod at the front, which is accepted, however deep it nests.
-fn accept_any(input: &[u8]) -> Result<&[u8], Rejected<'_>> {
+/// Does what `accept_pod` does, however deep the pod nests.
+fn accept_any(input: &[u8]) -> Result<(&[u8], usize), Rejected<'_>> {
     match accept_pod(input) {
-        Ok((rest, _)) => Ok(rest),
-        Err(rejected) => match rejected {
-            Rejected::Fault(_, _, _) => Err(rejected),
-            Rejected::TooDeep => match accept_deep(input) {
-                Ok((rest, _)) => Ok(rest),
-                Err(rejected) => Err(rejected),
-            },
-        },
+        Err(Rejected::TooDeep) => accept_deep(input),
+        answer => answer,
     }
 }
 
 /// Appends the encoding of the pod at the front of the input, and answers what follows that pod.
-fn append_front<'a>(input: &'a [u8], out: &mut Vec<u8>) -> Result<&'a [u8], Refused<'a>> {
+fn append_front<'a>(
+    input: &'a [u8],
+    out: &mut Vec<u8>,
+) -> Result<&'a [u8], DeserializeError<&'a [u8]>> {
     if let Some(rest) = canonical_front(input) {
         let (front, _) = input.split_at(input.len() - rest.len());
         return match out.try_extend_from_slice(front) {
             Ok(()) => Ok(rest),
-            Err(_) => Err(lacking_memory(input)),
+            Err(_) => Err(DeserializeError::OutOfMemory),
         };
     }
     match accept_any(input) {
-        Ok(rest) => {
+        Ok((rest, _)) => {
             let (front, _) = input.split_at(input.len() - rest.len());
             match append_pods(0, front.len(), front, out) {
                 Some(()) => Ok(rest),
-                None => Err(lacking_memory(input)),
+                None => Err(DeserializeError::OutOfMemory),
             }
         }
-        Err(rejected) => Err(refusal_of(input, rejected)),
+        Err(rejected) => Err(refusal_for(rejected)),
     }
 }

@@ -1,4 +1,4 @@
--- Pods without members that become their rewritings where they lie.
+-- Pods without members that become their rewritings in place.
 use Rattle.std.proofs.Common.{◌≡◌, ◌≢◌, ℕ, ◌+◌, ◌-◌, ◌%◌, ◌^◌, ◌<◌, ◌≤◌, inl, inr, List, [], ◌∷◌, ◌++◌, length, drop, take, refl, sym, ap, ◌∙◌, subst, arith, append_assoc}
 use Rattle.std.specs.Prelude.{Bool, false, replicate, true}
 use Rattle.std.proofs.Math.Seq.{take-add}

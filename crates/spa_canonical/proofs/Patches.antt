@@ -1,4 +1,4 @@
--- Pods that become their rewritings where they lie.
+-- Pods that become their rewritings in place.
 use Rattle.std.proofs.Common.{◌≡◌, ℕ, ◌≤◌, List, ◌++◌, length, drop, take, sym, ap, ◌∙◌, subst, arith, append_assoc}
 use Rattle.std.proofs.lemmas.List.{length-take-le, take-take, take_at}
 use Rattle.spa_format.specs.Words.{padding, word_at, word_bytes}

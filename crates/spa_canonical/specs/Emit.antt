@@ -27,8 +27,8 @@ pub record IsPodOf (pod : List ℕ) (type size : ℕ) : Type 0 where
   pub its_size : word_at pod 0 ≡ size
   pub its_type : word_at pod 4 ≡ type
 
--- So many first bytes, if they are whole bodies of the kind that has this type number, became these as they are written, and what follows them zeros. Those of
--- another type than Bool stay.
+-- The first n bytes became `elements`: where they are whole bodies of the kind with this type number, their values as they are written; bytes of another
+-- type than Bool stay. What follows them became zeros.
 pub record TurnsWritten (number n : ℕ) (old new : List ℕ) : Type 0 where
   pub elements : List ℕ
   pub long : length elements ≡ n

@@ -274,7 +274,7 @@ own_choice canonical body values shape flags size type h p f t e =
     (ap (λ z. bytes_taken t.its_shape z (length body - 16)) (i ∙ word_at-drop 8 0 body ∙ sym p.its_size)
     ∙ subst (λ z. bytes_taken t.its_shape size z ≡ z) long t.taken)))
 
--- of an accepted one
+-- only None has no bytes
 none_alone : (k : Kind) → body_size k ≡ 0 → k ≡ none_kind
 none_alone none_kind e = refl
 none_alone bool_kind e = absurd (omega (arith, e))

@@ -19,7 +19,7 @@ pub returns-clause-there : goal.returns-clause-there
 returns-clause-there c =
     let len = c.if-size-len.false in
     elements_are _ _ _ _ (bytes_of _ c.type_inv.elements) (subst (IsFixedLen c.args.type_) (sym len) (c.fixed_len-len.ensures.is_len (omega arith)))
-    (c.are_whole.ensures.whole c.if-not-are_whole.false)
+    (c.are_whole-is_whole.ensures.whole c.if-not-is_whole.false)
     (λ t b.
     elim c.else-canonical.branch [
       | else-canonical-via-then-canonical+then-type_+else-not-are_bools w ↦ w.are_bools.ensures.canonical w.if-not-are_bools.false

@@ -3,9 +3,10 @@ use Rattle.std.specs.Prelude.{ℕ, ◌+◌, List, [], ◌∷◌, ◌++◌, lengt
 use Rattle.std.specs.List.{list_any}
 use Rattle.spa_format.specs.Words.{extent, header_size, size_limit}
 use Rattle.spa_format.specs.Kind.{Kind, none_kind, type_number, Fixed, none, kind_of}
-use Rattle.spa_format.specs.Tree.{Shape, none_choice, range_choice, step_choice, enum_choice, flags_choice, Tree, fixed, string, array, choice, struct, object, Trees, no_trees, member, Properties, no_properties, property}
+use Rattle.spa_format.specs.Tree.{Shape, shape_number, none_choice, range_choice, step_choice, enum_choice, flags_choice, Tree, fixed, string, array, choice, struct, object, Trees, no_trees, member, Properties, no_properties, property}
 use Rattle.spa_format.specs.Normal.{kept_elements}
 use Rattle.spa_format.specs.Pod.{least_count}
+use Rattle.spa_fixed_sized.specs.Choices.{count_taken}
 use Rattle.spa_format.specs.Faults.{choice_header_size}
 use Rattle.spa_format.specs.Encoding.{encoded_body, fixed_bodies}
 use Rattle.spa_builder.specs.State.{Partial, open_struct, open_object, open_property, open_array, open_choice, State, with_tree, with_property}
@@ -63,13 +64,14 @@ abbrev pub array_takes : List Fixed → Fixed → Bool
 array_takes [] x = true
 array_takes (y ∷ ys) x = same_kind y x
 
--- a choice of another shape than Enum and Flags takes no more values than it needs
+-- less than this limit, if there is one
+abbrev pub is_below : ℕ → Option ℕ → Bool
+is_below n None = true
+is_below n (Some limit) = nat_lt n limit
+
+-- a choice takes no more values than its shape needs, where that fixes their number
 abbrev pub has_place : Shape → ℕ → Bool
-has_place none_choice n = nat_lt n (least_count none_choice)
-has_place range_choice n = nat_lt n (least_count range_choice)
-has_place step_choice n = nat_lt n (least_count step_choice)
-has_place enum_choice n = true
-has_place flags_choice n = true
+has_place h n = is_below n (count_taken (shape_number h))
 
 -- a choice takes values of the first one's kind, which isn't None
 abbrev pub choice_takes : Shape → List Fixed → Fixed → Bool

@@ -9,13 +9,11 @@ ghost use Rattle.spa_builder.specs.Framed.{is_nothing};
 ghost use Rattle.spa_builder.specs.Innermost.{innermost_of, is_first, takes_element, takes_elements, with_element};
 
 use crate::begun::{BegunPod, Elements, Stage, What};
-use spa_fixed_sized::{NONE_SHAPE, RANGE_SHAPE, STEP_SHAPE};
+use spa_fixed_sized::count_taken;
 use spa_utils::SpaTypes;
 
-/// The least numbers of values of a Range and of a Step; of the others it is one.
-const RANGE_COUNT: u32 = 3;
-
-const STEP_COUNT: u32 = 4;
+/// The most values that are counted: no shape needs more, and those of a list count up to here.
+const MOST_COUNTED: u32 = 4;
 
 /// Whether the innermost open pod takes elements of fixed size: it is an array or a choice.
 #[inline(always)]
@@ -39,11 +37,9 @@ pub(crate) fn is_first(what: What) -> bool
 fn has_place(shape: u32, count: u32) -> bool
     ensures { (h : Shape) → shape ≡ shape_number h → result ≡ has_place h count }
 {
-    match shape {
-        NONE_SHAPE => count < 1,
-        RANGE_SHAPE => count < RANGE_COUNT,
-        STEP_SHAPE => count < STEP_COUNT,
-        _ => true,
+    match count_taken(shape) {
+        Some(limit) => (count as usize) < limit,
+        None => true,
     }
 }
 
@@ -75,8 +71,8 @@ pub(crate) fn with_element(what: What, type_: u32) -> What
     let Elements { shape, count, .. } = what.elements;
     let more = match what.stage {
         Stage::Array => 0,
-        Stage::Choice if count < STEP_COUNT => count + 1,
-        Stage::Choice => STEP_COUNT,
+        Stage::Choice if count < MOST_COUNTED => count + 1,
+        Stage::Choice => MOST_COUNTED,
         _ => return what,
     };
     What {
@@ -95,11 +91,9 @@ pub(crate) fn is_finished(what: What) -> bool
     ensures { (p : Partial) → what ≡ what_of p → result ≡ is_some (closed_value p) }
 {
     let Elements { shape, count, .. } = what.elements;
-    match (what.stage, shape) {
-        (Stage::Nothing | Stage::Property, _) => false,
-        (Stage::Choice, RANGE_SHAPE) => count >= RANGE_COUNT,
-        (Stage::Choice, STEP_SHAPE) => count >= STEP_COUNT,
-        (Stage::Choice, _) => count >= 1,
+    match what.stage {
+        Stage::Nothing | Stage::Property => false,
+        Stage::Choice => count as usize >= count_taken(shape).unwrap_or(1),
         _ => true,
     }
 }

@@ -11,7 +11,7 @@ use crate::front::{ONE_WORD, TWO_WORDS, fixed_len, is_word_type};
 use crate::text::is_text;
 use spa_bodies::VALUE_TYPE_AT;
 use spa_bytes::{HEADER_LEN, POINTER_LEN, SECOND_WORD, SHORT_POINTER_LEN, u32_at};
-use spa_fixed_sized::{FLAGS_SHAPE, NONE_SHAPE, RANGE_SHAPE, Refusal, STEP_SHAPE};
+use spa_fixed_sized::{FLAGS_SHAPE, NONE_SHAPE, Refusal, count_taken};
 use spa_utils::SpaTypes;
 
 /// The length in bytes of the four words before the values of a choice.
@@ -87,9 +87,10 @@ fn choice_body(canonical: bool, body: &[u8]) -> Result<usize, Option<Refusal>>
     let shape = u32_at(body, 0);
     let size = u32_at(body, HEADER_LEN);
     let type_ = u32_at(body, VALUE_TYPE_AT);
+    let taken = taken_len(shape, size, values.len());
     if canonical {
         let flags = u32_at(body, SECOND_WORD);
-        if !takes_all(shape, flags, size, values.len()) {
+        if !takes_all(shape, flags, size, taken, values.len()) {
             return Err(None);
         }
         return match are_elements(true, type_, size, values) {
@@ -107,7 +108,6 @@ fn choice_body(canonical: bool, body: &[u8]) -> Result<usize, Option<Refusal>>
     if shape > FLAGS_SHAPE {
         return Err(Some(Refusal::InvalidChoiceType));
     }
-    let taken = taken_len(shape, size, values.len());
     if taken == 0 || taken > values.len() {
         return Err(Some(Refusal::MissingChoiceValues));
     }
@@ -115,14 +115,15 @@ fn choice_body(canonical: bool, body: &[u8]) -> Result<usize, Option<Refusal>>
     Ok(((body.len() + 7) / HEADER_LEN - (kept + 7) / HEADER_LEN) * HEADER_LEN)
 }
 
-/// Whether a choice of this shape is written with these flags, and with all of its bytes of values.
+/// Whether a choice of this shape is written with these flags, and with all of its bytes of values, where it takes so many.
 #[inline(always)]
-fn takes_all(shape: u32, flags: u32, size: u32, all: usize) -> bool
-    requires { 0 < all }
+fn takes_all(shape: u32, flags: u32, size: u32, taken: usize, all: usize) -> bool
+    requires some { 0 < all }
+    requires taken { (s : Shape) → shape ≡ shape_number s → taken ≡ bytes_taken s size all }
     ensures taken { result ≡ true → TakesAll shape flags size all }
     ensures found { TakesAll shape flags size all → result ≡ true }
 {
-    if taken_len(shape, size, all) != all || shape > FLAGS_SHAPE {
+    if taken != all || shape > FLAGS_SHAPE {
         return false;
     }
     written_flags(shape, flags) == flags
@@ -133,11 +134,9 @@ fn takes_all(shape: u32, flags: u32, size: u32, all: usize) -> bool
 pub(crate) fn taken_len(shape: u32, size: u32, all: usize) -> usize
     ensures { (s : Shape) → shape ≡ shape_number s → result ≡ bytes_taken s size all }
 {
-    match shape {
-        NONE_SHAPE => size as usize,
-        RANGE_SHAPE => 3 * size as usize,
-        STEP_SHAPE => 4 * size as usize,
-        _ => all,
+    match count_taken(shape) {
+        Some(count) => count * size as usize,
+        None => all,
     }
 }
 

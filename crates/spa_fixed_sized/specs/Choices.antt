@@ -1,12 +1,20 @@
 -- The tree of a choice over one of the types of fixed size: docs/FORMAT.md, "Choices".
-use Rattle.std.specs.Prelude.{ℕ, List, [], ◌∷◌, ◌++◌, map}
+use Rattle.std.specs.Prelude.{if◌then◌else◌, nat_eq, ℕ, List, [], ◌∷◌, ◌++◌, map, Option, None, Some}
 use Rattle.spa_format.specs.Words.{word_bytes}
 use Rattle.spa_format.specs.Kind.{Kind, Fixed}
-use Rattle.spa_format.specs.Tree.{none_choice, range_choice, step_choice, enum_choice, flags_choice, Tree, choice}
+use Rattle.spa_format.specs.Tree.{none_choice, range_choice, step_choice, enum_choice, flags_choice, shape_number, Tree, choice}
 use Rattle.spa_format.specs.Encoding.{array_body}
 use Rattle.spa_utils.specs.declared.choice.ChoiceEnum.{ChoiceEnum}
 use Rattle.spa_utils.specs.declared.choice.ChoiceEnum.TheVariants as E
 use Rattle.spa_utils.specs.declared.choice.Choice.{Choice}
+
+-- how many values a choice with this shape word takes, the default first; None: all that it holds
+abbrev pub count_taken : ℕ → Option ℕ
+count_taken shape =
+    if nat_eq shape (shape_number none_choice) then Some 1
+    else if nat_eq shape (shape_number range_choice) then Some 3
+    else if nat_eq shape (shape_number step_choice) then Some 4
+    else None
 
 -- the tree of a choice with these values and this flags word
 abbrev pub choice_enum_tree : {T : Type 0} → Kind → (T → Fixed) → ℕ → ChoiceEnum T → Tree

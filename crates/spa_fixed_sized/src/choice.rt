@@ -1,5 +1,6 @@
 //! Reads the bodies of choices, and writes their pods.
-ghost use Rattle.std.specs.Prelude.{◌≡◌, ◌*◌, ◌<◌, ◌≤◌, ◌∷◌, ◌++◌, IfErr, IfOk, OnErr, OnOk, drop, length, map, take};
+ghost use Rattle.std.specs.Prelude.{◌≡◌, ◌*◌, ◌<◌, ◌≤◌, ◌∷◌, ◌++◌, IfErr, IfOk, IfSome, OnErr, OnOk, drop, length, map, take};
+ghost use Rattle.spa_fixed_sized.specs.Choices as spec;
 ghost use Rattle.spa_fixed_sized.specs.Choices.{choice_body, choice_tree};
 ghost use Rattle.spa_fixed_sized.specs.Reading.{AreWhole, ReadsAs, RefusesChoice, RefusesValues};
 ghost use Rattle.spa_format.specs.Faults.{choice_header_size};
@@ -35,6 +36,20 @@ pub const ENUM_SHAPE: u32 = 3;
 
 /// The shape word of a choice with flags.
 pub const FLAGS_SHAPE: u32 = 4;
+
+/// How many values a choice of this shape takes, the default first; `None`: all that it holds.
+#[inline(always)]
+pub fn count_taken(shape: u32) -> Option<usize>
+    ensures taken { result ≡ spec.count_taken shape }
+    ensures few { IfSome result (λ count. count ≤ 4) }
+{
+    match shape {
+        NONE_SHAPE => Some(1),
+        RANGE_SHAPE => Some(3),
+        STEP_SHAPE => Some(4),
+        _ => None,
+    }
+}
 
 /// The greatest number of values that a choice has without a list of any length: default, minimum, maximum and step.
 const MOST_FIRST: usize = 4;

@@ -12,7 +12,8 @@ mod sizes;
 
 pub use array::{next_element, open_array, put_array, read_array};
 pub use choice::{
-    ENUM_SHAPE, FLAGS_SHAPE, NONE_SHAPE, RANGE_SHAPE, STEP_SHAPE, put_choice, put_enum, read_choice,
+    ENUM_SHAPE, FLAGS_SHAPE, NONE_SHAPE, RANGE_SHAPE, STEP_SHAPE, count_taken, put_choice,
+    put_enum, read_choice,
 };
 pub use fault::{DeserializeError, Fault, FaultKind, Refusal};
 pub use fixed::{CanonicalFixedSizedPod, ChoiceElement};

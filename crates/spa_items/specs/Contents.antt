@@ -1,8 +1,9 @@
 -- The item of one pod: docs/FORMAT.md, "Items".
-use Rattle.std.specs.Prelude.{ℕ, ◌+◌, ◌-◌, ◌*◌, ◌/◌, List, [], ◌∷◌, length, drop, min, if◌then◌else◌, nat_eq, nat_le, take}
+use Rattle.std.specs.Prelude.{ℕ, ◌+◌, ◌-◌, ◌*◌, ◌/◌, List, [], ◌∷◌, length, drop, min, if◌then◌else◌, nat_eq, nat_le, take, Option, None, Some}
 use Rattle.std.specs.Simd.{first_chunks}
 use Rattle.spa_format.specs.Kind.{bool_kind, id_kind, int_kind, long_kind, float_kind, double_kind, rectangle_kind, fraction_kind, fd_kind, type_number}
-use Rattle.spa_format.specs.Tree.{string_type, bytes_type, bitmap_type, array_type, object_type, pointer_type, choice_type, shape_number, none_choice, range_choice, step_choice}
+use Rattle.spa_fixed_sized.specs.Choices.{count_taken}
+use Rattle.spa_format.specs.Tree.{string_type, bytes_type, bitmap_type, array_type, object_type, pointer_type, choice_type}
 use Rattle.spa_format.specs.Words.{header_size, word_at, wide_at}
 use Rattle.spa_items.specs.declared.item.Content.{Content}
 use Rattle.spa_items.specs.declared.item.Item.{Item}
@@ -39,13 +40,14 @@ values_of type b =
     else (if nat_eq type choice_type then drop header_size b
     else [])
 
+-- this number, up to a limit where there is one
+abbrev pub at_most : Option ℕ → ℕ → ℕ
+at_most None n = n
+at_most (Some most) n = min n most
+
 -- how many of `n` values a choice of this shape takes
 abbrev pub values_taken : ℕ → ℕ → ℕ
-values_taken shape n =
-    if nat_eq shape (shape_number none_choice) then min n 1
-    else (if nat_eq shape (shape_number range_choice) then min n 3
-    else (if nat_eq shape (shape_number step_choice) then min n 4
-    else n))
+values_taken shape n = at_most (count_taken shape) n
 
 -- how many whole values follow a child header; none where their size is 0
 abbrev pub values_behind : List ℕ → ℕ

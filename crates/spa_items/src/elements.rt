@@ -7,7 +7,7 @@ ghost use Rattle.spa_items.specs.Puts.{AreElements, ArePut};
 use crate::contents::{fixed_content, word_or};
 use crate::item::Item;
 use spa_bytes::{HEADER_LEN, SECOND_WORD};
-use spa_fixed_sized::{NONE_SHAPE, RANGE_SHAPE, STEP_SHAPE};
+use spa_fixed_sized::count_taken;
 use spa_utils::SpaTypes;
 
 /// Values of one type and size, one after another.
@@ -47,11 +47,9 @@ fn values_taken(shape: u32, count: usize) -> usize
     ensures taken { result ≡ c.values_taken shape count }
     ensures few { result ≤ count }
 {
-    match shape {
-        NONE_SHAPE => count.min(1),
-        RANGE_SHAPE => count.min(3),
-        STEP_SHAPE => count.min(4),
-        _ => count,
+    match count_taken(shape) {
+        Some(most) => count.min(most),
+        None => count,
     }
 }
 

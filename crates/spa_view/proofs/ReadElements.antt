@@ -1,13 +1,14 @@
 -- The values in bytes, one after another.
 use Rattle.std.proofs.Common.{◌≡◌, ℕ, suc, zero, ◌+◌, ◌*◌, ◌-◌, ◌/◌, ◌<◌, ◌≤◌, List, [], ◌∷◌, length, take, drop, map, sym, ap, ◌∙◌, subst, arith, length-drop, length-take}
-use Rattle.std.specs.Prelude.{if◌then◌else◌, nat_eq}
+use Rattle.std.specs.Prelude.{Some}
 use Rattle.std.specs.Simd.{first_chunks}
 use Rattle.std.proofs.Math.Nat.{div-eq-sub-div, zero-div, mul-div_cancel}
 use Rattle.std.proofs.lemmas.List.{drop-take, take-take}
 use Rattle.spa_format.specs.Words.{word_at}
 use Rattle.spa_format.specs.Kind.{Kind, Fixed, body_size, content, IsFixedBody}
-use Rattle.spa_format.specs.Tree.{Shape, none_choice, range_choice, step_choice, enum_choice, flags_choice}
-use Rattle.spa_format.specs.Pod.{AreElements, IsArray, IsChoice}
+use Rattle.spa_format.specs.Tree.{Shape, shape_number, none_choice, range_choice, step_choice, enum_choice, flags_choice}
+use Rattle.spa_format.specs.Pod.{AreElements, IsArray, IsChoice, least_count, values_taken}
+use Rattle.spa_fixed_sized.specs.Choices.{count_taken}
 use Rattle.spa_format.proofs.Elements.{length_of_elements}
 use Rattle.spa_format.proofs.WordLemmas.{word_at-take}
 use Rattle.spa_view.specs.Elements.{values_in, element_count, first_elements, choice_values}
@@ -62,7 +63,7 @@ first_values (suc n) k (x ∷ xs) b h l =
       subst (AreElements k (take n xs)) (sym (drop-take s m b)) (first_values n k xs (drop s b) h.2 (omega arith)),
     )
 
-first_array : (n : ℕ) (k : Kind) (xs : List Fixed) (b : List ℕ) → IsArray k xs b → n ≤ length xs → IsArray k (take n xs) (first_elements n b)
+first_array : (n : ℕ) (k : Kind) (xs : List Fixed) (b : List ℕ) → IsArray k xs b → n ≤ length xs → IsArray k (take n xs) (first_elements (Some n) b)
 first_array n k xs b h l =
     let m = n * word_at b 0 in
     let t = length-take (8 + m) b in
@@ -75,27 +76,17 @@ first_array n k xs b h l =
       elements = subst (AreElements k (take n xs)) (sym e) (first_values n k xs (drop 8 b) h.elements l);
     }
 
-abbrev of_shape : List ℕ → ℕ → List ℕ
-of_shape b word =
-    if nat_eq word 0 then first_elements 1 (drop 8 b)
-    else if nat_eq word 1 then first_elements 3 (drop 8 b)
-    else if nat_eq word 2 then first_elements 4 (drop 8 b)
-    else drop 8 b
+taken_array : (s : Shape) (k : Kind) (x : Fixed) (xs : List Fixed) (b : List ℕ) → IsArray k (x ∷ xs) b → least_count s ≤ length (x ∷ xs) →
+    IsArray k (x ∷ values_taken s xs) (first_elements (count_taken (shape_number s)) b)
+taken_array none_choice k x xs b h l = first_array 1 k (x ∷ xs) b h l
+taken_array range_choice k x xs b h l = first_array 3 k (x ∷ xs) b h l
+taken_array step_choice k x xs b h l = first_array 4 k (x ∷ xs) b h l
+taken_array enum_choice k x xs b h l = h
+taken_array flags_choice k x xs b h l = h
 
 pub chosen_values : (s : Shape) (f : ℕ) (k : Kind) (x : Fixed) (xs : List Fixed) (b : List ℕ) → IsChoice s f k x xs b →
     IsArray k (x ∷ xs) (choice_values b)
-chosen_values none_choice f k x xs b h =
+chosen_values s f k x xs b h =
     subst (λ ys. IsArray k (x ∷ ys) (choice_values b)) (sym h.first)
-    (subst (λ w. IsArray k (x ∷ []) (of_shape b w)) (sym h.shape) (first_array 1 k (x ∷ h.all) (drop 8 b) h.values h.enough))
-chosen_values range_choice f k x xs b h =
-    subst (λ ys. IsArray k (x ∷ ys) (choice_values b)) (sym h.first)
-    (subst (λ w. IsArray k (x ∷ take 2 h.all) (of_shape b w)) (sym h.shape) (first_array 3 k (x ∷ h.all) (drop 8 b) h.values h.enough))
-chosen_values step_choice f k x xs b h =
-    subst (λ ys. IsArray k (x ∷ ys) (choice_values b)) (sym h.first)
-    (subst (λ w. IsArray k (x ∷ take 3 h.all) (of_shape b w)) (sym h.shape) (first_array 4 k (x ∷ h.all) (drop 8 b) h.values h.enough))
-chosen_values enum_choice f k x xs b h =
-    subst (λ ys. IsArray k (x ∷ ys) (choice_values b)) (sym h.first)
-    (subst (λ w. IsArray k (x ∷ h.all) (of_shape b w)) (sym h.shape) h.values)
-chosen_values flags_choice f k x xs b h =
-    subst (λ ys. IsArray k (x ∷ ys) (choice_values b)) (sym h.first)
-    (subst (λ w. IsArray k (x ∷ h.all) (of_shape b w)) (sym h.shape) h.values)
+    (subst (λ w. IsArray k (x ∷ values_taken s h.all) (first_elements (count_taken w) (drop 8 b))) (sym h.shape)
+    (taken_array s k x h.all (drop 8 b) h.values h.enough))

@@ -1,9 +1,9 @@
 -- Values of one type behind the header that they share, as arrays and choices have them: docs/FORMAT.md, "Walks over views".
-use Rattle.std.specs.Prelude.{◌≡◌, ℕ, ◌+◌, ◌*◌, ◌-◌, ◌/◌, List, length, take, drop, map, if◌then◌else◌, nat_eq}
+use Rattle.std.specs.Prelude.{◌≡◌, ℕ, ◌+◌, ◌*◌, ◌-◌, ◌/◌, List, length, take, drop, map, Option, None, Some}
 use Rattle.std.specs.Simd.{first_chunks}
 use Rattle.spa_format.specs.Words.{word_at, header_size}
 use Rattle.spa_format.specs.Kind.{Kind, Fixed, type_number, body_size, content}
-use Rattle.spa_format.specs.Tree.{shape_number, none_choice, range_choice, step_choice}
+use Rattle.spa_fixed_sized.specs.Choices.{count_taken}
 use Rattle.spa_view.specs.declared.arrays.PodArray.{PodArray}
 use Rattle.spa_view.specs.declared.arrays.PodElements.{PodElements}
 
@@ -27,14 +27,11 @@ values_in k b = map (content k) (first_chunks (body_size k) (length b / body_siz
 abbrev pub elements_left : {T : Type 0} → Kind → PodElements T → List Fixed
 elements_left k elements = values_in k elements.left.now
 
--- the child header, and this many elements at most
-abbrev pub first_elements : ℕ → List ℕ → List ℕ
-first_elements n b = take (header_size + n * word_at b 0) b
+-- the child header, and this many elements at most; None: all
+abbrev pub first_elements : Option ℕ → List ℕ → List ℕ
+first_elements None b = b
+first_elements (Some n) b = take (header_size + n * word_at b 0) b
 
 -- the child header in a choice's body, and the values that its shape takes, the default first
 abbrev pub choice_values : List ℕ → List ℕ
-choice_values b =
-    if nat_eq (word_at b 0) (shape_number none_choice) then first_elements 1 (drop header_size b)
-    else if nat_eq (word_at b 0) (shape_number range_choice) then first_elements 3 (drop header_size b)
-    else if nat_eq (word_at b 0) (shape_number step_choice) then first_elements 4 (drop header_size b)
-    else drop header_size b
+choice_values b = first_elements (count_taken (word_at b 0)) (drop header_size b)

@@ -11,7 +11,7 @@ ghost use Rattle.spa_view.specs.Tests as t;
 use crate::pod::Pod;
 use bitflags::Flags;
 use spa_bytes::{HEADER_LEN, SECOND_WORD, u32_at};
-use spa_fixed_sized::{CanonicalFixedSizedPod, NONE_SHAPE, RANGE_SHAPE, STEP_SHAPE, next_element};
+use spa_fixed_sized::{CanonicalFixedSizedPod, count_taken, next_element};
 use spa_utils::{ChoiceFlags, Errno, SpaTypes};
 use std::marker::PhantomData;
 
@@ -145,11 +145,8 @@ impl<'a> PodChoice<'a> {
             IsArray k (x ∷ xs) (array_bytes result) }
     {
         let (_, values) = self.pod.body().split_at(HEADER_LEN);
-        let most = match self.shape() {
-            NONE_SHAPE => 1,
-            RANGE_SHAPE => 3,
-            STEP_SHAPE => 4,
-            _ => return PodArray { body: values },
+        let Some(most) = count_taken(self.shape()) else {
+            return PodArray { body: values };
         };
         let taken = HEADER_LEN + most * u32_at(values, 0) as usize;
         PodArray {

@@ -1,4 +1,4 @@
-use Rattle.std.proofs.Common.{◌<◌, length, drop, take, ap, sym, ◌∙◌, subst, arith, length-drop}
+use Rattle.std.proofs.Common.{◌<◌, length, take, ap, sym, ◌∙◌, subst, arith, length-drop}
 use Rattle.std.proofs.lemmas.Bool.{eqb-false, eqb-true}
 use Rattle.spa_builder.specs.Framed.{IsGrown}
 use Rattle.spa_builder.proofs.Bodies.{all_put, grown_by, grown_twice, none_put, not_grown, one_more_put, one_there, whole_rest}

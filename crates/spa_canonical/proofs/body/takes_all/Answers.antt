@@ -11,6 +11,6 @@ returns-clause-taken c = λ e.
       its_shape = s.0;
       number = s.1;
       keeps = sym (c.written_flags.ensures s.0 s.1) ∙ eqb-true _ _ e;
-      taken = sym (c.taken_len.ensures s.0 s.1) ∙ c.if-taken_len-all.false;
-      some = c.requires;
+      taken = sym (c.requires.taken s.0 s.1) ∙ c.if-taken-all.false;
+      some = c.requires.some;
     }

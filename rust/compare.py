@@ -107,7 +107,7 @@ RULES = [
      r'( u32_at ( values , 0 ) as usize ) . saturating_mul ( most ) . saturating_add ( HEADER_LEN )'),
     ('32 bits', r'CHOICE_HEADER_LEN \+ u32_at \( body , HEADER_LEN \) as usize',
      r'( u32_at ( body , HEADER_LEN ) as usize ) . saturating_add ( CHOICE_HEADER_LEN )'),
-    ('32 bits', r'(3|4) \* size', r'size . saturating_mul ( \1 )'),
+    ('32 bits', r'count \* size as usize', r'count . saturating_mul ( size as usize )'),
     ('32 bits', r'extent_of \( (size(?: as u32)?) \) as u64', r'crate : : shims : : extents : : wide_extent_of ( \1 )'),
     ('32 bits', r'18_446_744_073_709_551_615', r'usize : : MAX'),
     ('32 bits', r'SIZE_LIMIT : usize = 1 < < 32', r'SIZE_LIMIT : usize = crate : : shims : : extents : : SIZE_LIMIT'),

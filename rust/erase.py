@@ -10,7 +10,7 @@ import sys
 
 import rattle
 from crates import EXPORTED, OF_TEXT, PACKAGES, SHIMS, TESTS, WHOLE, crates_of_packages
-from surface import surfaced
+from surface import PLACES, surfaced
 from words import WORDS
 
 # What takes memory: an allocator, or the runtime that hands one out, as an argument, a parameter, a field or a part of a `use`.
@@ -513,6 +513,9 @@ def generate(crates):
                 text = reworded(file, inline(assert_required(erase(text, place, of_std), path), path))
                 made[file] = GENERATED % (name, path) + surfaced(file, text)
         made[package + '/src/parts/mod.rs'] = modules(names, package, of_std, programs)
+    lacking = [path for path in [*PLACES, *WORDS] if path not in made]
+    if lacking:
+        raise ValueError('rules of surface.py or words.py are for files that are not made: %s' % ' '.join(lacking))
     here = os.path.dirname(os.path.abspath(__file__))
     return close(made, [text for package in PACKAGES for path, text in sources(os.path.join(here, package, 'src'), '.rs') if not path.startswith('parts')])
 

@@ -69,14 +69,11 @@ PLACES = {
     'spa-pod/src/parts/spa_read/lenient.rs': [
         ('CHOICE_HEADER_LEN + u32_at(body, HEADER_LEN) as usize', '(u32_at(body, HEADER_LEN) as usize).saturating_add(CHOICE_HEADER_LEN)'),
     ],
-    'spa-pod/src/parts/spa_canonical/array.rs': [
-        ('RANGE_SHAPE => 3 * size', 'RANGE_SHAPE => size.saturating_mul(3)'), ('STEP_SHAPE => 4 * size', 'STEP_SHAPE => size.saturating_mul(4)'),
-    ],
+    'spa-pod/src/parts/spa_canonical/body.rs': [('count * size as usize', 'count.saturating_mul(size as usize)')],
     'spa-pod/src/parts/spa_write/size.rs': [
         (before + ' => Ok(extent_of(size) as u64)', before + ' => Ok(crate::shims::extents::wide_extent_of(size))')
         for before in ('        Ok(size)', '    match array_size(values) {\n        Some(size)', '    match choice_size(choice) {\n        Some(size)')
     ],
-    'spa-pod/src/parts/spa_write/known.rs': [('extent_of(size as u32) as u64', 'crate::shims::extents::wide_extent_of(size as u32)')],
     'spa-pod/src/parts/spa_events/event.rs': [('NO_PARENT: usize = 18_446_744_073_709_551_615', 'NO_PARENT: usize = usize::MAX')],
     'spa-pod/src/parts/spa_builder/frames.rs': [('SIZE_LIMIT: usize = 1 << 32', 'SIZE_LIMIT: usize = crate::shims::extents::SIZE_LIMIT')],
     # Floats print as numbers, by src/api/numbers.rs; the proved tests compare what is printed of their bits.

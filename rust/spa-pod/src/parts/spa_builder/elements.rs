@@ -2,13 +2,11 @@
 //! Which elements of arrays and choices are allowed next.
 
 use crate::parts::spa_builder::begun::{BegunPod, Elements, Stage, What};
-use crate::parts::spa_fixed_sized::{NONE_SHAPE, RANGE_SHAPE, STEP_SHAPE};
+use crate::parts::spa_fixed_sized::count_taken;
 use crate::parts::spa_utils::SpaTypes;
 
-/// The least numbers of values of a Range and of a Step; of the others it is one.
-const RANGE_COUNT: u32 = 3;
-
-const STEP_COUNT: u32 = 4;
+/// The most values that are counted: no shape needs more, and those of a list count up to here.
+const MOST_COUNTED: u32 = 4;
 
 /// Whether the innermost open pod takes elements of fixed size: it is an array or a choice.
 #[cfg_attr(not(debug_assertions), inline(always))]
@@ -26,11 +24,9 @@ pub(crate) fn is_first(what: What) -> bool {
 
 /// Whether a choice of this shape with `count` values takes one more.
 fn has_place(shape: u32, count: u32) -> bool {
-    match shape {
-        NONE_SHAPE => count < 1,
-        RANGE_SHAPE => count < RANGE_COUNT,
-        STEP_SHAPE => count < STEP_COUNT,
-        _ => true,
+    match count_taken(shape) {
+        Some(limit) => (count as usize) < limit,
+        None => true,
     }
 }
 
@@ -55,8 +51,8 @@ pub(crate) fn with_element(what: What, type_: u32) -> What {
     let Elements { shape, count, .. } = what.elements;
     let more = match what.stage {
         Stage::Array => 0,
-        Stage::Choice if count < STEP_COUNT => count + 1,
-        Stage::Choice => STEP_COUNT,
+        Stage::Choice if count < MOST_COUNTED => count + 1,
+        Stage::Choice => MOST_COUNTED,
         _ => return what,
     };
     What {
@@ -73,11 +69,9 @@ pub(crate) fn with_element(what: What, type_: u32) -> What {
 #[cfg_attr(not(debug_assertions), inline(always))]
 pub(crate) fn is_finished(what: What) -> bool {
     let Elements { shape, count, .. } = what.elements;
-    match (what.stage, shape) {
-        (Stage::Nothing | Stage::Property, _) => false,
-        (Stage::Choice, RANGE_SHAPE) => count >= RANGE_COUNT,
-        (Stage::Choice, STEP_SHAPE) => count >= STEP_COUNT,
-        (Stage::Choice, _) => count >= 1,
+    match what.stage {
+        Stage::Nothing | Stage::Property => false,
+        Stage::Choice => count as usize >= count_taken(shape).unwrap_or(1),
         _ => true,
     }
 }

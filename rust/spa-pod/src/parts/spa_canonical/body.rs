@@ -6,7 +6,7 @@ use crate::parts::spa_canonical::front::{ONE_WORD, TWO_WORDS, fixed_len, is_word
 use crate::parts::spa_canonical::text::is_text;
 use crate::parts::spa_bodies::VALUE_TYPE_AT;
 use crate::parts::spa_bytes::{HEADER_LEN, POINTER_LEN, SECOND_WORD, SHORT_POINTER_LEN, u32_at};
-use crate::parts::spa_fixed_sized::{FLAGS_SHAPE, NONE_SHAPE, RANGE_SHAPE, Refusal, STEP_SHAPE};
+use crate::parts::spa_fixed_sized::{FLAGS_SHAPE, NONE_SHAPE, Refusal, count_taken};
 use crate::parts::spa_utils::SpaTypes;
 
 /// The length in bytes of the four words before the values of a choice.
@@ -68,9 +68,10 @@ fn choice_body(canonical: bool, body: &[u8]) -> Result<usize, Option<Refusal>> {
     let shape = u32_at(body, 0);
     let size = u32_at(body, HEADER_LEN);
     let type_ = u32_at(body, VALUE_TYPE_AT);
+    let taken = taken_len(shape, size, values.len());
     if canonical {
         let flags = u32_at(body, SECOND_WORD);
-        if !takes_all(shape, flags, size, values.len()) {
+        if !takes_all(shape, flags, size, taken, values.len()) {
             return Err(None);
         }
         return match are_elements(true, type_, size, values) {
@@ -88,7 +89,6 @@ fn choice_body(canonical: bool, body: &[u8]) -> Result<usize, Option<Refusal>> {
     if shape > FLAGS_SHAPE {
         return Err(Some(Refusal::InvalidChoiceType));
     }
-    let taken = taken_len(shape, size, values.len());
     if taken == 0 || taken > values.len() {
         return Err(Some(Refusal::MissingChoiceValues));
     }
@@ -96,10 +96,10 @@ fn choice_body(canonical: bool, body: &[u8]) -> Result<usize, Option<Refusal>> {
     Ok(((body.len() + 7) / HEADER_LEN - (kept + 7) / HEADER_LEN) * HEADER_LEN)
 }
 
-/// Whether a choice of this shape is written with these flags, and with all of its bytes of values.
+/// Whether a choice of this shape is written with these flags, and with all of its bytes of values, where it takes so many.
 #[cfg_attr(not(debug_assertions), inline(always))]
-fn takes_all(shape: u32, flags: u32, size: u32, all: usize) -> bool {
-    if taken_len(shape, size, all) != all || shape > FLAGS_SHAPE {
+fn takes_all(shape: u32, flags: u32, size: u32, taken: usize, all: usize) -> bool {
+    if taken != all || shape > FLAGS_SHAPE {
         return false;
     }
     written_flags(shape, flags) == flags
@@ -108,11 +108,9 @@ fn takes_all(shape: u32, flags: u32, size: u32, all: usize) -> bool {
 /// How many bytes of values a choice of this shape takes, where one has this size, of all that it holds.
 #[cfg_attr(not(debug_assertions), inline(always))]
 pub(crate) fn taken_len(shape: u32, size: u32, all: usize) -> usize {
-    match shape {
-        NONE_SHAPE => size as usize,
-        RANGE_SHAPE => 3 * size as usize,
-        STEP_SHAPE => 4 * size as usize,
-        _ => all,
+    match count_taken(shape) {
+        Some(count) => count.saturating_mul(size as usize),
+        None => all,
     }
 }
 

@@ -12,7 +12,7 @@ use crate::parts::spa_sink::{GenError, PodSink};
 use crate::parts::spa_utils::{Choice, ChoiceEnum, ChoiceFlags, SpaTypes};
 
 /// The shape word of a None choice, which has its default alone.
-pub const NONE_SHAPE: u32 = 0;
+pub(crate) const NONE_SHAPE: u32 = 0;
 
 /// The shape word of a choice with a minimum and a maximum.
 pub const RANGE_SHAPE: u32 = 1;
@@ -25,6 +25,18 @@ pub const ENUM_SHAPE: u32 = 3;
 
 /// The shape word of a choice with flags.
 pub const FLAGS_SHAPE: u32 = 4;
+
+/// How many values a choice of this shape takes, the default first; `None`: all that it holds.
+#[cfg_attr(not(debug_assertions), inline(always))]
+#[must_use]
+pub fn count_taken(shape: u32) -> Option<usize> {
+    match shape {
+        NONE_SHAPE => Some(1),
+        RANGE_SHAPE => Some(3),
+        STEP_SHAPE => Some(4),
+        _ => None,
+    }
+}
 
 /// The greatest number of values that a choice has without a list of any length: default, minimum, maximum and step.
 const MOST_FIRST: usize = 4;

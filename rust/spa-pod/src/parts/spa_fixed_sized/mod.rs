@@ -10,8 +10,8 @@ mod pod;
 mod sizes;
 
 pub use array::{next_element, open_array, put_array, read_array};
-pub(crate) use choice::put_enum;
-pub use choice::{ENUM_SHAPE, FLAGS_SHAPE, NONE_SHAPE, RANGE_SHAPE, STEP_SHAPE, put_choice, read_choice};
+pub(crate) use choice::{NONE_SHAPE, put_enum};
+pub use choice::{ENUM_SHAPE, FLAGS_SHAPE, RANGE_SHAPE, STEP_SHAPE, count_taken, put_choice, read_choice};
 pub use fault::{DeserializeError, Fault, FaultKind, Refusal};
 pub use fixed::{CanonicalFixedSizedPod, ChoiceElement};
 pub use fixed_sized::FixedSizedPod;

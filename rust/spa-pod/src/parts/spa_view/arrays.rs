@@ -4,7 +4,7 @@
 use crate::parts::spa_view::pod::Pod;
 use crate::shims::flags::Flags;
 use crate::parts::spa_bytes::{HEADER_LEN, SECOND_WORD, u32_at};
-use crate::parts::spa_fixed_sized::{CanonicalFixedSizedPod, NONE_SHAPE, RANGE_SHAPE, STEP_SHAPE, next_element};
+use crate::parts::spa_fixed_sized::{CanonicalFixedSizedPod, count_taken, next_element};
 use crate::parts::spa_utils::{ChoiceFlags, Errno, SpaTypes};
 use core::marker::PhantomData;
 
@@ -100,11 +100,8 @@ impl<'a> PodChoice<'a> {
     #[must_use]
     pub fn values(&self) -> PodArray<'a> {
         let (_, values) = self.pod.body().split_at(HEADER_LEN);
-        let most = match self.shape() {
-            NONE_SHAPE => 1,
-            RANGE_SHAPE => 3,
-            STEP_SHAPE => 4,
-            _ => return PodArray { body: values },
+        let Some(most) = count_taken(self.shape()) else {
+            return PodArray { body: values };
         };
         let taken = (u32_at(values, 0) as usize).saturating_mul(most).saturating_add(HEADER_LEN);
         PodArray {

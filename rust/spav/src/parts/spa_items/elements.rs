@@ -4,7 +4,7 @@
 use crate::parts::spa_items::contents::{fixed_content, word_or};
 use crate::parts::spa_items::item::Item;
 use spa_pod::parts::spa_bytes::{HEADER_LEN, SECOND_WORD};
-use spa_pod::parts::spa_fixed_sized::{NONE_SHAPE, RANGE_SHAPE, STEP_SHAPE};
+use spa_pod::parts::spa_fixed_sized::count_taken;
 use spa_pod::parts::spa_utils::SpaTypes;
 
 /// Values of one type and size, one after another.
@@ -37,11 +37,9 @@ fn behind(bytes: &[u8]) -> &[u8] {
 
 /// How many of `count` values a choice of this shape takes.
 fn values_taken(shape: u32, count: usize) -> usize {
-    match shape {
-        NONE_SHAPE => count.min(1),
-        RANGE_SHAPE => count.min(3),
-        STEP_SHAPE => count.min(4),
-        _ => count,
+    match count_taken(shape) {
+        Some(most) => count.min(most),
+        None => count,
     }
 }
 

@@ -2,7 +2,7 @@
 use crate::compare::{assert_holds_at, assert_same_at, assert_words, cut_bytes, refusal_of};
 use bitflags::Flags;
 use spa_bytes::u32_at;
-use spa_fixed_sized::{ChoiceElement, Refusal, put_choice, read_choice};
+use spa_fixed_sized::{ChoiceElement, Refusal, count_taken, put_choice, read_choice};
 use spa_sink::GenError;
 use spa_utils::{Choice, ChoiceEnum, ChoiceFlags, Id};
 use std::alloc::{AllocError, Global};
@@ -175,4 +175,26 @@ fn choices_are_refused(rt: HostRuntime) -> Result<(), Fail> {
         assert_no_choice(&rt, rt.alloc(), *row)?;
     }
     Ok(())
+}
+
+/// Shape words, and how many values a choice of that shape takes; `None`: all.
+const COUNTS: &[(u32, Option<usize>)] = &[
+    (0, Some(1)),
+    (1, Some(3)),
+    (2, Some(4)),
+    (3, None),
+    (4, None),
+    (5, None),
+];
+
+/// Those rows. This function alone names them: one that does is proved with all of them.
+fn counts() -> &'static [(u32, Option<usize>)] {
+    COUNTS
+}
+
+#[test]
+fn counts_of_values(rt: HostRuntime) {
+    for (shape, wanted) in counts() {
+        assert_same_at(&rt, &count_taken(*shape), wanted, &[*shape]);
+    }
 }

@@ -2,7 +2,7 @@
 ghost use Rattle.std.specs.Prelude.{◌≡◌, ◌≢◌, ◌++◌, IfErr, OnOk};
 ghost use Rattle.spa_format.specs.Tree.{Tree, choice_type};
 ghost use Rattle.spa_format.specs.Words.{word_at};
-ghost use Rattle.spa_filter.specs.CommonPods.{AreApart, HasBody, IsCommonAppended, IsCommonRefused, IsOfferRefused, IsOffered, IsPodRefusal};
+ghost use Rattle.spa_filter.specs.CommonPods.{HasBody, IsCommonAppended, IsCommonRefused, IsOfferRefused, IsOffered, IsPodRefusal};
 ghost use Rattle.spa_keyed_objects.specs.CanonicalPods.{IsCanonicalPod};
 ghost use Rattle.spa_filter.specs.declared.refused.Refused.TheVariants.{OutOfMemory};
 
@@ -11,9 +11,8 @@ use crate::enums::{MOST, is_enum, is_short_enum, is_value_of, put_enum_first, pu
 use crate::error::FilterError;
 use crate::ranges::{is_range, put_ranges};
 use crate::refused::Refused;
-use crate::support::are_supported;
+use crate::support::{form_in, refusal};
 use crate::types::{BOOL, DOUBLE, FD, FLOAT, FRACTION, ID, INT, LONG, RECTANGLE};
-use crate::values::is_shape_supported;
 use spa_bytes::{HEADER_LEN, SECOND_WORD, open, u32_at};
 use spa_filter_offers::{Element, admits, offer_of};
 use spa_utils::{Fd, Float32, Float64, Fraction, Id, Rectangle, SpaTypes};
@@ -44,22 +43,9 @@ pub fn put_common(
 {
     match put_met(alloc, out, a, b) {
         Ok(()) => Ok(()),
-        Err(Refused::Apart) => Err(refusal(key, a, b)),
+        Err(Refused::Apart) => Err(refusal(key, form_in(a), form_in(b))),
         Err(Refused::TooLarge) => Err(FilterError::TooLarge),
         Err(Refused::OutOfMemory) => Err(FilterError::OutOfMemory),
-    }
-}
-
-/// The refusal of the values of two pods, for which no common value was found: `Unsupported` or `Disjoint`.
-#[inline(never)]
-fn refusal(key: u32, a: &[u8], b: &[u8]) -> FilterError
-    ensures { (v w : Tree) → IsCanonicalPod v a.now → IsCanonicalPod w b.now → AreApart v w
-        → IsPodRefusal key v w result }
-{
-    if are_supported(a, b) {
-        FilterError::Disjoint(key)
-    } else {
-        FilterError::Unsupported(key)
     }
 }
 
@@ -152,9 +138,6 @@ fn is_offered_over<T: Element, const N: usize>(
         return Err(Refused::Apart);
     }
     let choice = choice_over::<T>(alloc, choice)?;
-    if !is_shape_supported(&choice) {
-        return Err(Refused::Apart);
-    }
     if !admits(&offer_of(&choice.1), &x) {
         return Err(Refused::Apart);
     }

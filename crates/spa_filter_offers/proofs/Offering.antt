@@ -1,5 +1,5 @@
 -- What a choice offers.
-use Rattle.std.proofs.Common.{Bool, false, ◌&&◌, ◌≡◌, ◌∷◌, ℕ, List, [], get_or, map, sym, ap, ◌∙◌, subst}
+use Rattle.std.proofs.Common.{Bool, false, ◌&&◌, ◌≡◌, ◌↔◌, ◌∷◌, ℕ, List, [], get_or, map, sym, ap, ◌∙◌, subst}
 use Rattle.std.proofs.lemmas.List.Elements.{All-cons, All-map, All-contains}
 use Rattle.spa_format.specs.Kind.{Kind, Fixed, kind_of}
 use Rattle.spa_format.specs.Tree.{Shape, none_choice, range_choice, step_choice, enum_choice, flags_choice, Tree, fixed, choice}
@@ -67,8 +67,10 @@ none_typed k f same n e w other h = none_typed_at k f same n e w other h.0 h.1
 both_false : (p q a b : Bool) → p ≡ a → q ≡ b → (a && b) ≡ false → (p && q) ≡ false
 both_false p q a b e f h = ap (λ x. x && q) e ∙ ap (λ x. a && x) f ∙ h
 
--- a choice can say what two offers admit where it can say what their values admit
+-- a choice can say what two offers admit exactly where it can say what their values admit
 pub AreOffersSayable-values : {T : Type 0} (a b : Offer T) (v w : Tree) → is_masked a ≡ is_flags v →
-    has_bounds a ≡ is_bounded v → is_masked b ≡ is_flags w → has_bounds b ≡ is_bounded w → AreSayable v w →
-    AreOffersSayable a b
-AreOffersSayable-values a b v w p q r s h = (both_false _ _ _ _ p s h.0, both_false _ _ _ _ q r h.1)
+    has_bounds a ≡ is_bounded v → is_masked b ≡ is_flags w → has_bounds b ≡ is_bounded w → AreOffersSayable a b ↔ AreSayable v w
+AreOffersSayable-values a b v w p q r s = (
+  λ h. (both_false _ _ _ _ (sym p) (sym s) h.0, both_false _ _ _ _ (sym q) (sym r) h.1),
+  λ h. (both_false _ _ _ _ p s h.0, both_false _ _ _ _ q r h.1),
+)

@@ -1,6 +1,6 @@
 -- The form of a value: what decides whether it is supported.
-use Rattle.std.specs.Prelude.{◌≡◌, ℕ}
-use Rattle.spa_format.specs.Kind.{Kind, type_number}
+use Rattle.std.specs.Prelude.{◌≡◌}
+use Rattle.spa_format.specs.Kind.{type_number}
 use Rattle.spa_format.specs.Tree.{Tree, choice, none_choice, shape_number}
 use Rattle.spa_filter_offers.specs.declared.form.Form.{Form}
 

@@ -20,7 +20,10 @@ pub struct Form {
 
 impl Form {
     /// The form of a plain value, which is taken for a None choice. Its type doesn't count.
-    pub const PLAIN: Form = Form { shape: NONE_SHAPE, type_: 0 };
+    pub const PLAIN: Form = Form {
+        shape: NONE_SHAPE,
+        type_: 0,
+    };
 }
 
 /// The form of a value.

@@ -4,7 +4,8 @@ use Rattle.std.specs.Prelude.{◌∷◌}
 use Rattle.spa_format.specs.Tree.{choice, enum_choice, fixed}
 use Rattle.spa_fixed_sized.specs.Choices.{choice_tree}
 use Rattle.spa_format.proofs.Unique.{same_body}
-use Rattle.spa_filter_offers.specs.Admits.{Admits, IsSupported}
+use Rattle.spa_filter_offers.specs.Admits.{Admits}
+use Rattle.spa_filter_offers.proofs.Offering.{IsSupported-admits}
 use Rattle.spa_filter.proofs.Apart.{element_type, refused_plain}
 use Rattle.spa_filter.proofs.CommonPods.{choice_typed, offered, plain_is, same_choice}
 use Rattle.spa_filter.proofs.Passing.{passed_on}
@@ -15,15 +16,6 @@ returns-in_err-choice-clause-cause g c =
     let met = g.met.T.CanonicalFixedSizedPod in
     passed_on _ _ _ c.from_residual.ensures.1
     (λ v w h i. refused_plain _ c.args.body.now c.args.choice.now _ (element_type _ g.T.CanonicalFixedSizedPod.kind met.its_type) c.in_err-choice.ensures.cause v w h i)
-
-pub returns-then-not-is_shape_supported-clause-cause : goal.returns-then-not-is_shape_supported-clause-cause
-returns-then-not-is_shape_supported-clause-cause g c = λ v w h i s k.
-    let pod = g.T.CanonicalFixedSizedPod in
-    let choice = c.in_ok-choice.choice in
-    let whole = same_choice pod.kind pod.fixed choice.0.0 choice.1 w _ i c.in_ok-choice.ensures.choice in
-    let f = c.if-not-is_shape_supported.true in
-    let t = c.is_shape_supported.ensures.1 (subst IsSupported (sym whole) s.1) in
-    absurd (grind arith)
 
 pub returns-then-not-admits-clause-cause : goal.returns-then-not-admits-clause-cause
 returns-then-not-admits-clause-cause g c = λ v w h i s k.
@@ -44,10 +36,10 @@ returns-clause-offered g c = λ v w h i.
     let choice = c.in_ok-choice.choice in
     let t = choice_tree pod.kind pod.fixed choice in
     let typed = choice_typed pod.kind pod.fixed choice.0.0 choice.1 in
-    let supported = c.is_shape_supported.ensures.0 c.if-not-is_shape_supported.false in
     let admitted = ((c.offer_of.ensures.offer choice.0.0).each (pod.fixed c.of_body-x.result)).1 (c.admits.ensures.0 c.if-not-admits.false) in
     offered pod.kind v w t c.args.body.now c.args.choice.now (pod.fixed c.of_body-x.result) (h.its_type ∙ g.met.T.CanonicalFixedSizedPod.its_type) h.content
-    c.of_body-x.ensures i typed c.in_ok-choice.ensures.choice supported admitted
+    c.of_body-x.ensures i typed c.in_ok-choice.ensures.choice
+    (IsSupported-admits pod.kind pod.fixed g.met.T.CanonicalFixedSizedPod.its_kind choice.0.0 choice.1 (pod.fixed c.of_body-x.result) admitted) admitted
 
 pub returns-then-is_value-clause-offered : goal.returns-then-is_value-clause-offered
 returns-then-is_value-clause-offered g c = λ v w h i.

@@ -125,16 +125,12 @@ no_choice_over w b n is n2 n3 n4 n5 n6 n7 n10 n11 n18 h =
     no_element c.kind c.content.values.elements.0 (λ e. n2 (same ∙ e)) (λ e. n3 (same ∙ e)) (λ e. n4 (same ∙ e)) (λ e. n5 (same ∙ e))
     (λ e. n6 (same ∙ e)) (λ e. n7 (same ∙ e)) (λ e. n10 (same ∙ e)) (λ e. n11 (same ∙ e)) (λ e. n18 (same ∙ e))
 
--- what is said of a body of this type and a choice's, where the one is offered by the other
-abbrev pub OffersAs : ℕ → List ℕ → List ℕ → Type 0
-OffersAs type b c = (v w : Tree) → HasBody v type b → HasBody w choice_type c → IsOffered v w
-
 -- a plain value and a choice over another type
-pub refused_plain : (type : ℕ) (b c : List ℕ) (e : Refused) → type ≢ choice_type → IsOfOtherType type c e →
+pub refused_plain : (type other : ℕ) (b c : List ℕ) (e : Refused) → type ≡ other → type ≢ choice_type → IsOfOtherType other c e →
     (v w : Tree) → HasBody v type b → HasBody w choice_type c → IsOfferRefused v w e
-refused_plain type b c Apart n o v w h i = λ s k. o w i (sym (plain_common v w type b c n h i k))
-refused_plain type b c TooLarge n o v w h i = absurd o
-refused_plain type b c OutOfMemory n o v w h i = tt
+refused_plain type other b c Apart same n o v w h i = λ s k. o w i (sym (plain_common v w type b c n h i k) ∙ same)
+refused_plain type other b c TooLarge same n o v w h i = absurd o
+refused_plain type other b c OutOfMemory same n o v w h i = tt
 
 -- two choices over two types
 pub refused_choices : (type : ℕ) (b c : List ℕ) (e : Refused) → word_at b 12 ≡ type → IsOfOtherType type c e →

@@ -2,8 +2,8 @@
 ghost use Rattle.std.specs.Prelude.{IfErr, IfOk, OnOk};
 ghost use Rattle.spa_fixed_sized.specs.Choices.{choice_tree};
 ghost use Rattle.spa_value.specs.View.{choice_view, view};
-ghost use Rattle.spa_filter_offers.specs.Admits.{AreSupported, IsMeeting};
-ghost use Rattle.spa_filter.specs.Values.{IsPlainView, ValuesMeet};
+ghost use Rattle.spa_filter_offers.specs.Admits.{AreSupported, IsMeeting, IsPlain};
+ghost use Rattle.spa_filter.specs.Values.{ValuesMeet};
 ghost use Rattle.spa_filter.specs.Refusals.{IsValueRefusal};
 
 use crate::error::FilterError;
@@ -33,6 +33,7 @@ pub fn common(alloc: Global, key: u32, a: &Value, b: &Value) -> Result<Value, Fi
 fn values_meet(alloc: Global, a: &Value, b: &Value) -> Result<Option<Value>, AllocError>
     ensures { IfOk result (ValuesMeet (view a.now) (view b.now)) }
 {
+    trees_have_their_types();
     match a {
         Value::Choice(choice) => choice_meets(alloc, choice, b),
         _ => match b {
@@ -44,8 +45,7 @@ fn values_meet(alloc: Global, a: &Value, b: &Value) -> Result<Option<Value>, All
 
 /// The value that two plain values have in common: either, where they are equal.
 fn plain_values_meet(alloc: Global, a: &Value, b: &Value) -> Result<Option<Value>, AllocError>
-    requires first { IsPlainView a.now }
-    requires second { IsPlainView b.now }
+    requires { IsPlain (view a.now) × IsPlain (view b.now) }
     ensures { IfOk result (ValuesMeet (view a.now) (view b.now)) }
 {
     trees_have_their_types();

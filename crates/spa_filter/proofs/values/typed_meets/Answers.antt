@@ -6,7 +6,7 @@ use Rattle.spa_filter_offers.specs.Admits.{AdmitsNone}
 use Rattle.spa_filter_offers.specs.declared.offer.Offer.TheVariants.{Only}
 use Rattle.spa_filter_offers.proofs.Offering.{none_typed}
 use Rattle.spa_filter.proofs.Outcomes.{HasOffer-choice, HasOffer-content, ValuesMeet-offers}
-use Rattle.spa_filter.proofs.Plain.{IsPlainTree-view, IsPlainView-other}
+use Rattle.spa_filter.proofs.Plain.{IsPlainTree-view}
 use Rattle.spa_filter.proofs.values.typed_meets.Goals as goal
 
 pub returns-in-None : goal.returns-in-None
@@ -31,6 +31,6 @@ pub returns-in-None-in_value : goal.returns-in-None-in_value
 returns-in-None-in_value g c = λ supported.
     let pod = g.T.CanonicalFixedSizedPod in
     let a = c.args.choice.now in
-    let plain = IsPlainTree-view c.args.b.now (IsPlainView-other c.args.b.now c.in_default.not-Choice) in
+    let plain = IsPlainTree-view c.args.b.now c.in_default.not-Choice in
     none_typed pod.kind pod.fixed g.met.T.CanonicalFixedSizedPod.its_kind a.0.0 a.1 (view c.args.b.now)
     (λ x h. c.in-None-in_value.ensures x (sym (plain.alone (fixed x) h)))

@@ -12,7 +12,7 @@ use Rattle.spa_format.proofs.WordLemmas.{word_at-drop}
 use Rattle.spa_filter_elements.proofs.Order.{kind_of-ordered}
 use Rattle.spa_filter_elements.proofs.Masks.{kind_of-among}
 use Rattle.spa_filter_offers.specs.Admits.{Admits, AdmitsContent, HasCommon}
-use Rattle.spa_filter.specs.CommonPods.{HasBody, IsCommonRefused, IsOfferRefused, IsOffered, IsOfOtherType}
+use Rattle.spa_filter.specs.CommonPods.{HasBody, IsCommonRefused, IsOfferRefused, IsOfOtherType}
 use Rattle.spa_filter.specs.declared.refused.Refused.{Refused}
 use Rattle.spa_filter.specs.declared.refused.Refused.TheVariants.{Apart, TooLarge, OutOfMemory}
 use Rattle.spa_filter.proofs.CommonPods.{plain_tree, plain_typed}

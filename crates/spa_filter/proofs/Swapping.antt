@@ -13,7 +13,7 @@ and_swapped false true h = refl
 and_swapped false false h = refl
 
 -- two values are supported in either order,
-AreSupported-swapped : (v w : Tree) → AreSupported v w → AreSupported w v
+pub AreSupported-swapped : (v w : Tree) → AreSupported v w → AreSupported w v
 AreSupported-swapped v w s =
     (s.1, s.0, (and_swapped (is_bounded v) (is_flags w) s.2.1, and_swapped (is_flags v) (is_bounded w) s.2.0))
 
@@ -29,7 +29,7 @@ module _ (v w : Tree) (own : plain_of w ≡ w) (alone : (x : Tree) → Admits w 
   back : (x : Tree) → IsCommon w v x → IsCommon v w x
   back x h = (h.1, h.0)
 
-  IsMeeting-swapped : (y : Tree) → IsMeeting v w y → IsMeeting w v y
+  pub IsMeeting-swapped : (y : Tree) → IsMeeting v w y → IsMeeting w v y
   IsMeeting-swapped y m =
       let is : plain_of y ≡ w = alone (plain_of y) m.admitted.1 in
       record {

@@ -160,7 +160,13 @@ fn put_choices(alloc: Global, out: &mut Vec<u8>, a: &[u8], b: &[u8]) -> Result<(
         SpaTypes::Int => put_over::<i32, ONE_WORD>(alloc, out, a, b, &mut [0; MOST]),
         SpaTypes::Long => put_over::<i64, TWO_WORDS>(alloc, out, a, b, &mut [0; MOST]),
         SpaTypes::Float => put_over::<Float32, ONE_WORD>(alloc, out, a, b, &mut [Float32(0); MOST]),
-        SpaTypes::Double => put_over::<Float64, TWO_WORDS>(alloc, out, a, b, &mut [Float64(0); MOST]),
+        SpaTypes::Double => put_over::<Float64, TWO_WORDS>(
+            alloc,
+            out,
+            a,
+            b,
+            &mut [Float64(0); MOST],
+        ),
         SpaTypes::Rectangle => put_over::<Rectangle, TWO_WORDS>(
             alloc,
             out,

@@ -1,22 +1,22 @@
 -- Two values that admit no value both, by their pods.
-use Rattle.std.proofs.Common.{◌≡◌, ◌≢◌, ◌&&◌, Bool, true, false, ℕ, ◌<◌, List, [], ◌∷◌, take, drop, refl, sym, ap, ◌∙◌, subst, arith}
+use Rattle.std.proofs.Common.{◌≡◌, ◌≢◌, ℕ, ◌<◌, List, [], ◌∷◌, take, drop, refl, sym, ap, ◌∙◌, subst, arith}
 use Rattle.std.specs.List.{All}
 use Rattle.std.proofs.lemmas.List.Elements.{All-cons, All-nil, All-contains}
 use Rattle.spa_format.specs.Words.{word_at}
 use Rattle.spa_format.specs.Kind.{Kind, none_kind, bool_kind, id_kind, int_kind, long_kind, float_kind, double_kind, rectangle_kind, fraction_kind, fd_kind, Fixed, body_size, kind_of, type_number}
 use Rattle.spa_format.specs.Tree.{Shape, none_choice, range_choice, step_choice, enum_choice, flags_choice, Tree, fixed, choice, choice_type, type_of}
-use Rattle.spa_format.specs.Pod.{AreElements, IsBody, IsChoice, IsPod, values_taken}
+use Rattle.spa_format.specs.Pod.{AreElements, IsBody, IsChoice, values_taken}
 use Rattle.spa_format.proofs.FixedKinds.{kind_of_content, number_is}
 use Rattle.spa_format.proofs.Shapes.{choice_only}
 use Rattle.spa_format.proofs.WordLemmas.{word_at-drop}
-use Rattle.spa_bytes.specs.Opening.{Opens}
 use Rattle.spa_filter_elements.proofs.Order.{kind_of-ordered}
 use Rattle.spa_filter_elements.proofs.Masks.{kind_of-among}
-use Rattle.spa_filter_offers.specs.Admits.{Admits, AdmitsContent, HasCommon, is_bounded, is_flags}
-use Rattle.spa_filter.specs.CommonPods.{AreApart, HasBody, IsCommonRefused, IsOfferRefused, IsOffered, IsOfOtherType}
+use Rattle.spa_filter_offers.specs.Admits.{Admits, AdmitsContent, HasCommon}
+use Rattle.spa_filter.specs.CommonPods.{HasBody, IsCommonRefused, IsOfferRefused, IsOfOtherType}
 use Rattle.spa_filter.specs.declared.refused.Refused.{Refused}
 use Rattle.spa_filter.specs.declared.refused.Refused.TheVariants.{Apart, TooLarge, OutOfMemory}
 use Rattle.spa_filter.proofs.CommonPods.{plain_tree, plain_typed}
+use Rattle.spa_filter.proofs.Swapping.{AreApart-swapped}
 
 -- each element of a body is of its kind
 all_kinds : (k : Kind) (xs : List Fixed) (b : List ℕ) → AreElements k xs b → All (λ y. kind_of y ≡ k) xs
@@ -70,11 +70,6 @@ choice_body w b h =
       its = c.5;
       content = subst (λ t. IsBody t b) c.5 h.content;
     }
-
--- the body of a choice's pod, opened
-pub opened_body : (v : Tree) (pod body rest : List ℕ) (type : ℕ) → IsPod pod v → Opens pod type body rest → type ≡ choice_type → HasBody v choice_type body
-opened_body v pod body rest type p o e =
-    record { its_type = sym p.its_type ∙ sym o.its_type ∙ e; content = subst (IsBody v) (sym o.its_body) p.content }
 
 -- the type of a choice's values
 pub choice_kind : (w : Tree) (b : List ℕ) (c : IsChoiceBody w b) → word_at b 12 ≡ type_number c.kind
@@ -130,27 +125,12 @@ no_choice_over w b n is n2 n3 n4 n5 n6 n7 n10 n11 n18 h =
     no_element c.kind c.content.values.elements.0 (λ e. n2 (same ∙ e)) (λ e. n3 (same ∙ e)) (λ e. n4 (same ∙ e)) (λ e. n5 (same ∙ e))
     (λ e. n6 (same ∙ e)) (λ e. n7 (same ∙ e)) (λ e. n10 (same ∙ e)) (λ e. n11 (same ∙ e)) (λ e. n18 (same ∙ e))
 
-and_swapped : (a b : Bool) → (a && b) ≡ false → (b && a) ≡ false
-and_swapped true true h = h
-and_swapped true false h = refl
-and_swapped false true h = refl
-and_swapped false false h = refl
-
--- two values are apart in either order
-pub apart_swapped : (v w : Tree) → AreApart w v → AreApart v w
-apart_swapped v w a s h =
-    a (s.1, s.0, (and_swapped (is_bounded v) (is_flags w) s.2.1, and_swapped (is_flags v) (is_bounded w) s.2.0)) (h.0, (h.1.1, h.1.0))
-
--- what is said of a body of this type and a choice's, where the one is offered by the other
-abbrev pub OffersAs : ℕ → List ℕ → List ℕ → Type 0
-OffersAs type b c = (v w : Tree) → HasBody v type b → HasBody w choice_type c → IsOffered v w
-
 -- a plain value and a choice over another type
-pub refused_plain : (type : ℕ) (b c : List ℕ) (e : Refused) → type ≢ choice_type → IsOfOtherType type c e →
+pub refused_plain : (type other : ℕ) (b c : List ℕ) (e : Refused) → type ≡ other → type ≢ choice_type → IsOfOtherType other c e →
     (v w : Tree) → HasBody v type b → HasBody w choice_type c → IsOfferRefused v w e
-refused_plain type b c Apart n o v w h i = λ s k. o w i (sym (plain_common v w type b c n h i k))
-refused_plain type b c TooLarge n o v w h i = absurd o
-refused_plain type b c OutOfMemory n o v w h i = tt
+refused_plain type other b c Apart same n o v w h i = λ s k. o w i (sym (plain_common v w type b c n h i k) ∙ same)
+refused_plain type other b c TooLarge same n o v w h i = absurd o
+refused_plain type other b c OutOfMemory same n o v w h i = tt
 
 -- two choices over two types
 pub refused_choices : (type : ℕ) (b c : List ℕ) (e : Refused) → word_at b 12 ≡ type → IsOfOtherType type c e →
@@ -167,6 +147,6 @@ refused_first v w OutOfMemory r = tt
 
 -- in either order
 pub refused_second : (v w : Tree) (e : Refused) → IsOfferRefused w v e → IsCommonRefused v w e
-refused_second v w Apart r = apart_swapped v w r
+refused_second v w Apart r = AreApart-swapped w v r
 refused_second v w TooLarge r = absurd r
 refused_second v w OutOfMemory r = tt

@@ -21,6 +21,7 @@ use Rattle.spa_keyed_objects.specs.CanonicalPods.{IsCanonicalPod}
 use Rattle.spa_filter.specs.declared.refused.Refused.{Refused}
 use Rattle.spa_filter.specs.declared.refused.Refused.TheVariants.{Apart, TooLarge, OutOfMemory}
 use Rattle.spa_filter.proofs.Plain.{IsPlainTree, IsMeeting-same, none-apart}
+use Rattle.spa_filter.proofs.Swapping.{AreSupported-swapped, IsMeeting-swapped}
 
 -- a pod of a choice without flags, as it is written
 zero_kept : (s : Shape) (f : ℕ) → f ≡ 0 → kept_flags s f ≡ f
@@ -123,25 +124,7 @@ false_and : (b c : Bool) → b ≡ false → (b && c) ≡ false
 false_and true c e = cc
 false_and false c e = refl
 
--- the plain value of a first side that the second admits
-pub appended_first : (v w : Tree) (pod old new : List ℕ) → IsOffered v w → IsCanonicalPod v pod → new ≡ old ++ pod → IsCommonAppended v w old new
-appended_first v w pod old new o h p =
-    let t = plain_tree v o.plain in
-    let both : IsCommon v w v = (t.itself, o.admitted) in
-    record {
-      value = v;
-      supported = (t.supported, o.supported, (false_and _ _ t.unflagged, false_and _ _ t.unbounded));
-      meeting = record {
-        each = λ x. (λ a. (a, subst (Admits w) (sym (t.alone x a)) o.admitted), λ a. a.0);
-        admitted = subst (IsCommon v w) (sym t.own) both;
-        first = λ a. refl;
-        second = λ n a. absurd (n (subst (IsCommon v w) (sym t.own) both));
-        no_flags = t.no_flags;
-      };
-      appended = record { pod = pod; written = h; parts = p };
-    }
-
--- and that of a second side that the first admits
+-- the plain value of a second side that the first admits
 pub appended_second : (v w : Tree) (pod old new : List ℕ) → IsOffered w v → IsCanonicalPod w pod → new ≡ old ++ pod → IsCommonAppended v w old new
 appended_second v w pod old new o h p =
     let t = plain_tree w o.plain in
@@ -157,6 +140,18 @@ appended_second v w pod old new o h p =
         no_flags = t.no_flags;
       };
       appended = record { pod = pod; written = h; parts = p };
+    }
+
+-- and that of a first side that the second admits
+pub appended_first : (v w : Tree) (pod old new : List ℕ) → IsOffered v w → IsCanonicalPod v pod → new ≡ old ++ pod → IsCommonAppended v w old new
+appended_first v w pod old new o h p =
+    let t = plain_tree v o.plain in
+    let a = appended_second w v pod old new o h p in
+    record {
+      value = a.value;
+      supported = AreSupported-swapped w v a.supported;
+      meeting = IsMeeting-swapped w v t.own t.alone a.value a.meeting;
+      appended = a.appended;
     }
 
 -- two plain values whose pods are the same

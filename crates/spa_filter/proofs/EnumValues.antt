@@ -3,13 +3,13 @@ use Rattle.std.proofs.Common.{◌≡◌, ◌↔◌, false, ℕ, ◌≤◌, List,
 use Rattle.std.specs.Prelude.{slice_get}
 use Rattle.std.specs.List.{Contains}
 use Rattle.spa_format.specs.Words.{word_at}
-use Rattle.spa_format.specs.Kind.{Kind, Fixed, content, body_size, type_number}
+use Rattle.spa_format.specs.Kind.{Kind, Fixed, content, body_size, kind_of, type_number}
 use Rattle.spa_format.specs.Tree.{Tree, choice, enum_choice, choice_type, fixed, type_of}
 use Rattle.spa_format.specs.Pod.{AreElements, IsArray, IsBody}
 use Rattle.spa_format.proofs.Unique.{same_body}
 use Rattle.spa_fixed_sized.specs.Choices.{choice_enum_tree}
 use Rattle.spa_utils.specs.declared.choice.ChoiceEnum.{ChoiceEnum}
-use Rattle.spa_filter_offers.specs.Admits.{AreSayable, IsMeeting, IsSupported, is_bounded, is_flags}
+use Rattle.spa_filter_offers.specs.Admits.{AreSayable, AreSupported, IsMeeting, IsSupported, is_bounded, is_flags}
 use Rattle.spa_filter_offers.specs.Offers.{IsDefault, IsKept, IsOffer, IsOfferOf, MeetsIn, OfferAdmits, default_of}
 use Rattle.spa_filter_offers.specs.declared.offer.Offer.{Offer}
 use Rattle.spa_filter.specs.CommonPods.{AreBoth, AreEnumValues, HasBody, IsCommonAppended, IsCommonRefused, IsCommonTooLarge, IsMetAppended, IsMetRefused, IsUnwritten}
@@ -18,8 +18,8 @@ use Rattle.spa_filter.specs.declared.refused.Refused.TheVariants.{Apart, TooLarg
 use Rattle.spa_filter.proofs.CommonPods.{and_false, appended_over, choice_typed, none_over}
 use Rattle.spa_filter_offers.proofs.Contents.{Contains-first, not_among}
 use Rattle.spa_filter_offers.proofs.Meetings.{IsOffer-content, MeetsIn-among}
-use Rattle.spa_filter_offers.proofs.Offering.{only_by}
-use Rattle.spa_filter.proofs.Outcomes.{IsMeeting-offers, ValuesMeet-offers}
+use Rattle.spa_filter_offers.proofs.Offering.{IsSupported-admits, only_by}
+use Rattle.spa_filter.proofs.Outcomes.{IsMeeting-offers, none_common}
 
 -- the body of an Enum, from its values
 pub enum_body : (k : Kind) (default : Fixed) (others : List Fixed) (array elements body : List ℕ) → 16 ≤ length body → word_at body 0 ≡ 3 →
@@ -68,7 +68,7 @@ pub record IsSideOf (P : Fixed → Type 0) (d : Fixed) (body : List ℕ) : Type 
   pub tree : Tree
   pub its_type : type_of tree ≡ choice_type
   pub its_body : IsBody tree body
-  pub supported : IsSupported tree
+  pub supported : (x : Fixed) → P x → IsSupported tree
   pub offers : IsOffer tree P d
 
 -- that of an Enum,
@@ -80,7 +80,7 @@ enum_side k d values body p =
       tree = t;
       its_type = refl;
       its_body = p.its_body;
-      supported = tt;
+      supported = λ x h. tt;
       offers = subst (λ xs. IsOffer t (Contains xs) d) (sym p.contents) (enum_offer p.flags k d p.others);
     }
 
@@ -97,10 +97,16 @@ enum_second k d values body p u = (and_false (is_flags u) false refl, and_false 
 
 -- and one that was read
 pub read_side : {T : Type 0} (k : Kind) (f : T → Fixed) (n : ℕ) (e : ChoiceEnum T) (offer : Offer T) (body : List ℕ) →
-    IsBody (choice_enum_tree k f n e) body → IsSupported (choice_enum_tree k f n e) → IsOfferOf f (choice_enum_tree k f n e) offer →
+    IsBody (choice_enum_tree k f n e) body → ((x : T) → kind_of (f x) ≡ k) → IsOfferOf f (choice_enum_tree k f n e) offer →
     IsSideOf (OfferAdmits f offer) (default_of f offer) body
-read_side k f n e offer body h s o =
-    record { tree = choice_enum_tree k f n e; its_type = choice_typed k f n e; its_body = h; supported = s; offers = o }
+read_side k f n e offer body h its o =
+    record {
+      tree = choice_enum_tree k f n e;
+      its_type = choice_typed k f n e;
+      its_body = h;
+      supported = λ x a. IsSupported-admits k f its n e x ((o.each x).1 a);
+      offers = o;
+    }
 
 -- what two choices filter to, by what both admit
 module _ (P Q : Fixed → Type 0) (d e : Fixed) (v w : Tree) (a b : List ℕ) (p : IsSideOf P d a) (q : IsSideOf Q e b) (s : AreSayable p.tree q.tree)
@@ -114,17 +120,20 @@ module _ (P Q : Fixed → Type 0) (d e : Fixed) (v w : Tree) (a b : List ℕ) (p
   meeting : (y : Tree) → MeetsIn P Q d e y → IsMeeting p.tree q.tree y
   meeting y m = IsMeeting-offers p.tree q.tree P Q d e p.offers q.offers y m
 
+  supported : (y : Tree) → MeetsIn P Q d e y → AreSupported p.tree q.tree
+  supported y m = (p.supported m.default m.is_default.admitted.0, q.supported m.default m.is_default.admitted.1, s)
+
   pub appended_sides : (old new : List ℕ) → IsMetAppended P Q d e old new → IsCommonAppended v w old new
   appended_sides old new m =
-      appended_over v w p.tree q.tree m.value a b old new h i p.its_type q.its_type p.its_body q.its_body (p.supported, q.supported, s)
+      appended_over v w p.tree q.tree m.value a b old new h i p.its_type q.its_type p.its_body q.its_body (supported m.value m.meets)
       (meeting m.value m.meets) m.appended
 
   pub refused_sides : (why : Refused) → IsMetRefused P Q d e why → IsCommonRefused v w why
   refused_sides Apart r =
-      λ t k. none_over v w p.tree q.tree ours theirs (ValuesMeet-offers p.tree q.tree P Q d e p.offers q.offers None r) k
+      λ t k. none_over v w p.tree q.tree ours theirs (none_common p.tree q.tree P Q d e p.offers q.offers r) k
   refused_sides TooLarge r =
       let too : IsCommonTooLarge p.tree q.tree =
-      record { value = r.0; supported = (p.supported, q.supported, s); meeting = meeting r.0 r.1; large = r.2 } in
+      record { value = r.0; supported = supported r.0 r.1; meeting = meeting r.0 r.1; large = r.2 } in
       subst (λ t. IsCommonTooLarge t w) ours (subst (IsCommonTooLarge p.tree) theirs too)
   refused_sides OutOfMemory r = tt
 

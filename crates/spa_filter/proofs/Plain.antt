@@ -9,12 +9,6 @@ use Rattle.spa_value.specs.declared.value.Value.TheVariants as V
 use Rattle.spa_value.specs.View.{view, array_view}
 use Rattle.spa_filter_offers.specs.Admits.{plain_of, choice_flags_of}
 use Rattle.spa_filter_offers.specs.Admits.{Admits, IsSupported, HasCommon, IsMeeting, is_flags, is_bounded}
-use Rattle.spa_filter.specs.Values.{IsPlainView}
-
--- a value of another variant than a choice
-pub IsPlainView-other : (v : Value) → ((c : _) → v ≢ V.Choice c) → IsPlainView v
-IsPlainView-other (V.Choice c) n = absurd (n c refl)
-IsPlainView-other _ n = tt
 
 -- its tree is supported, its own default, and admits itself alone
 pub record IsPlainTree (t : Tree) : Type 0 where
@@ -30,11 +24,12 @@ plain_array : (a : ValueArray) → IsPlainTree (array_view a)
 plain_array (A.None xs) = record { supported = tt; own = refl; alone = λ x h. h; itself = refl; unflagged = refl; unbounded = refl; no_flags = refl }
 plain_array _ = record { supported = tt; own = refl; alone = λ x h. h; itself = refl; unflagged = refl; unbounded = refl; no_flags = refl }
 
-pub IsPlainTree-view : (v : Value) → IsPlainView v → IsPlainTree (view v)
-IsPlainTree-view (V.Choice c) h = absurd h
-IsPlainTree-view (V.ValueArray a) h = plain_array a
-IsPlainTree-view (V.Object (Object' t n s ps)) h = record { supported = tt; own = refl; alone = λ x h. h; itself = refl; unflagged = refl; unbounded = refl; no_flags = refl }
-IsPlainTree-view _ h = record { supported = tt; own = refl; alone = λ x h. h; itself = refl; unflagged = refl; unbounded = refl; no_flags = refl }
+-- such is that of another variant than a choice
+pub IsPlainTree-view : (v : Value) → ((c : _) → v ≢ V.Choice c) → IsPlainTree (view v)
+IsPlainTree-view (V.Choice c) n = absurd (n c refl)
+IsPlainTree-view (V.ValueArray a) n = plain_array a
+IsPlainTree-view (V.Object (Object' t i s ps)) n = record { supported = tt; own = refl; alone = λ x h. h; itself = refl; unflagged = refl; unbounded = refl; no_flags = refl }
+IsPlainTree-view _ n = record { supported = tt; own = refl; alone = λ x h. h; itself = refl; unflagged = refl; unbounded = refl; no_flags = refl }
 
 -- two plain values meet where they are the same,
 IsMeeting-itself : (v : Tree) → IsPlainTree v → IsMeeting v v v

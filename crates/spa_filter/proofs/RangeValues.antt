@@ -1,5 +1,5 @@
 -- Ranges, by their borrowed bodies.
-use Rattle.std.proofs.Common.{◌≡◌, ◌↔◌, ℕ, List, [], ◌∷◌, refl, sym, subst, None}
+use Rattle.std.proofs.Common.{◌≡◌, ◌↔◌, ℕ, List, [], ◌∷◌, refl, sym, subst}
 use Rattle.spa_format.specs.Kind.{Kind, Fixed}
 use Rattle.spa_format.specs.Tree.{Tree, choice, range_choice, choice_type}
 use Rattle.spa_format.specs.Writable.{IsTooLarge}
@@ -14,7 +14,7 @@ use Rattle.spa_filter.specs.CommonPods.{HasBody, IsAppended, IsCommonAppended, I
 use Rattle.spa_filter.specs.declared.refused.Refused.{Refused}
 use Rattle.spa_filter.specs.declared.refused.Refused.TheVariants.{Apart, TooLarge, OutOfMemory}
 use Rattle.spa_filter.proofs.CommonPods.{appended_over, none_over}
-use Rattle.spa_filter.proofs.Outcomes.{IsMeeting-offers, ValuesMeet-offers}
+use Rattle.spa_filter.proofs.Outcomes.{IsMeeting-offers, none_common}
 
 -- a Range with these bounds
 abbrev pub range : ℕ → Kind → (d low high : Fixed) → Tree
@@ -46,8 +46,8 @@ module _ (k : Kind) (v w : Tree) (d l h e m n : Fixed) (a b : List ℕ) (p : IsR
     pub no_range : ¬ (IsAtMost low high) → ¬ (HasCommon v w)
     no_range none =
         none_over v w (range p.flags k d l h) (range q.flags k e m n) ours theirs
-        (ValuesMeet-offers (range p.flags k d l h) (range q.flags k e m n) (IsWithin l h) (IsWithin m n) d e (range_offer p.flags k d l h)
-        (range_offer q.flags k e m n) None (none-between (IsWithin l h) (IsWithin m n) low high each none))
+        (none_common (range p.flags k d l h) (range q.flags k e m n) (IsWithin l h) (IsWithin m n) d e (range_offer p.flags k d l h)
+        (range_offer q.flags k e m n) (none-between (IsWithin l h) (IsWithin m n) low high each none))
 
     -- a Range of them
     module _ (x : Fixed) (o : IsDefault (IsWithin low high) (IsWithin low high) d e x) (ordered : IsOrderedKind k) where

@@ -5,10 +5,11 @@ use Rattle.spa_format.specs.Kind.{Kind, Fixed, content}
 use Rattle.spa_format.specs.Tree.{Tree, choice, choice_type, enum_choice, range_choice, type_of}
 use Rattle.spa_format.specs.Pod.{IsBody}
 use Rattle.spa_format.specs.Writable.{IsTooLarge}
-use Rattle.spa_filter_offers.specs.Admits.{Admits, AreSupported, HasCommon, IsMeeting, IsPlain, IsSupported}
+use Rattle.spa_filter_offers.specs.Admits.{Admits, AreSupported, IsMeeting, IsPlain, IsSupported}
 use Rattle.spa_filter_offers.specs.Offers.{MeetsIn, OfferAdmits, default_of}
 use Rattle.spa_keyed_objects.specs.CanonicalPods.{IsCanonicalPod}
 use Rattle.spa_filter.specs.Refusals.{IsValueRefusal}
+use Rattle.spa_filter.specs.Values.{AreApart}
 use Rattle.spa_filter.specs.declared.error.FilterError.{FilterError}
 use Rattle.spa_filter.specs.declared.error.FilterError.TheVariants as error
 use Rattle.spa_filter.specs.declared.enums.Side.{Side}
@@ -85,10 +86,6 @@ IsMetRefused P Q d e OutOfMemory = ⊤
 pub record IsRangeBody (k : Kind) (default low high : Fixed) (body : List ℕ) : Type 0 where
   pub flags : ℕ
   pub its_body : IsBody (choice range_choice flags k default (low ∷ high ∷ [])) body
-
--- the two aren't supported, or no value is admitted by both
-abbrev pub AreApart : Tree → Tree → Type 0
-AreApart v w = AreSupported v w → ¬ (HasCommon v w)
 
 -- the two are supported and filter to a value in whose encoding a size doesn't fit a word of 32 bits
 pub record IsCommonTooLarge (v w : Tree) : Type 0 where

@@ -10,9 +10,9 @@ ghost use Rattle.spa_filter_offers.specs.Admits.{Admits, choice_flags_of};
 ghost use Rattle.spa_filter.specs.CommonPods.{HasBody, IsAppended, IsCommonAppended, IsCommonRefused, IsOfOtherType, IsUnwritten};
 
 use crate::refused::Refused;
-use crate::values::are_meetable;
+use crate::values::choices_meet;
 use spa_bytes::{HEADER_LEN, SECOND_WORD, u32_at};
-use spa_filter_offers::{Element, meet, offer_of};
+use spa_filter_offers::Element;
 use spa_fixed_sized::{put_choice, put_enum, put_fixed, read_choice};
 use spa_sink::GenError;
 use spa_utils::Choice;
@@ -55,10 +55,7 @@ pub(crate) fn put_read<T: Element>(
 {
     let ours = choice_over::<T>(alloc, a)?;
     let theirs = choice_over::<T>(alloc, b)?;
-    if !are_meetable(&ours, &theirs) {
-        return Err(Refused::Apart);
-    }
-    let Ok(met) = meet(alloc, &offer_of(&ours.1), &offer_of(&theirs.1)) else {
+    let Ok(met) = choices_meet(alloc, &ours, &theirs) else {
         return Err(Refused::OutOfMemory);
     };
     match met {

@@ -2,7 +2,7 @@
 ghost use Rattle.std.specs.Prelude.{◌≡◌, ◌≢◌, ◌++◌, IfErr, OnOk};
 ghost use Rattle.spa_format.specs.Tree.{Tree, choice_type};
 ghost use Rattle.spa_format.specs.Words.{word_at};
-ghost use Rattle.spa_filter.specs.CommonPods.{AreApart, HasBody, IsCommonAppended, IsCommonRefused, IsOfferRefused, IsOffered, IsPodRefusal};
+ghost use Rattle.spa_filter.specs.CommonPods.{HasBody, IsCommonAppended, IsCommonRefused, IsOfferRefused, IsOffered, IsPodRefusal};
 ghost use Rattle.spa_keyed_objects.specs.CanonicalPods.{IsCanonicalPod};
 ghost use Rattle.spa_filter.specs.declared.refused.Refused.TheVariants.{OutOfMemory};
 
@@ -11,9 +11,7 @@ use crate::enums::{MOST, is_enum, is_short_enum, is_value_of, put_enum_first, pu
 use crate::error::FilterError;
 use crate::ranges::{is_range, put_ranges};
 use crate::refused::Refused;
-use crate::support::are_supported;
-use crate::types::{BOOL, DOUBLE, FD, FLOAT, FRACTION, ID, INT, LONG, RECTANGLE};
-use crate::values::is_shape_supported;
+use crate::support::{form_in, refusal};
 use spa_bytes::{HEADER_LEN, SECOND_WORD, open, u32_at};
 use spa_filter_offers::{Element, admits, offer_of};
 use spa_utils::{Fd, Float32, Float64, Fraction, Id, Rectangle, SpaTypes};
@@ -44,22 +42,9 @@ pub fn put_common(
 {
     match put_met(alloc, out, a, b) {
         Ok(()) => Ok(()),
-        Err(Refused::Apart) => Err(refusal(key, a, b)),
+        Err(Refused::Apart) => Err(refusal(key, form_in(a), form_in(b))),
         Err(Refused::TooLarge) => Err(FilterError::TooLarge),
         Err(Refused::OutOfMemory) => Err(FilterError::OutOfMemory),
-    }
-}
-
-/// The refusal of the values of two pods, for which no common value was found: `Unsupported` or `Disjoint`.
-#[inline(never)]
-fn refusal(key: u32, a: &[u8], b: &[u8]) -> FilterError
-    ensures { (v w : Tree) → IsCanonicalPod v a.now → IsCanonicalPod w b.now → AreApart v w
-        → IsPodRefusal key v w result }
-{
-    if are_supported(a, b) {
-        FilterError::Disjoint(key)
-    } else {
-        FilterError::Unsupported(key)
     }
 }
 
@@ -114,31 +99,32 @@ fn is_offered(alloc: Global, type_: u32, body: &[u8], choice: &[u8]) -> Result<(
     ensures cause { IfErr result (λ e. (v w : Tree) → HasBody v type_ body.now → HasBody w choice_type choice.now
         → IsOfferRefused v w e) }
 {
-    match type_ {
-        BOOL => is_offered_over::<bool, ONE_WORD>(alloc, body, choice),
-        ID => is_offered_over::<Id, ONE_WORD>(alloc, body, choice),
-        INT => is_offered_over::<i32, ONE_WORD>(alloc, body, choice),
-        LONG => is_offered_over::<i64, TWO_WORDS>(alloc, body, choice),
-        FLOAT => is_offered_over::<Float32, ONE_WORD>(alloc, body, choice),
-        DOUBLE => is_offered_over::<Float64, TWO_WORDS>(alloc, body, choice),
-        RECTANGLE => is_offered_over::<Rectangle, TWO_WORDS>(alloc, body, choice),
-        FRACTION => is_offered_over::<Fraction, TWO_WORDS>(alloc, body, choice),
-        FD => is_offered_over::<Fd, TWO_WORDS>(alloc, body, choice),
+    match SpaTypes(type_) {
+        SpaTypes::Bool => is_offered_over::<bool, ONE_WORD>(alloc, type_, body, choice),
+        SpaTypes::Id => is_offered_over::<Id, ONE_WORD>(alloc, type_, body, choice),
+        SpaTypes::Int => is_offered_over::<i32, ONE_WORD>(alloc, type_, body, choice),
+        SpaTypes::Long => is_offered_over::<i64, TWO_WORDS>(alloc, type_, body, choice),
+        SpaTypes::Float => is_offered_over::<Float32, ONE_WORD>(alloc, type_, body, choice),
+        SpaTypes::Double => is_offered_over::<Float64, TWO_WORDS>(alloc, type_, body, choice),
+        SpaTypes::Rectangle => is_offered_over::<Rectangle, TWO_WORDS>(alloc, type_, body, choice),
+        SpaTypes::Fraction => is_offered_over::<Fraction, TWO_WORDS>(alloc, type_, body, choice),
+        SpaTypes::Fd => is_offered_over::<Fd, TWO_WORDS>(alloc, type_, body, choice),
         _ => Err(Refused::Apart),
     }
 }
 
 /// Checks that the element of the type `T`, whose bodies have `N` bytes, with this body is one that the choice of the other body admits, with the
-/// refusals of `is_offered`.
+/// refusals of `is_offered`. `type_` is the number of the type; only the contract uses it.
 fn is_offered_over<T: Element, const N: usize>(
     alloc: Global,
+    type_: u32,
     body: &[u8],
     choice: &[u8],
 ) -> Result<(), Refused>
-    requires { T.SIZE ≡ N }
-    ensures offered { OnOk result ((v w : Tree) → HasBody v T.TYPE body.now → HasBody w choice_type choice.now
+    requires { (type_ ≡ T.TYPE) × (T.SIZE ≡ N) }
+    ensures offered { OnOk result ((v w : Tree) → HasBody v type_ body.now → HasBody w choice_type choice.now
         → IsOffered v w) }
-    ensures cause { IfErr result (λ e. (v w : Tree) → HasBody v T.TYPE body.now → HasBody w choice_type choice.now
+    ensures cause { IfErr result (λ e. (v w : Tree) → HasBody v type_ body.now → HasBody w choice_type choice.now
         → IsOfferRefused v w e) }
 {
     if body.len() != T::SIZE {
@@ -152,9 +138,6 @@ fn is_offered_over<T: Element, const N: usize>(
         return Err(Refused::Apart);
     }
     let choice = choice_over::<T>(alloc, choice)?;
-    if !is_shape_supported(&choice) {
-        return Err(Refused::Apart);
-    }
     if !admits(&offer_of(&choice.1), &x) {
         return Err(Refused::Apart);
     }
@@ -171,14 +154,20 @@ fn put_choices(alloc: Global, out: &mut Vec<u8>, a: &[u8], b: &[u8]) -> Result<(
     if a.len() < VALUES_AT {
         return Err(Refused::Apart);
     }
-    match u32_at(a, HEADER_LEN + SECOND_WORD) {
-        BOOL => put_over::<bool, ONE_WORD>(alloc, out, a, b, &mut [false; MOST]),
-        ID => put_over::<Id, ONE_WORD>(alloc, out, a, b, &mut [Id(0); MOST]),
-        INT => put_over::<i32, ONE_WORD>(alloc, out, a, b, &mut [0; MOST]),
-        LONG => put_over::<i64, TWO_WORDS>(alloc, out, a, b, &mut [0; MOST]),
-        FLOAT => put_over::<Float32, ONE_WORD>(alloc, out, a, b, &mut [Float32(0); MOST]),
-        DOUBLE => put_over::<Float64, TWO_WORDS>(alloc, out, a, b, &mut [Float64(0); MOST]),
-        RECTANGLE => put_over::<Rectangle, TWO_WORDS>(
+    match SpaTypes(u32_at(a, HEADER_LEN + SECOND_WORD)) {
+        SpaTypes::Bool => put_over::<bool, ONE_WORD>(alloc, out, a, b, &mut [false; MOST]),
+        SpaTypes::Id => put_over::<Id, ONE_WORD>(alloc, out, a, b, &mut [Id(0); MOST]),
+        SpaTypes::Int => put_over::<i32, ONE_WORD>(alloc, out, a, b, &mut [0; MOST]),
+        SpaTypes::Long => put_over::<i64, TWO_WORDS>(alloc, out, a, b, &mut [0; MOST]),
+        SpaTypes::Float => put_over::<Float32, ONE_WORD>(alloc, out, a, b, &mut [Float32(0); MOST]),
+        SpaTypes::Double => put_over::<Float64, TWO_WORDS>(
+            alloc,
+            out,
+            a,
+            b,
+            &mut [Float64(0); MOST],
+        ),
+        SpaTypes::Rectangle => put_over::<Rectangle, TWO_WORDS>(
             alloc,
             out,
             a,
@@ -188,14 +177,14 @@ fn put_choices(alloc: Global, out: &mut Vec<u8>, a: &[u8], b: &[u8]) -> Result<(
                 height: 0,
             }; MOST],
         ),
-        FRACTION => put_over::<Fraction, TWO_WORDS>(
+        SpaTypes::Fraction => put_over::<Fraction, TWO_WORDS>(
             alloc,
             out,
             a,
             b,
             &mut [Fraction { num: 0, denom: 0 }; MOST],
         ),
-        FD => put_over::<Fd, TWO_WORDS>(alloc, out, a, b, &mut [Fd(0); MOST]),
+        SpaTypes::Fd => put_over::<Fd, TWO_WORDS>(alloc, out, a, b, &mut [Fd(0); MOST]),
         _ => Err(Refused::Apart),
     }
 }

@@ -8,7 +8,6 @@ ghost use Rattle.spa_filter_offers.specs.Offers.{IsDefault, IsKept, IsOneMoreKep
 
 use crate::choices::{choice_over, put_element, put_enum_of, put_read};
 use crate::refused::Refused;
-use crate::values::is_shape_supported;
 use spa_bytes::{HEADER_LEN, SECOND_WORD, u32_at};
 use spa_filter_offers::{Element, Offer, admits, default_of, is_among, is_same, offer_of};
 use spa_fixed_sized::{ENUM_SHAPE, open_array};
@@ -247,9 +246,6 @@ fn put_values_first<T: Element, const N: usize>(
         → IsCommonRefused v w e) }
 {
     let choice = choice_over::<T>(alloc, b)?;
-    if !is_shape_supported(&choice) {
-        return Err(Refused::Apart);
-    }
     let first = Side::Values(ours.0, ours.1);
     let second = Side::Offered(offer_of(&choice.1));
     put_sides(out, &first, &second, ours.1, &second, room)
@@ -302,9 +298,6 @@ pub(crate) fn put_enum_second<T: Element, const N: usize>(
         return put_read::<T>(alloc, out, a, b);
     };
     let choice = choice_over::<T>(alloc, a)?;
-    if !is_shape_supported(&choice) {
-        return Err(Refused::Apart);
-    }
     let first = Side::Offered(offer_of(&choice.1));
     let second = Side::Values(theirs.0, theirs.1);
     put_sides(out, &first, &second, theirs.1, &first, room)

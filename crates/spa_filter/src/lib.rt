@@ -11,7 +11,6 @@ mod ranges;
 mod refused;
 mod settling;
 mod support;
-mod types;
 mod values;
 
 pub use common_pods::put_common;

@@ -82,9 +82,6 @@ pub(crate) fn put_ranges<T: Element>(
     let Some(theirs) = range_of::<T>(alloc, b) else {
         return put_read::<T>(alloc, out, a, b);
     };
-    if !T::is_ordered() {
-        return Err(Refused::Apart);
-    }
     let low = ours.min.greater(&theirs.min);
     let high = ours.max.lesser(&theirs.max);
     if !low.is_at_most(&high) {

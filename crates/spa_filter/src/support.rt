@@ -1,89 +1,93 @@
-//! Whether a common value is sought for two values, by their borrowed pods.
-ghost use Rattle.std.specs.Prelude.{◌≡◌, ◌↔◌, IsTrue, List, ℕ};
-ghost use Rattle.spa_format.specs.Kind.{Fixed, Kind, type_number};
-ghost use Rattle.spa_format.specs.Pod.{IsPod};
-ghost use Rattle.spa_format.specs.Tree.{Shape, Tree, choice, shape_number};
+//! Whether a common value is sought for two values, by their forms.
+ghost use Rattle.std.specs.Prelude.{◌≡◌, ◌↔◌, IsTrue};
+ghost use Rattle.spa_format.specs.Kind.{Kind, type_number};
+ghost use Rattle.spa_format.specs.Tree.{Tree};
 ghost use Rattle.spa_filter_offers.specs.Admits.{AreSupported, IsSupported, is_bounded, is_flags};
+ghost use Rattle.spa_filter_offers.specs.Forms.{IsFormOf};
 ghost use Rattle.spa_filter_elements.specs.Flags.{IsFlagKind};
 ghost use Rattle.spa_filter_elements.specs.Order.{IsOrderedKind};
 ghost use Rattle.spa_filter_elements.specs.Steps.{IsStepKind};
+ghost use Rattle.spa_keyed_objects.specs.CanonicalPods.{IsCanonicalPod};
+ghost use Rattle.spa_filter.specs.CommonPods.{IsPodRefusal};
+ghost use Rattle.spa_filter.specs.Refusals.{IsValueRefusal};
+ghost use Rattle.spa_filter.specs.Values.{AreApart};
 
 use crate::choices::VALUES_AT;
-use crate::values::are_both;
+use crate::error::FilterError;
 use spa_bytes::{HEADER_LEN, SECOND_WORD, open, u32_at};
+use spa_filter_offers::Form;
 use spa_fixed_sized::{FLAGS_SHAPE, RANGE_SHAPE, STEP_SHAPE};
 use spa_utils::SpaTypes;
 
-/// What decides whether a common value is sought for a value and another.
-#[derive(Clone, Copy)]
-struct Support {
-    /// Whether a common value is sought for it at all.
-    is_supported: bool,
-    /// Whether it is a Flags choice.
-    is_flags: bool,
-    /// Whether it is a Range or a Step choice.
-    is_bounded: bool,
+/// The refusal of two values of these forms, which have no value in common: `Unsupported` or `Disjoint`.
+#[inline(never)]
+pub(crate) fn refusal(key: u32, a: Form, b: Form) -> FilterError
+    ensures values { (v w : Tree) → IsFormOf v a → IsFormOf w b → AreApart v w → IsValueRefusal key v w result }
+    ensures pods { (v w : Tree) → IsFormOf v a → IsFormOf w b → AreApart v w → IsPodRefusal key v w result }
+{
+    if are_supported(a, b) {
+        FilterError::Disjoint(key)
+    } else {
+        FilterError::Unsupported(key)
+    }
 }
 
-/// Whether a common value is sought for the values of two pods.
-pub(crate) fn are_supported(a: &[u8], b: &[u8]) -> bool
-    ensures { (v w : Tree) → IsPod a.now v → IsPod b.now w → IsTrue result ↔ AreSupported v w }
+/// The form of the value of a canonical pod.
+pub(crate) fn form_in(pod: &[u8]) -> Form
+    ensures { (v : Tree) → IsCanonicalPod v pod.now → IsFormOf v result }
 {
-    let ours = support_of(a);
-    let theirs = support_of(b);
-    if !are_both(ours.is_supported, theirs.is_supported) {
+    let Some(front) = open(pod) else {
+        return Form::PLAIN;
+    };
+    if front.type_ != SpaTypes::Choice.0 || front.body.len() < VALUES_AT {
+        return Form::PLAIN;
+    }
+    Form {
+        shape: u32_at(front.body, 0),
+        type_: u32_at(front.body, HEADER_LEN + SECOND_WORD),
+    }
+}
+
+/// Whether a common value is sought for two values of these forms: not for Flags beside a Range or a Step.
+fn are_supported(a: Form, b: Form) -> bool
+    ensures { (v w : Tree) → IsFormOf v a → IsFormOf w b → IsTrue result ↔ AreSupported v w }
+{
+    if !is_supported(a) || !is_supported(b) {
         return false;
     }
-    if are_both(ours.is_flags, theirs.is_bounded) {
+    if is_flags(a) && is_bounded(b) {
         return false;
     }
-    if are_both(ours.is_bounded, theirs.is_flags) {
+    if is_bounded(a) && is_flags(b) {
         return false;
     }
     true
 }
 
-/// The `Support` of the value of a pod.
-fn support_of(pod: &[u8]) -> Support
-    ensures supported { (v : Tree) → IsPod pod.now v → IsTrue result.is_supported ↔ IsSupported v }
-    ensures flags { (v : Tree) → IsPod pod.now v → result.is_flags ≡ is_flags v }
-    ensures bounded { (v : Tree) → IsPod pod.now v → result.is_bounded ≡ is_bounded v }
+/// Whether a common value is sought for a value of this form.
+fn is_supported(form: Form) -> bool
+    ensures { (v : Tree) → IsFormOf v form → IsTrue result ↔ IsSupported v }
 {
-    let plain = Support {
-        is_supported: true,
-        is_flags: false,
-        is_bounded: false,
-    };
-    let Some(front) = open(pod) else {
-        return plain;
-    };
-    if front.type_ != SpaTypes::Choice.0 || front.body.len() < VALUES_AT {
-        return plain;
+    match form.shape {
+        RANGE_SHAPE => has_order(form.type_),
+        STEP_SHAPE => has_steps(form.type_),
+        FLAGS_SHAPE => may_be_flags(form.type_),
+        _ => true,
     }
-    let type_ = u32_at(front.body, HEADER_LEN + SECOND_WORD);
-    support_over(u32_at(front.body, 0), type_)
 }
 
-/// The `Support` of a choice of this shape over values of this type.
-fn support_over(shape: u32, type_: u32) -> Support
-    ensures supported { (s : Shape) (f : ℕ) (k : Kind) (d : Fixed) (vs : List Fixed) → shape ≡ shape_number s
-        → type_ ≡ type_number k → IsTrue result.is_supported ↔ IsSupported (choice s f k d vs) }
-    ensures flags { (s : Shape) (f : ℕ) (k : Kind) (d : Fixed) (vs : List Fixed) → shape ≡ shape_number s
-        → result.is_flags ≡ is_flags (choice s f k d vs) }
-    ensures bounded { (s : Shape) (f : ℕ) (k : Kind) (d : Fixed) (vs : List Fixed) → shape ≡ shape_number s
-        → result.is_bounded ≡ is_bounded (choice s f k d vs) }
+/// Whether a value of this form is a Flags choice.
+fn is_flags(form: Form) -> bool
+    ensures { (v : Tree) → IsFormOf v form → result ≡ is_flags v }
 {
-    let is_supported = match shape {
-        RANGE_SHAPE => has_order(type_),
-        STEP_SHAPE => has_steps(type_),
-        FLAGS_SHAPE => may_be_flags(type_),
-        _ => true,
-    };
-    Support {
-        is_supported,
-        is_flags: shape == FLAGS_SHAPE,
-        is_bounded: shape == RANGE_SHAPE || shape == STEP_SHAPE,
-    }
+    form.shape == FLAGS_SHAPE
+}
+
+/// Whether a value of this form is a Range or a Step choice.
+fn is_bounded(form: Form) -> bool
+    ensures { (v : Tree) → IsFormOf v form → result ≡ is_bounded v }
+{
+    form.shape == RANGE_SHAPE || form.shape == STEP_SHAPE
 }
 
 /// Whether values of this type have an order.

@@ -21,21 +21,18 @@ kind_of-among (long x) _ h = absurd h
 kind_of-among _ m h = absurd h
 
 -- that of flags
-flag_kind : (x m : Fixed) → AreAmong x m → IsFlagKind (kind_of m)
-flag_kind (id x) (id m) h = tt
-flag_kind (int x) (int m) h = tt
-flag_kind (long x) (long m) h = tt
-flag_kind (id x) _ h = absurd h
-flag_kind (int x) _ h = absurd h
-flag_kind (long x) _ h = absurd h
-flag_kind _ m h = absurd h
+pub IsFlagKind-among : (x m : Fixed) → AreAmong x m → IsFlagKind (kind_of x)
+IsFlagKind-among (id x) m h = tt
+IsFlagKind-among (int x) m h = tt
+IsFlagKind-among (long x) m h = tt
+IsFlagKind-among _ m h = absurd h
 
 -- what is no flags shares nothing
 pub IsShared-none : (k : Kind) → ¬ (IsFlagKind k) → (m n : Fixed) → kind_of m ≡ k → IsShared m n m
 IsShared-none k never m n is =
     record {
       each = λ x. (
-        λ h. absurd (never (subst IsFlagKind is (flag_kind x m h))),
+        λ h. absurd (never (subst IsFlagKind (kind_of-among x m h ∙ is) (IsFlagKind-among x m h))),
         λ h. h.0,
       );
     }

@@ -5,8 +5,8 @@ use Rattle.std.proofs.lemmas.Bool.{cases_lt}
 use Rattle.std.proofs.lemmas.Int.{ints}
 use Rattle.std.proofs.Math.Nat.{mul-le-mul_left}
 use Rattle.std.specs.Prelude.{ℤ, ◌≤ℤ◌}
-use Rattle.spa_format.specs.Kind.{Fixed, kind_of, id, int, long, float, double, rectangle, fraction}
-use Rattle.spa_filter_elements.specs.Order.{IsAtMost, place, float_sign, double_sign}
+use Rattle.spa_format.specs.Kind.{Fixed, kind_of, none, bool, id, int, long, float, double, rectangle, fraction, fd}
+use Rattle.spa_filter_elements.specs.Order.{IsAtMost, IsOrderedKind, place, float_sign, double_sign}
 use Rattle.spa_filter_elements.specs.Bounds.{IsChain}
 
 int_trans : (x y z : ℤ) → x ≤ℤ y → y ≤ℤ z → x ≤ℤ z
@@ -118,6 +118,13 @@ kind_of-ordered (double x) _ p = absurd p
 kind_of-ordered (rectangle w h) _ p = absurd p
 kind_of-ordered (fraction n d) _ p = absurd p
 kind_of-ordered _ y p = absurd p
+
+-- which has an order
+pub IsOrderedKind-ordered : (x y : Fixed) → IsAtMost x y → IsOrderedKind (kind_of x)
+IsOrderedKind-ordered none y p = absurd p
+IsOrderedKind-ordered (bool b) y p = absurd p
+IsOrderedKind-ordered (fd n) y p = absurd p
+IsOrderedKind-ordered _ y p = tt
 
 -- of two contents of a kind other than rectangles that are in order with themselves, one is no greater than the other
 pub IsAtMost-total : (x y : Fixed) → IsChain (kind_of x) → kind_of x ≡ kind_of y → IsAtMost x x →

@@ -1,14 +1,20 @@
 -- Steps over the kinds that have them.
 use Rattle.std.proofs.Common.{◌≡◌, ◌↔◌, ℕ, ◌≤◌, ℤ, ◌≤ℤ◌, unsigned_abs, pos, negsuc, w32, w64, to_z, of_z, Option, Some, None, refl, ap, ◌∙◌, subst, arith}
 use Rattle.std.proofs.lemmas.Int.{ints, to_z-of_z}
-use Rattle.spa_format.specs.Kind.{Fixed, int, long}
+use Rattle.spa_format.specs.Kind.{Fixed, kind_of, int, long, rectangle}
 use Rattle.spa_filter_elements.specs.Multiples.{IsFirstSigned}
 use Rattle.spa_filter_elements.specs.NumberSteps as signed
 use Rattle.spa_filter_elements.specs.Order.{IsAtMost}
-use Rattle.spa_filter_elements.specs.Steps.{IsMultipleOf}
-use Rattle.spa_filter_elements.specs.Steps.{IsInSteps}
+use Rattle.spa_filter_elements.specs.Steps.{IsInSteps, IsMultipleOf, IsStepKind}
 use Rattle.spa_filter_elements.specs.Narrowing.{AreSidesNarrowed}
 use Rattle.spa_filter_elements.specs.declared.stepped.Steps.{Steps}
+
+-- a multiple is of a kind that has steps
+pub IsStepKind-multiple : (x step : Fixed) → IsMultipleOf x step → IsStepKind (kind_of x)
+IsStepKind-multiple (int n) step h = tt
+IsStepKind-multiple (long n) step h = tt
+IsStepKind-multiple (rectangle w g) step h = tt
+IsStepKind-multiple _ step h = absurd h
 
 -- of numbers that may be below 0
 module _ (low high step t lo hi st : ℤ) (h : signed.AreNarrowed low high step t lo hi st) where

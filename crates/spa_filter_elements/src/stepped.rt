@@ -24,10 +24,6 @@ pub struct Steps<T> {
 
 /// One of the nine types over which there are choices, with its steps where it has them.
 pub trait Stepped: Lattice {
-    /// Whether the type has steps.
-    fn has_steps() -> bool
-        ensures { IsTrue result ↔ IsStepKind Self.kind };
-
     /// Whether this element is a multiple of the other.
     fn is_multiple(&self, step: &Self) -> bool
         ensures { IsTrue result ↔ IsMultipleOf (Self.fixed self.now) (Self.fixed step.now) };
@@ -148,10 +144,6 @@ fn first_side(steps: &Steps<u32>) -> Option<u32>
 }
 
 impl Stepped for bool {
-    fn has_steps() -> bool {
-        false
-    }
-
     fn is_multiple(&self, step: &Self) -> bool {
         let _step = *step;
         false
@@ -167,10 +159,6 @@ impl Stepped for bool {
 }
 
 impl Stepped for Id {
-    fn has_steps() -> bool {
-        false
-    }
-
     fn is_multiple(&self, step: &Self) -> bool {
         let _step = *step;
         false
@@ -186,10 +174,6 @@ impl Stepped for Id {
 }
 
 impl Stepped for i32 {
-    fn has_steps() -> bool {
-        true
-    }
-
     fn is_multiple(&self, step: &Self) -> bool {
         is_multiple(
             u64::from(self.unsigned_abs()),
@@ -221,10 +205,6 @@ impl Stepped for i32 {
 }
 
 impl Stepped for i64 {
-    fn has_steps() -> bool {
-        true
-    }
-
     fn is_multiple(&self, step: &Self) -> bool {
         is_multiple(self.unsigned_abs(), step.unsigned_abs())
     }
@@ -249,10 +229,6 @@ impl Stepped for i64 {
 }
 
 impl Stepped for Float32 {
-    fn has_steps() -> bool {
-        false
-    }
-
     fn is_multiple(&self, step: &Self) -> bool {
         let _step = *step;
         false
@@ -268,10 +244,6 @@ impl Stepped for Float32 {
 }
 
 impl Stepped for Float64 {
-    fn has_steps() -> bool {
-        false
-    }
-
     fn is_multiple(&self, step: &Self) -> bool {
         let _step = *step;
         false
@@ -287,10 +259,6 @@ impl Stepped for Float64 {
 }
 
 impl Stepped for Rectangle {
-    fn has_steps() -> bool {
-        true
-    }
-
     fn is_multiple(&self, step: &Self) -> bool {
         is_multiple(u64::from(self.width), u64::from(step.width))
             && is_multiple(u64::from(self.height), u64::from(step.height))
@@ -323,10 +291,6 @@ impl Stepped for Rectangle {
 }
 
 impl Stepped for Fraction {
-    fn has_steps() -> bool {
-        false
-    }
-
     fn is_multiple(&self, step: &Self) -> bool {
         let _step = *step;
         false
@@ -342,10 +306,6 @@ impl Stepped for Fraction {
 }
 
 impl Stepped for Fd {
-    fn has_steps() -> bool {
-        false
-    }
-
     fn is_multiple(&self, step: &Self) -> bool {
         let _step = *step;
         false

@@ -1,6 +1,6 @@
 -- Which type a value or a choice is of.
 use Rattle.std.proofs.Common.{◌≡◌, ◌≢◌, ℕ, refl, sym, ap, ◌∙◌, arith}
-use Rattle.spa_format.specs.Kind.{Kind, type_number, Fixed, none, bool, id, int, long, float, double, rectangle, fraction, fd, kind_of}
+use Rattle.spa_format.specs.Kind.{Kind, bool_kind, id_kind, int_kind, long_kind, float_kind, double_kind, rectangle_kind, fraction_kind, fd_kind, type_number, Fixed, none, bool, id, int, long, float, double, rectangle, fraction, fd, kind_of}
 use Rattle.spa_format.specs.Tree.{fixed}
 use Rattle.spa_fixed_sized.specs.Choices.{choice_enum_tree}
 use Rattle.spa_utils.specs.declared.choice.ChoiceEnum.{ChoiceEnum}
@@ -13,7 +13,7 @@ use Rattle.spa_value.specs.declared.object.Object.{Object'}
 use Rattle.spa_value.specs.declared.value.Value.{Value}
 use Rattle.spa_value.specs.declared.value.Value.TheVariants as V
 use Rattle.spa_value.specs.View.{view, array_view, choice_view}
-use Rattle.spa_filter_offers.specs.Admits.{Admits}
+use Rattle.spa_filter_offers.specs.Admits.{Admits, AdmitsNone}
 use Rattle.spa_filter_offers.proofs.Offering.{kind_of-admitted}
 
 -- the type number of what a choice is over
@@ -42,7 +42,7 @@ element_type-admitted (C.Fraction c) x h = ap type_number (kind_of-admitted _ _ 
 element_type-admitted (C.Fd c) x h = ap type_number (kind_of-admitted _ _ (λ y. refl) c.0.0 c.1 x h)
 
 -- a choice of another type admits nothing of this kind
-pub none_admitted : (k : Kind) (c : ChoiceValue) → element_type c ≢ type_number k → (x : Fixed) →
+none_admitted : (k : Kind) (c : ChoiceValue) → element_type c ≢ type_number k → (x : Fixed) →
     Admits (choice_view c) (fixed x) → kind_of x ≢ k
 none_admitted k c n x h e = n (sym (element_type-admitted c x h) ∙ ap type_number e)
 
@@ -101,79 +101,79 @@ content_type-view (V.Object (Object' t n s ps)) x h = cc
 content_type-view _ x h = cc
 
 -- a value of another type is no content of this kind
-pub other_content : (k : Kind) (v : Value) → content_type v ≢ type_number k → (x : Fixed) →
+other_content : (k : Kind) (v : Value) → content_type v ≢ type_number k → (x : Fixed) →
     view v ≡ fixed x → kind_of x ≢ k
 other_content k v n x h e = n (sym (content_type-view v x h) ∙ ap type_number e)
 
--- a value, or a choice, of another variant is of another type
-pub not_bool : (v : Value) → ((x : _) → v ≢ V.Bool x) → content_type v ≢ 2
-not_bool (V.Bool x) n = absurd (n x refl)
-not_bool _ n = λ h. omega arith
+-- a value, or a choice, of another variant is no content, or admits none, of this kind
+pub not_bool : (v : Value) → ((y : _) → v ≢ V.Bool y) → (x : Fixed) → view v ≡ fixed x → ¬ (kind_of x ≡ bool_kind)
+not_bool (V.Bool y) n = absurd (n y refl)
+not_bool v n = other_content bool_kind v (λ h. omega arith)
 
-pub not_over_bool : (c : ChoiceValue) → ((x : _) → c ≢ C.Bool x) → element_type c ≢ 2
-not_over_bool (C.Bool x) n = absurd (n x refl)
-not_over_bool _ n = λ h. omega arith
+pub not_over_bool : (c : ChoiceValue) → ((y : _) → c ≢ C.Bool y) → AdmitsNone bool_kind (choice_view c)
+not_over_bool (C.Bool y) n = absurd (n y refl)
+not_over_bool c n = none_admitted bool_kind c (λ h. omega arith)
 
-pub not_id : (v : Value) → ((x : _) → v ≢ V.Id x) → content_type v ≢ 3
-not_id (V.Id x) n = absurd (n x refl)
-not_id _ n = λ h. omega arith
+pub not_id : (v : Value) → ((y : _) → v ≢ V.Id y) → (x : Fixed) → view v ≡ fixed x → ¬ (kind_of x ≡ id_kind)
+not_id (V.Id y) n = absurd (n y refl)
+not_id v n = other_content id_kind v (λ h. omega arith)
 
-pub not_over_id : (c : ChoiceValue) → ((x : _) → c ≢ C.Id x) → element_type c ≢ 3
-not_over_id (C.Id x) n = absurd (n x refl)
-not_over_id _ n = λ h. omega arith
+pub not_over_id : (c : ChoiceValue) → ((y : _) → c ≢ C.Id y) → AdmitsNone id_kind (choice_view c)
+not_over_id (C.Id y) n = absurd (n y refl)
+not_over_id c n = none_admitted id_kind c (λ h. omega arith)
 
-pub not_int : (v : Value) → ((x : _) → v ≢ V.Int x) → content_type v ≢ 4
-not_int (V.Int x) n = absurd (n x refl)
-not_int _ n = λ h. omega arith
+pub not_int : (v : Value) → ((y : _) → v ≢ V.Int y) → (x : Fixed) → view v ≡ fixed x → ¬ (kind_of x ≡ int_kind)
+not_int (V.Int y) n = absurd (n y refl)
+not_int v n = other_content int_kind v (λ h. omega arith)
 
-pub not_over_int : (c : ChoiceValue) → ((x : _) → c ≢ C.Int x) → element_type c ≢ 4
-not_over_int (C.Int x) n = absurd (n x refl)
-not_over_int _ n = λ h. omega arith
+pub not_over_int : (c : ChoiceValue) → ((y : _) → c ≢ C.Int y) → AdmitsNone int_kind (choice_view c)
+not_over_int (C.Int y) n = absurd (n y refl)
+not_over_int c n = none_admitted int_kind c (λ h. omega arith)
 
-pub not_long : (v : Value) → ((x : _) → v ≢ V.Long x) → content_type v ≢ 5
-not_long (V.Long x) n = absurd (n x refl)
-not_long _ n = λ h. omega arith
+pub not_long : (v : Value) → ((y : _) → v ≢ V.Long y) → (x : Fixed) → view v ≡ fixed x → ¬ (kind_of x ≡ long_kind)
+not_long (V.Long y) n = absurd (n y refl)
+not_long v n = other_content long_kind v (λ h. omega arith)
 
-pub not_over_long : (c : ChoiceValue) → ((x : _) → c ≢ C.Long x) → element_type c ≢ 5
-not_over_long (C.Long x) n = absurd (n x refl)
-not_over_long _ n = λ h. omega arith
+pub not_over_long : (c : ChoiceValue) → ((y : _) → c ≢ C.Long y) → AdmitsNone long_kind (choice_view c)
+not_over_long (C.Long y) n = absurd (n y refl)
+not_over_long c n = none_admitted long_kind c (λ h. omega arith)
 
-pub not_float : (v : Value) → ((x : _) → v ≢ V.Float x) → content_type v ≢ 6
-not_float (V.Float x) n = absurd (n x refl)
-not_float _ n = λ h. omega arith
+pub not_float : (v : Value) → ((y : _) → v ≢ V.Float y) → (x : Fixed) → view v ≡ fixed x → ¬ (kind_of x ≡ float_kind)
+not_float (V.Float y) n = absurd (n y refl)
+not_float v n = other_content float_kind v (λ h. omega arith)
 
-pub not_over_float : (c : ChoiceValue) → ((x : _) → c ≢ C.Float x) → element_type c ≢ 6
-not_over_float (C.Float x) n = absurd (n x refl)
-not_over_float _ n = λ h. omega arith
+pub not_over_float : (c : ChoiceValue) → ((y : _) → c ≢ C.Float y) → AdmitsNone float_kind (choice_view c)
+not_over_float (C.Float y) n = absurd (n y refl)
+not_over_float c n = none_admitted float_kind c (λ h. omega arith)
 
-pub not_double : (v : Value) → ((x : _) → v ≢ V.Double x) → content_type v ≢ 7
-not_double (V.Double x) n = absurd (n x refl)
-not_double _ n = λ h. omega arith
+pub not_double : (v : Value) → ((y : _) → v ≢ V.Double y) → (x : Fixed) → view v ≡ fixed x → ¬ (kind_of x ≡ double_kind)
+not_double (V.Double y) n = absurd (n y refl)
+not_double v n = other_content double_kind v (λ h. omega arith)
 
-pub not_over_double : (c : ChoiceValue) → ((x : _) → c ≢ C.Double x) → element_type c ≢ 7
-not_over_double (C.Double x) n = absurd (n x refl)
-not_over_double _ n = λ h. omega arith
+pub not_over_double : (c : ChoiceValue) → ((y : _) → c ≢ C.Double y) → AdmitsNone double_kind (choice_view c)
+not_over_double (C.Double y) n = absurd (n y refl)
+not_over_double c n = none_admitted double_kind c (λ h. omega arith)
 
-pub not_rectangle : (v : Value) → ((x : _) → v ≢ V.Rectangle x) → content_type v ≢ 10
-not_rectangle (V.Rectangle x) n = absurd (n x refl)
-not_rectangle _ n = λ h. omega arith
+pub not_rectangle : (v : Value) → ((y : _) → v ≢ V.Rectangle y) → (x : Fixed) → view v ≡ fixed x → ¬ (kind_of x ≡ rectangle_kind)
+not_rectangle (V.Rectangle y) n = absurd (n y refl)
+not_rectangle v n = other_content rectangle_kind v (λ h. omega arith)
 
-pub not_over_rectangle : (c : ChoiceValue) → ((x : _) → c ≢ C.Rectangle x) → element_type c ≢ 10
-not_over_rectangle (C.Rectangle x) n = absurd (n x refl)
-not_over_rectangle _ n = λ h. omega arith
+pub not_over_rectangle : (c : ChoiceValue) → ((y : _) → c ≢ C.Rectangle y) → AdmitsNone rectangle_kind (choice_view c)
+not_over_rectangle (C.Rectangle y) n = absurd (n y refl)
+not_over_rectangle c n = none_admitted rectangle_kind c (λ h. omega arith)
 
-pub not_fraction : (v : Value) → ((x : _) → v ≢ V.Fraction x) → content_type v ≢ 11
-not_fraction (V.Fraction x) n = absurd (n x refl)
-not_fraction _ n = λ h. omega arith
+pub not_fraction : (v : Value) → ((y : _) → v ≢ V.Fraction y) → (x : Fixed) → view v ≡ fixed x → ¬ (kind_of x ≡ fraction_kind)
+not_fraction (V.Fraction y) n = absurd (n y refl)
+not_fraction v n = other_content fraction_kind v (λ h. omega arith)
 
-pub not_over_fraction : (c : ChoiceValue) → ((x : _) → c ≢ C.Fraction x) → element_type c ≢ 11
-not_over_fraction (C.Fraction x) n = absurd (n x refl)
-not_over_fraction _ n = λ h. omega arith
+pub not_over_fraction : (c : ChoiceValue) → ((y : _) → c ≢ C.Fraction y) → AdmitsNone fraction_kind (choice_view c)
+not_over_fraction (C.Fraction y) n = absurd (n y refl)
+not_over_fraction c n = none_admitted fraction_kind c (λ h. omega arith)
 
-pub not_fd : (v : Value) → ((x : _) → v ≢ V.Fd x) → content_type v ≢ 18
-not_fd (V.Fd x) n = absurd (n x refl)
-not_fd _ n = λ h. omega arith
+pub not_fd : (v : Value) → ((y : _) → v ≢ V.Fd y) → (x : Fixed) → view v ≡ fixed x → ¬ (kind_of x ≡ fd_kind)
+not_fd (V.Fd y) n = absurd (n y refl)
+not_fd v n = other_content fd_kind v (λ h. omega arith)
 
-pub not_over_fd : (c : ChoiceValue) → ((x : _) → c ≢ C.Fd x) → element_type c ≢ 18
-not_over_fd (C.Fd x) n = absurd (n x refl)
-not_over_fd _ n = λ h. omega arith
+pub not_over_fd : (c : ChoiceValue) → ((y : _) → c ≢ C.Fd y) → AdmitsNone fd_kind (choice_view c)
+not_over_fd (C.Fd y) n = absurd (n y refl)
+not_over_fd c n = none_admitted fd_kind c (λ h. omega arith)

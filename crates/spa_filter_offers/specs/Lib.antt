@@ -1,3 +1,4 @@
 pub mod Admits
+pub mod Forms
 pub mod Numbering
 pub mod Offers

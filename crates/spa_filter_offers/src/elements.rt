@@ -26,6 +26,7 @@ impl Element for bool {
         Value::Choice(ChoiceValue::Bool(Choice(ChoiceFlags::empty(), choice)))
     }
 
+    #[tactic(auto, using(crate::proofs::Variants::not_bool))]
     fn in_value(value: &Value) -> Option<Self> {
         match value {
             Value::Bool(x) => Some(*x),
@@ -33,6 +34,7 @@ impl Element for bool {
         }
     }
 
+    #[tactic(auto, using(crate::proofs::Variants::not_over_bool))]
     fn in_choice(choice: &ChoiceValue) -> Option<&Choice<Self>> {
         match choice {
             ChoiceValue::Bool(choice) => Some(choice),
@@ -56,6 +58,7 @@ impl Element for Id {
         Value::Choice(ChoiceValue::Id(Choice(ChoiceFlags::empty(), choice)))
     }
 
+    #[tactic(auto, using(crate::proofs::Variants::not_id))]
     fn in_value(value: &Value) -> Option<Self> {
         match value {
             Value::Id(x) => Some(*x),
@@ -63,6 +66,7 @@ impl Element for Id {
         }
     }
 
+    #[tactic(auto, using(crate::proofs::Variants::not_over_id))]
     fn in_choice(choice: &ChoiceValue) -> Option<&Choice<Self>> {
         match choice {
             ChoiceValue::Id(choice) => Some(choice),
@@ -86,6 +90,7 @@ impl Element for i32 {
         Value::Choice(ChoiceValue::Int(Choice(ChoiceFlags::empty(), choice)))
     }
 
+    #[tactic(auto, using(crate::proofs::Variants::not_int))]
     fn in_value(value: &Value) -> Option<Self> {
         match value {
             Value::Int(x) => Some(*x),
@@ -93,6 +98,7 @@ impl Element for i32 {
         }
     }
 
+    #[tactic(auto, using(crate::proofs::Variants::not_over_int))]
     fn in_choice(choice: &ChoiceValue) -> Option<&Choice<Self>> {
         match choice {
             ChoiceValue::Int(choice) => Some(choice),
@@ -116,6 +122,7 @@ impl Element for i64 {
         Value::Choice(ChoiceValue::Long(Choice(ChoiceFlags::empty(), choice)))
     }
 
+    #[tactic(auto, using(crate::proofs::Variants::not_long))]
     fn in_value(value: &Value) -> Option<Self> {
         match value {
             Value::Long(x) => Some(*x),
@@ -123,6 +130,7 @@ impl Element for i64 {
         }
     }
 
+    #[tactic(auto, using(crate::proofs::Variants::not_over_long))]
     fn in_choice(choice: &ChoiceValue) -> Option<&Choice<Self>> {
         match choice {
             ChoiceValue::Long(choice) => Some(choice),
@@ -146,6 +154,7 @@ impl Element for Float32 {
         Value::Choice(ChoiceValue::Float(Choice(ChoiceFlags::empty(), choice)))
     }
 
+    #[tactic(auto, using(crate::proofs::Variants::not_float))]
     fn in_value(value: &Value) -> Option<Self> {
         match value {
             Value::Float(x) => Some(*x),
@@ -153,6 +162,7 @@ impl Element for Float32 {
         }
     }
 
+    #[tactic(auto, using(crate::proofs::Variants::not_over_float))]
     fn in_choice(choice: &ChoiceValue) -> Option<&Choice<Self>> {
         match choice {
             ChoiceValue::Float(choice) => Some(choice),
@@ -176,6 +186,7 @@ impl Element for Float64 {
         Value::Choice(ChoiceValue::Double(Choice(ChoiceFlags::empty(), choice)))
     }
 
+    #[tactic(auto, using(crate::proofs::Variants::not_double))]
     fn in_value(value: &Value) -> Option<Self> {
         match value {
             Value::Double(x) => Some(*x),
@@ -183,6 +194,7 @@ impl Element for Float64 {
         }
     }
 
+    #[tactic(auto, using(crate::proofs::Variants::not_over_double))]
     fn in_choice(choice: &ChoiceValue) -> Option<&Choice<Self>> {
         match choice {
             ChoiceValue::Double(choice) => Some(choice),
@@ -206,6 +218,7 @@ impl Element for Rectangle {
         Value::Choice(ChoiceValue::Rectangle(Choice(ChoiceFlags::empty(), choice)))
     }
 
+    #[tactic(auto, using(crate::proofs::Variants::not_rectangle))]
     fn in_value(value: &Value) -> Option<Self> {
         match value {
             Value::Rectangle(x) => Some(*x),
@@ -213,6 +226,7 @@ impl Element for Rectangle {
         }
     }
 
+    #[tactic(auto, using(crate::proofs::Variants::not_over_rectangle))]
     fn in_choice(choice: &ChoiceValue) -> Option<&Choice<Self>> {
         match choice {
             ChoiceValue::Rectangle(choice) => Some(choice),
@@ -236,6 +250,7 @@ impl Element for Fraction {
         Value::Choice(ChoiceValue::Fraction(Choice(ChoiceFlags::empty(), choice)))
     }
 
+    #[tactic(auto, using(crate::proofs::Variants::not_fraction))]
     fn in_value(value: &Value) -> Option<Self> {
         match value {
             Value::Fraction(x) => Some(*x),
@@ -243,6 +258,7 @@ impl Element for Fraction {
         }
     }
 
+    #[tactic(auto, using(crate::proofs::Variants::not_over_fraction))]
     fn in_choice(choice: &ChoiceValue) -> Option<&Choice<Self>> {
         match choice {
             ChoiceValue::Fraction(choice) => Some(choice),
@@ -266,6 +282,7 @@ impl Element for Fd {
         Value::Choice(ChoiceValue::Fd(Choice(ChoiceFlags::empty(), choice)))
     }
 
+    #[tactic(auto, using(crate::proofs::Variants::not_fd))]
     fn in_value(value: &Value) -> Option<Self> {
         match value {
             Value::Fd(x) => Some(*x),
@@ -273,6 +290,7 @@ impl Element for Fd {
         }
     }
 
+    #[tactic(auto, using(crate::proofs::Variants::not_over_fd))]
     fn in_choice(choice: &ChoiceValue) -> Option<&Choice<Self>> {
         match choice {
             ChoiceValue::Fd(choice) => Some(choice),

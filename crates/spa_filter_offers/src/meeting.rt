@@ -1,5 +1,5 @@
 //! Meets two offers of one type.
-ghost use Rattle.std.specs.Prelude.{◌↔◌, IfOk, map};
+ghost use Rattle.std.specs.Prelude.{◌↔◌, ◌≢◌, IfOk, None, map};
 ghost use Rattle.spa_format.specs.Kind.{Fixed};
 ghost use Rattle.spa_filter_offers.specs.Offers.{AreBetween, AreKept, AreOffersSayable, AreStepped, IsOnly, IsSharedMask, IsWide, MaskedMeet, OffersMeet};
 
@@ -12,15 +12,16 @@ use spa_value::Value;
 use std::alloc::{AllocError, Global};
 
 /// The value that admits exactly the elements that both offers admit: a plain value where one offer is one, else an Enum where one is one, else a
-/// Range, a Step or Flags. None: no element is admitted by both. Refused only for want of memory.
+/// Range, a Step or Flags. None: no element is admitted by both, or one offer is `Masked` and the other `Between` or `Stepped`, since no choice
+/// admits just what such two do. Refused only for want of memory.
 #[inline(never)]
 pub fn meet<T: Element>(
     alloc: Global,
     a: &Offer<'_, T>,
     b: &Offer<'_, T>,
 ) -> Result<Option<Value>, AllocError>
-    requires { AreOffersSayable a.now b.now }
-    ensures { IfOk result (OffersMeet T.fixed a.now b.now) }
+    ensures meeting { AreOffersSayable a.now b.now → IfOk result (OffersMeet T.fixed a.now b.now) }
+    ensures sayable { IfOk result (λ met. met ≢ None → AreOffersSayable a.now b.now) }
 {
     match a {
         Offer::Only(x) => Ok(meet_only(a, b, x)),
@@ -42,12 +43,12 @@ pub fn meet<T: Element>(
     }
 }
 
-/// The value in which two offers meet of which neither is a single element or an Enum: a Range of two Ranges, Flags of two Flags, else a Step.
+/// The value in which two offers meet of which neither is a single element or an Enum: a Range of two Ranges, Flags of two Flags, else a Step. None:
+/// as of `meet`.
 fn meet_wide<T: Element>(alloc: Global, a: &Offer<'_, T>, b: &Offer<'_, T>) -> Option<Value>
-    requires sayable { AreOffersSayable a.now b.now }
-    requires first { IsWide a.now }
-    requires second { IsWide b.now }
-    ensures { OffersMeet T.fixed a.now b.now result }
+    requires { IsWide a.now × IsWide b.now }
+    ensures meeting { AreOffersSayable a.now b.now → OffersMeet T.fixed a.now b.now result }
+    ensures sayable { result ≢ None → AreOffersSayable a.now b.now }
 {
     match a {
         Offer::Between(_, low, high) => match b {
@@ -57,23 +58,23 @@ fn meet_wide<T: Element>(alloc: Global, a: &Offer<'_, T>, b: &Offer<'_, T>) -> O
                 meet_between(a, b, &low, &high)
             }
             Offer::Stepped(_, steps) => meet_stepped(a, b, &within(steps, low, high)),
-            _ => unreachable!(),
+            _ => None,
         },
         Offer::Stepped(_, steps) => match b {
             Offer::Between(_, low, high) => meet_stepped(a, b, &within(steps, low, high)),
             Offer::Stepped(_, others) => meet_stepped(a, b, &multiples_of_both(steps, others)),
-            _ => unreachable!(),
+            _ => None,
         },
         Offer::Masked(mask) => match b {
             Offer::Masked(other) => meet_masked(alloc, mask, other),
-            _ => unreachable!(),
+            _ => None,
         },
         _ => unreachable!(),
     }
 }
 
 /// The element as a value, where both offers admit it; no other element may be admitted by both. None: no element is.
-pub fn meet_only<T: Element>(a: &Offer<'_, T>, b: &Offer<'_, T>, x: &T) -> Option<Value>
+fn meet_only<T: Element>(a: &Offer<'_, T>, b: &Offer<'_, T>, x: &T) -> Option<Value>
     requires { IsOnly T.fixed a.now b.now (T.fixed x.now) }
     ensures { OffersMeet T.fixed a.now b.now result }
 {

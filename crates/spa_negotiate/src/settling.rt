@@ -15,7 +15,7 @@ ghost use Rattle.spa_negotiate.specs.Written.{IsCommonEncoded, IsCommonPut, IsPu
 
 use crate::error::NegotiateError;
 use crate::negotiation::common;
-use crate::offer_view::{first_common, offer_view};
+use crate::offer_view::{ONE_WORD, TWO_WORDS, first_common, offer_view};
 use crate::support::is_supported;
 use spa_bytes::{joined, open, two_words, u32_at, u64_at, wide_body, word_body};
 use spa_events::is_container;
@@ -26,12 +26,6 @@ use spa_utils::SpaTypes;
 use spa_value::{Held, Value};
 use spa_write::write_value;
 use std::alloc::Global;
-
-/// The length in bytes of a body of one word.
-const ONE_WORD: usize = 4;
-
-/// The length in bytes of a body of two words.
-const TWO_WORDS: usize = 8;
 
 /// Appends a property with a plain value, or with the default of a choice.
 pub(crate) fn put_default(out: &mut Vec<u8>, key: u32, pod: &[u8]) -> bool

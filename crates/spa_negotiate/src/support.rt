@@ -1,53 +1,32 @@
 //! Whether a common value is sought for a value.
 ghost use Rattle.std.specs.Prelude.{◌≡◌, ◌↔◌, IsTrue};
-ghost use Rattle.spa_fixed_sized.specs.Choices.{choice_tree};
 ghost use Rattle.spa_format.specs.Kind.{Kind, type_number};
-ghost use Rattle.spa_value.specs.View.{choice_view, view};
+ghost use Rattle.spa_format.specs.Tree.{Tree};
+ghost use Rattle.spa_value.specs.View.{view};
+ghost use Rattle.spa_filter_offers.specs.Forms.{IsFormOf};
 ghost use Rattle.spa_negotiate.specs.Admits.{IsRangeKind, IsSupported};
 
-use spa_filter_offers::Element;
-use spa_utils::{Choice, ChoiceEnum, SpaTypes};
-use spa_value::laws::trees_have_their_types;
-use spa_value::{ChoiceValue, Value};
+use spa_filter_offers::{Form, form_of};
+use spa_fixed_sized::{FLAGS_SHAPE, RANGE_SHAPE, STEP_SHAPE};
+use spa_utils::SpaTypes;
+use spa_value::Value;
 
 /// Whether a common value is sought for this value and another: it is plain, a None choice, an Enum, or a Range over `Id`, `i32` or `i64`.
 pub fn is_supported(value: &Value) -> bool
     ensures { IsTrue result ↔ IsSupported (view value.now) }
 {
-    trees_have_their_types();
-    match value {
-        Value::Choice(choice) => is_choice_supported(choice),
+    is_form_supported(form_of(value))
+}
+
+/// Whether a common value is sought for a value of this form.
+fn is_form_supported(form: Form) -> bool
+    ensures { (v : Tree) → IsFormOf v form → IsTrue result ↔ IsSupported v }
+{
+    match form.shape {
+        RANGE_SHAPE => are_ranges_supported(form.type_),
+        STEP_SHAPE => false,
+        FLAGS_SHAPE => false,
         _ => true,
-    }
-}
-
-/// Whether a common value is sought for this choice and another value.
-fn is_choice_supported(choice: &ChoiceValue) -> bool
-    ensures { IsTrue result ↔ IsSupported (choice_view choice.now) }
-{
-    match choice {
-        ChoiceValue::Bool(choice) => is_shape_supported(choice),
-        ChoiceValue::Id(choice) => is_shape_supported(choice),
-        ChoiceValue::Int(choice) => is_shape_supported(choice),
-        ChoiceValue::Long(choice) => is_shape_supported(choice),
-        ChoiceValue::Float(choice) => is_shape_supported(choice),
-        ChoiceValue::Double(choice) => is_shape_supported(choice),
-        ChoiceValue::Rectangle(choice) => is_shape_supported(choice),
-        ChoiceValue::Fraction(choice) => is_shape_supported(choice),
-        ChoiceValue::Fd(choice) => is_shape_supported(choice),
-    }
-}
-
-/// Whether a common value is sought for a choice of this shape over this type.
-fn is_shape_supported<T: Element>(choice: &Choice<T>) -> bool
-    ensures { IsTrue result ↔ IsSupported (choice_tree T.kind T.fixed choice.now) }
-{
-    match &choice.1 {
-        ChoiceEnum::None(_) => true,
-        ChoiceEnum::Range { .. } => are_ranges_supported(T::TYPE),
-        ChoiceEnum::Step { .. } => false,
-        ChoiceEnum::Enum { .. } => true,
-        ChoiceEnum::Flags { .. } => false,
     }
 }
 

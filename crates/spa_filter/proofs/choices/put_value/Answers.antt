@@ -5,7 +5,7 @@ use Rattle.spa_value.specs.View.{view}
 use Rattle.spa_fixed_sized.specs.Choices.{choice_tree}
 use Rattle.spa_filter_offers.specs.Admits.{choice_flags_of}
 use Rattle.spa_filter.specs.CommonPods.{IsAppended}
-use Rattle.spa_filter.proofs.Plain.{IsPlainTree-view, IsPlainView-other}
+use Rattle.spa_filter.proofs.Plain.{IsPlainTree-view}
 use Rattle.spa_filter.proofs.choices.put_value.Goals as goal
 
 pub returns-in-Some-clause-appended : goal.returns-in-Some-clause-appended
@@ -17,5 +17,5 @@ returns-in-Some-clause-appended g c =
 
 pub returns-in-None-in_value : goal.returns-in-None-in_value
 returns-in-None-in_value g c =
-    let plain = IsPlainTree-view c.args.value.now (IsPlainView-other c.args.value.now c.in_default.not-Choice) in
+    let plain = IsPlainTree-view c.args.value.now c.in_default.not-Choice in
     record { appended = tt; cause = λ x k h. c.in-None-in_value.ensures x (sym (plain.alone (fixed x) h)) k }

@@ -2,21 +2,10 @@ use Rattle.std.proofs.Common.{◌<◌, ◌∙◌, map, sym, subst, arith}
 use Rattle.std.specs.List.{Contains}
 use Rattle.spa_format.specs.Kind.{content}
 use Rattle.spa_format.proofs.FixedKinds.{size_fits}
-use Rattle.spa_filter_offers.specs.Admits.{IsSupported}
 use Rattle.spa_filter_offers.specs.Offers.{OfferAdmits, default_of}
-use Rattle.spa_filter.proofs.CommonPods.{same_choice}
 use Rattle.spa_filter.proofs.EnumValues.{appended_sides, enum_second, enum_side, read_side, refused_sides}
 use Rattle.spa_filter.proofs.Passing.{if_err, on_ok}
 use Rattle.spa_filter.proofs.enums.put_enum_second.Goals as goal
-
-pub returns-then-not-is_shape_supported-clause-cause : goal.returns-then-not-is_shape_supported-clause-cause
-returns-then-not-is_shape_supported-clause-cause g c = λ v w h i s e.
-    let pod = g.T.CanonicalFixedSizedPod in
-    let choice = c.in_ok-choice.choice in
-    let whole = same_choice pod.kind pod.fixed choice.0.0 choice.1 v _ h c.in_ok-choice.ensures.choice in
-    let f = c.if-not-is_shape_supported.true in
-    let t = c.is_shape_supported.ensures.1 (subst IsSupported (sym whole) s.0) in
-    absurd (grind arith)
 
 pub put_sides-requires : goal.put_sides-requires
 put_sides-requires g c =
@@ -34,7 +23,7 @@ returns-clause-appended g c =
     let offer = c.offer_of.result in
     let e = f theirs.0 in
     let first =
-    read_side k f choice.0.0 choice.1 offer c.args.a.now c.in_ok-choice.ensures.choice (c.is_shape_supported.ensures.0 c.if-not-is_shape_supported.false)
+    read_side k f choice.0.0 choice.1 offer c.args.a.now c.in_ok-choice.ensures.choice g.met.T.CanonicalFixedSizedPod.its_kind
     (c.offer_of.ensures.offer choice.0.0) in
     let second = enum_side k e theirs.1.now c.args.b.now c.in-Some.ensures.values in
     on_ok c.put_sides.result
@@ -52,7 +41,7 @@ returns-clause-cause g c =
     let offer = c.offer_of.result in
     let e = f theirs.0 in
     let first =
-    read_side k f choice.0.0 choice.1 offer c.args.a.now c.in_ok-choice.ensures.choice (c.is_shape_supported.ensures.0 c.if-not-is_shape_supported.false)
+    read_side k f choice.0.0 choice.1 offer c.args.a.now c.in_ok-choice.ensures.choice g.met.T.CanonicalFixedSizedPod.its_kind
     (c.offer_of.ensures.offer choice.0.0) in
     let second = enum_side k e theirs.1.now c.args.b.now c.in-Some.ensures.values in
     if_err c.put_sides.result

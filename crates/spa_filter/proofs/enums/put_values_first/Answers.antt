@@ -2,10 +2,8 @@ use Rattle.std.proofs.Common.{◌<◌, ◌∙◌, map, sym, subst, arith}
 use Rattle.std.specs.List.{Contains}
 use Rattle.spa_format.specs.Kind.{content}
 use Rattle.spa_format.proofs.FixedKinds.{size_fits}
-use Rattle.spa_filter_offers.specs.Admits.{IsSupported}
 use Rattle.spa_filter_offers.specs.Offers.{OfferAdmits, default_of}
 use Rattle.spa_filter.proofs.Apart.{refused_choices}
-use Rattle.spa_filter.proofs.CommonPods.{same_choice}
 use Rattle.spa_filter.proofs.EnumValues.{appended_sides, enum_first, enum_side, read_side, refused_sides}
 use Rattle.spa_filter.proofs.Passing.{if_err, on_ok, passed_on}
 use Rattle.spa_filter.proofs.enums.put_values_first.Goals as goal
@@ -14,15 +12,6 @@ pub returns-in_err-choice-clause-cause : goal.returns-in_err-choice-clause-cause
 returns-in_err-choice-clause-cause g c =
     passed_on _ _ _ c.from_residual.ensures.1
     (λ v w h i. refused_choices _ c.args.a.now c.args.b.now _ c.requires.over c.in_err-choice.ensures.cause v w h i)
-
-pub returns-then-not-is_shape_supported-clause-cause : goal.returns-then-not-is_shape_supported-clause-cause
-returns-then-not-is_shape_supported-clause-cause g c = λ v w h i s e.
-    let pod = g.T.CanonicalFixedSizedPod in
-    let choice = c.in_ok-choice.choice in
-    let whole = same_choice pod.kind pod.fixed choice.0.0 choice.1 w _ i c.in_ok-choice.ensures.choice in
-    let f = c.if-not-is_shape_supported.true in
-    let t = c.is_shape_supported.ensures.1 (subst IsSupported (sym whole) s.1) in
-    absurd (grind arith)
 
 pub put_sides-requires : goal.put_sides-requires
 put_sides-requires g c =
@@ -39,7 +28,7 @@ returns-clause-appended g c =
     let d = f c.args.ours.0 in
     let first = enum_side k d c.args.ours.1.now c.args.a.now c.requires.values in
     let second =
-    read_side k f choice.0.0 choice.1 offer c.args.b.now c.in_ok-choice.ensures.choice (c.is_shape_supported.ensures.0 c.if-not-is_shape_supported.false)
+    read_side k f choice.0.0 choice.1 offer c.args.b.now c.in_ok-choice.ensures.choice g.met.T.CanonicalFixedSizedPod.its_kind
     (c.offer_of.ensures.offer choice.0.0) in
     on_ok c.put_sides.result
     (λ m v w h i.
@@ -56,7 +45,7 @@ returns-clause-cause g c =
     let d = f c.args.ours.0 in
     let first = enum_side k d c.args.ours.1.now c.args.a.now c.requires.values in
     let second =
-    read_side k f choice.0.0 choice.1 offer c.args.b.now c.in_ok-choice.ensures.choice (c.is_shape_supported.ensures.0 c.if-not-is_shape_supported.false)
+    read_side k f choice.0.0 choice.1 offer c.args.b.now c.in_ok-choice.ensures.choice g.met.T.CanonicalFixedSizedPod.its_kind
     (c.offer_of.ensures.offer choice.0.0) in
     if_err c.put_sides.result
     (λ why r v w h i.

@@ -3,9 +3,9 @@
 
 use crate::shims::prelude::*;
 use crate::parts::spa_filter::refused::Refused;
-use crate::parts::spa_filter::values::are_meetable;
+use crate::parts::spa_filter::values::choices_meet;
 use crate::parts::spa_bytes::{HEADER_LEN, SECOND_WORD, u32_at};
-use crate::parts::spa_filter_offers::{Element, meet, offer_of};
+use crate::parts::spa_filter_offers::Element;
 use crate::parts::spa_fixed_sized::{put_choice, put_enum, put_fixed, read_choice};
 use crate::parts::spa_sink::GenError;
 use crate::parts::spa_utils::Choice;
@@ -37,10 +37,7 @@ pub(crate) fn put_read<T: Element>(
 ) -> Result<(), Refused> {
     let ours = choice_over::<T>(a)?;
     let theirs = choice_over::<T>(b)?;
-    if !are_meetable(&ours, &theirs) {
-        return Err(Refused::Apart);
-    }
-    let Ok(met) = meet(&offer_of(&ours.1), &offer_of(&theirs.1)) else {
+    let Ok(met) = choices_meet(&ours, &theirs) else {
         return Err(Refused::OutOfMemory);
     };
     match met {

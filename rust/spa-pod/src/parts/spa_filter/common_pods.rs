@@ -7,9 +7,7 @@ use crate::parts::spa_filter::enums::{MOST, is_enum, is_short_enum, is_value_of,
 use crate::parts::spa_filter::error::FilterError;
 use crate::parts::spa_filter::ranges::{is_range, put_ranges};
 use crate::parts::spa_filter::refused::Refused;
-use crate::parts::spa_filter::support::are_supported;
-use crate::parts::spa_filter::types::{BOOL, DOUBLE, FD, FLOAT, FRACTION, ID, INT, LONG, RECTANGLE};
-use crate::parts::spa_filter::values::is_shape_supported;
+use crate::parts::spa_filter::support::{form_in, refusal};
 use crate::parts::spa_bytes::{HEADER_LEN, SECOND_WORD, open, u32_at};
 use crate::parts::spa_filter_offers::{Element, admits, offer_of};
 use crate::parts::spa_utils::{Fd, Float32, Float64, Fraction, Id, Rectangle, SpaTypes};
@@ -33,19 +31,9 @@ pub(crate) fn put_common(
 ) -> Result<(), FilterError> {
     match put_met(out, a, b) {
         Ok(()) => Ok(()),
-        Err(Refused::Apart) => Err(refusal(key, a, b)),
+        Err(Refused::Apart) => Err(refusal(key, form_in(a), form_in(b))),
         Err(Refused::TooLarge) => Err(FilterError::TooLarge),
         Err(Refused::OutOfMemory) => Err(FilterError::OutOfMemory),
-    }
-}
-
-/// The refusal of the values of two pods, for which no common value was found: `Unsupported` or `Disjoint`.
-#[inline(never)]
-fn refusal(key: u32, a: &[u8], b: &[u8]) -> FilterError {
-    if are_supported(a, b) {
-        FilterError::Disjoint(key)
-    } else {
-        FilterError::Unsupported(key)
     }
 }
 
@@ -86,23 +74,24 @@ fn put_pod(out: &mut Vec<u8>, pod: &[u8]) -> Result<(), Refused> {
 /// Checks that the plain value of a body of this type is one that the choice of the other body admits. Refused as `Apart` where it isn't, or
 /// where the choice is over another type or unsupported.
 fn is_offered(type_: u32, body: &[u8], choice: &[u8]) -> Result<(), Refused> {
-    match type_ {
-        BOOL => is_offered_over::<bool, ONE_WORD>(body, choice),
-        ID => is_offered_over::<Id, ONE_WORD>(body, choice),
-        INT => is_offered_over::<i32, ONE_WORD>(body, choice),
-        LONG => is_offered_over::<i64, TWO_WORDS>(body, choice),
-        FLOAT => is_offered_over::<Float32, ONE_WORD>(body, choice),
-        DOUBLE => is_offered_over::<Float64, TWO_WORDS>(body, choice),
-        RECTANGLE => is_offered_over::<Rectangle, TWO_WORDS>(body, choice),
-        FRACTION => is_offered_over::<Fraction, TWO_WORDS>(body, choice),
-        FD => is_offered_over::<Fd, TWO_WORDS>(body, choice),
+    match SpaTypes(type_) {
+        SpaTypes::Bool => is_offered_over::<bool, ONE_WORD>(type_, body, choice),
+        SpaTypes::Id => is_offered_over::<Id, ONE_WORD>(type_, body, choice),
+        SpaTypes::Int => is_offered_over::<i32, ONE_WORD>(type_, body, choice),
+        SpaTypes::Long => is_offered_over::<i64, TWO_WORDS>(type_, body, choice),
+        SpaTypes::Float => is_offered_over::<Float32, ONE_WORD>(type_, body, choice),
+        SpaTypes::Double => is_offered_over::<Float64, TWO_WORDS>(type_, body, choice),
+        SpaTypes::Rectangle => is_offered_over::<Rectangle, TWO_WORDS>(type_, body, choice),
+        SpaTypes::Fraction => is_offered_over::<Fraction, TWO_WORDS>(type_, body, choice),
+        SpaTypes::Fd => is_offered_over::<Fd, TWO_WORDS>(type_, body, choice),
         _ => Err(Refused::Apart),
     }
 }
 
 /// Checks that the element of the type `T`, whose bodies have `N` bytes, with this body is one that the choice of the other body admits, with the
-/// refusals of `is_offered`.
+/// refusals of `is_offered`. `type_` is the number of the type; only the contract uses it.
 fn is_offered_over<T: Element, const N: usize>(
+    type_: u32,
     body: &[u8],
     choice: &[u8],
 ) -> Result<(), Refused> {
@@ -117,9 +106,6 @@ fn is_offered_over<T: Element, const N: usize>(
         return Err(Refused::Apart);
     }
     let choice = choice_over::<T>(choice)?;
-    if !is_shape_supported(&choice) {
-        return Err(Refused::Apart);
-    }
     if !admits(&offer_of(&choice.1), &x) {
         return Err(Refused::Apart);
     }
@@ -131,14 +117,19 @@ fn put_choices(out: &mut Vec<u8>, a: &[u8], b: &[u8]) -> Result<(), Refused> {
     if a.len() < VALUES_AT {
         return Err(Refused::Apart);
     }
-    match u32_at(a, HEADER_LEN + SECOND_WORD) {
-        BOOL => put_over::<bool, ONE_WORD>(out, a, b, &mut [false; MOST]),
-        ID => put_over::<Id, ONE_WORD>(out, a, b, &mut [Id(0); MOST]),
-        INT => put_over::<i32, ONE_WORD>(out, a, b, &mut [0; MOST]),
-        LONG => put_over::<i64, TWO_WORDS>(out, a, b, &mut [0; MOST]),
-        FLOAT => put_over::<Float32, ONE_WORD>(out, a, b, &mut [Float32(0); MOST]),
-        DOUBLE => put_over::<Float64, TWO_WORDS>(out, a, b, &mut [Float64(0); MOST]),
-        RECTANGLE => put_over::<Rectangle, TWO_WORDS>(
+    match SpaTypes(u32_at(a, HEADER_LEN + SECOND_WORD)) {
+        SpaTypes::Bool => put_over::<bool, ONE_WORD>(out, a, b, &mut [false; MOST]),
+        SpaTypes::Id => put_over::<Id, ONE_WORD>(out, a, b, &mut [Id(0); MOST]),
+        SpaTypes::Int => put_over::<i32, ONE_WORD>(out, a, b, &mut [0; MOST]),
+        SpaTypes::Long => put_over::<i64, TWO_WORDS>(out, a, b, &mut [0; MOST]),
+        SpaTypes::Float => put_over::<Float32, ONE_WORD>(out, a, b, &mut [Float32(0); MOST]),
+        SpaTypes::Double => put_over::<Float64, TWO_WORDS>(
+            out,
+            a,
+            b,
+            &mut [Float64(0); MOST],
+        ),
+        SpaTypes::Rectangle => put_over::<Rectangle, TWO_WORDS>(
             out,
             a,
             b,
@@ -147,13 +138,13 @@ fn put_choices(out: &mut Vec<u8>, a: &[u8], b: &[u8]) -> Result<(), Refused> {
                 height: 0,
             }; MOST],
         ),
-        FRACTION => put_over::<Fraction, TWO_WORDS>(
+        SpaTypes::Fraction => put_over::<Fraction, TWO_WORDS>(
             out,
             a,
             b,
             &mut [Fraction { num: 0, denom: 0 }; MOST],
         ),
-        FD => put_over::<Fd, TWO_WORDS>(out, a, b, &mut [Fd(0); MOST]),
+        SpaTypes::Fd => put_over::<Fd, TWO_WORDS>(out, a, b, &mut [Fd(0); MOST]),
         _ => Err(Refused::Apart),
     }
 }

@@ -4,7 +4,6 @@
 use crate::shims::prelude::*;
 use crate::parts::spa_filter::choices::{choice_over, put_element, put_enum_of, put_read};
 use crate::parts::spa_filter::refused::Refused;
-use crate::parts::spa_filter::values::is_shape_supported;
 use crate::parts::spa_bytes::{HEADER_LEN, SECOND_WORD, u32_at};
 use crate::parts::spa_filter_offers::{Element, Offer, admits, default_of, is_among, is_same, offer_of};
 use crate::parts::spa_fixed_sized::{ENUM_SHAPE, open_array};
@@ -185,9 +184,6 @@ fn put_values_first<T: Element, const N: usize>(
     room: &mut [T],
 ) -> Result<(), Refused> {
     let choice = choice_over::<T>(b)?;
-    if !is_shape_supported(&choice) {
-        return Err(Refused::Apart);
-    }
     let first = Side::Values(ours.0, ours.1);
     let second = Side::Offered(offer_of(&choice.1));
     put_sides(out, &first, &second, ours.1, &second, room)
@@ -224,9 +220,6 @@ pub(crate) fn put_enum_second<T: Element, const N: usize>(
         return put_read::<T>(out, a, b);
     };
     let choice = choice_over::<T>(a)?;
-    if !is_shape_supported(&choice) {
-        return Err(Refused::Apart);
-    }
     let first = Side::Offered(offer_of(&choice.1));
     let second = Side::Values(theirs.0, theirs.1);
     put_sides(out, &first, &second, theirs.1, &first, room)

@@ -9,7 +9,6 @@ mod ranges;
 mod refused;
 mod settling;
 mod support;
-mod types;
 mod values;
 
 pub(crate) use common_pods::put_common;

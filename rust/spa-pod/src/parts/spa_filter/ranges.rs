@@ -63,9 +63,6 @@ pub(crate) fn put_ranges<T: Element>(
     let Some(theirs) = range_of::<T>(b) else {
         return put_read::<T>(out, a, b);
     };
-    if !T::is_ordered() {
-        return Err(Refused::Apart);
-    }
     let low = ours.min.greater(&theirs.min);
     let high = ours.max.lesser(&theirs.max);
     if !low.is_at_most(&high) {

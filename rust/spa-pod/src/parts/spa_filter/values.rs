@@ -3,8 +3,9 @@
 
 use crate::shims::prelude::*;
 use crate::parts::spa_filter::error::FilterError;
-use crate::parts::spa_filter_offers::{Element, Offer, meet, meet_only, offer_of};
-use crate::parts::spa_utils::{Choice, ChoiceEnum};
+use crate::parts::spa_filter::support::refusal;
+use crate::parts::spa_filter_offers::{Element, Offer, form_of, meet, offer_of};
+use crate::parts::spa_utils::Choice;
 use crate::parts::spa_value::{ChoiceValue, Value, same};
 use crate::shims::memory::AllocError;
 
@@ -13,123 +14,18 @@ use crate::shims::memory::AllocError;
 /// The refusals: `Unsupported` where no common value is sought for one of the two or for both side by side, before `Disjoint` where
 /// no value is admitted by both.
 pub(crate) fn common(key: u32, a: &Value, b: &Value) -> Result<Value, FilterError> {
-    if !is_supported(a) || !is_supported(b) || !are_sayable(a, b) {
-        return Err(FilterError::Unsupported(key));
-    }
     match values_meet(a, b)? {
         Some(value) => Ok(value),
-        None => Err(FilterError::Disjoint(key)),
+        None => Err(refusal(key, form_of(a), form_of(b))),
     }
 }
 
-/// Whether a common value is sought for this one.
-fn is_supported(value: &Value) -> bool {
-    match value {
-        Value::Choice(choice) => is_choice_supported(choice),
-        _ => true,
-    }
-}
-
-/// Whether a common value is sought for this choice.
-fn is_choice_supported(choice: &ChoiceValue) -> bool {
-    match choice {
-        ChoiceValue::Bool(choice) => is_shape_supported(choice),
-        ChoiceValue::Id(choice) => is_shape_supported(choice),
-        ChoiceValue::Int(choice) => is_shape_supported(choice),
-        ChoiceValue::Long(choice) => is_shape_supported(choice),
-        ChoiceValue::Float(choice) => is_shape_supported(choice),
-        ChoiceValue::Double(choice) => is_shape_supported(choice),
-        ChoiceValue::Rectangle(choice) => is_shape_supported(choice),
-        ChoiceValue::Fraction(choice) => is_shape_supported(choice),
-        ChoiceValue::Fd(choice) => is_shape_supported(choice),
-    }
-}
-
-/// Whether a common value is sought for a choice of this shape over this type.
-pub(crate) fn is_shape_supported<T: Element>(choice: &Choice<T>) -> bool {
-    match &choice.1 {
-        ChoiceEnum::None(_) => true,
-        ChoiceEnum::Range { .. } => T::is_ordered(),
-        ChoiceEnum::Step { .. } => T::has_steps(),
-        ChoiceEnum::Enum { .. } => true,
-        ChoiceEnum::Flags { .. } => T::is_flags(),
-    }
-}
-
-/// Whether a choice can say what both admit: not of Flags and a Range or a Step.
-fn are_sayable(a: &Value, b: &Value) -> bool {
-    let first = shapes(a);
-    let second = shapes(b);
-    if are_both(first.0, second.1) {
-        return false;
-    }
-    if are_both(first.1, second.0) {
-        return false;
-    }
-    true
-}
-
-/// Whether both are true.
-pub(crate) fn are_both(first: bool, second: bool) -> bool {
-    first && second
-}
-
-/// Whether a value is Flags, and whether it is a Range or a Step.
-fn shapes(value: &Value) -> (bool, bool) {
-    match value {
-        Value::Choice(choice) => choice_shapes(choice),
-        _ => (false, false),
-    }
-}
-
-/// Whether a choice is Flags, and whether it is a Range or a Step.
-fn choice_shapes(choice: &ChoiceValue) -> (bool, bool) {
-    match choice {
-        ChoiceValue::Bool(choice) => typed_shapes(choice),
-        ChoiceValue::Id(choice) => typed_shapes(choice),
-        ChoiceValue::Int(choice) => typed_shapes(choice),
-        ChoiceValue::Long(choice) => typed_shapes(choice),
-        ChoiceValue::Float(choice) => typed_shapes(choice),
-        ChoiceValue::Double(choice) => typed_shapes(choice),
-        ChoiceValue::Rectangle(choice) => typed_shapes(choice),
-        ChoiceValue::Fraction(choice) => typed_shapes(choice),
-        ChoiceValue::Fd(choice) => typed_shapes(choice),
-    }
-}
-
-/// Whether a choice over one type is Flags, and whether it is a Range or a Step.
-fn typed_shapes<T: Element>(choice: &Choice<T>) -> (bool, bool) {
-    match &choice.1 {
-        ChoiceEnum::None(_) => (false, false),
-        ChoiceEnum::Range { .. } => (false, true),
-        ChoiceEnum::Step { .. } => (false, true),
-        ChoiceEnum::Enum { .. } => (false, false),
-        ChoiceEnum::Flags { .. } => (true, false),
-    }
-}
-
-/// Whether two choices over one type are supported, and a choice can say what both admit.
-pub(crate) fn are_meetable<T: Element>(a: &Choice<T>, b: &Choice<T>) -> bool {
-    if !is_shape_supported(a) || !is_shape_supported(b) {
-        return false;
-    }
-    let first = typed_shapes(a);
-    let second = typed_shapes(b);
-    if are_both(first.0, second.1) {
-        return false;
-    }
-    if are_both(first.1, second.0) {
-        return false;
-    }
-    true
-}
-
-/// A value that admits exactly what both admit, where they admit one. What isn't supported admits nothing here.
+/// A value that admits exactly what both admit, where they are supported and admit one.
 fn values_meet(a: &Value, b: &Value) -> Result<Option<Value>, AllocError> {
     match a {
         Value::Choice(choice) => choice_meets(choice, b),
         _ => match b {
-            Value::Choice(choice) => Ok(plain_meets(a, choice)),
+            Value::Choice(choice) => choice_meets(choice, a),
             _ => plain_values_meet(a, b),
         },
     }
@@ -143,7 +39,7 @@ fn plain_values_meet(a: &Value, b: &Value) -> Result<Option<Value>, AllocError> 
     Ok(None)
 }
 
-/// A value that admits exactly what the choice and the value both admit, where they admit one.
+/// A value that admits exactly what the choice and the value both admit, where they are supported and admit one.
 fn choice_meets(choice: &ChoiceValue, b: &Value) -> Result<Option<Value>, AllocError> {
     match choice {
         ChoiceValue::Bool(choice) => typed_meets(choice, b),
@@ -158,47 +54,27 @@ fn choice_meets(choice: &ChoiceValue, b: &Value) -> Result<Option<Value>, AllocE
     }
 }
 
-/// A value that admits exactly what a choice over one type and the value both admit, where they admit one.
+/// A value that admits exactly what a choice over the type `T` and the value both admit, where they are supported and admit one.
 fn typed_meets<T: Element>(
     choice: &Choice<T>,
     b: &Value,
 ) -> Result<Option<Value>, AllocError> {
     match b {
-        Value::Choice(other) => typed_choices_meet(choice, other),
-        _ => Ok(typed_admits(choice, b)),
+        Value::Choice(other) => match T::in_choice(other) {
+            Some(other) => choices_meet(choice, other),
+            None => Ok(None),
+        },
+        _ => match T::in_value(b) {
+            Some(x) => meet(&offer_of(&choice.1), &Offer::Only(x)),
+            None => Ok(None),
+        },
     }
 }
 
-/// A value that admits exactly what a choice over one type and another choice both admit, where they admit one.
-fn typed_choices_meet<T: Element>(
+/// A value that admits exactly what two choices over the type `T` both admit, where they are supported and admit one.
+pub(crate) fn choices_meet<T: Element>(
     choice: &Choice<T>,
-    other: &ChoiceValue,
+    other: &Choice<T>,
 ) -> Result<Option<Value>, AllocError> {
-    match T::in_choice(other) {
-        Some(other) => meet(&offer_of(&choice.1), &offer_of(&other.1)),
-        None => Ok(None),
-    }
-}
-
-/// The plain value, where the choice over one type admits it.
-fn typed_admits<T: Element>(choice: &Choice<T>, b: &Value) -> Option<Value> {
-    match T::in_value(b) {
-        Some(x) => meet_only(&offer_of(&choice.1), &Offer::Only(x), &x),
-        None => None,
-    }
-}
-
-/// The plain value, where the choice admits it.
-fn plain_meets(a: &Value, choice: &ChoiceValue) -> Option<Value> {
-    match choice {
-        ChoiceValue::Bool(choice) => typed_admits(choice, a),
-        ChoiceValue::Id(choice) => typed_admits(choice, a),
-        ChoiceValue::Int(choice) => typed_admits(choice, a),
-        ChoiceValue::Long(choice) => typed_admits(choice, a),
-        ChoiceValue::Float(choice) => typed_admits(choice, a),
-        ChoiceValue::Double(choice) => typed_admits(choice, a),
-        ChoiceValue::Rectangle(choice) => typed_admits(choice, a),
-        ChoiceValue::Fraction(choice) => typed_admits(choice, a),
-        ChoiceValue::Fd(choice) => typed_admits(choice, a),
-    }
+    meet(&offer_of(&choice.1), &offer_of(&other.1))
 }

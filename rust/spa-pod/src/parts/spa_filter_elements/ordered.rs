@@ -5,16 +5,10 @@ use crate::shims::prelude::*;
 use crate::parts::spa_fixed_sized::ChoiceElement;
 use crate::parts::spa_utils::{Fd, Float32, Float64, Fraction, Id, Rectangle};
 
-/// One of the nine types over which there are choices, with its order where it has one, and whether its elements may be flags.
+/// One of the nine types over which there are choices, with its order where it has one, and the bits of its elements where these may be flags.
 pub trait Ordered: ChoiceElement {
-    /// Whether the type has an order.
-    fn is_ordered() -> bool;
-
     /// Whether this element is no greater than the other.
     fn is_at_most(&self, other: &Self) -> bool;
-
-    /// Whether the type's elements may be flags.
-    fn is_flags() -> bool;
 
     /// Whether this element has at least one bit, and no bits but those of the other.
     fn are_among(&self, other: &Self) -> bool;
@@ -75,16 +69,8 @@ fn place(bits: u64, sign: u64) -> u64 {
 }
 
 impl Ordered for bool {
-    fn is_ordered() -> bool {
-        false
-    }
-
     fn is_at_most(&self, other: &Self) -> bool {
         let _other = *other;
-        false
-    }
-
-    fn is_flags() -> bool {
         false
     }
 
@@ -95,16 +81,8 @@ impl Ordered for bool {
 }
 
 impl Ordered for Id {
-    fn is_ordered() -> bool {
-        true
-    }
-
     fn is_at_most(&self, other: &Self) -> bool {
         self.0 <= other.0
-    }
-
-    fn is_flags() -> bool {
-        true
     }
 
     fn are_among(&self, other: &Self) -> bool {
@@ -114,16 +92,8 @@ impl Ordered for Id {
 }
 
 impl Ordered for i32 {
-    fn is_ordered() -> bool {
-        true
-    }
-
     fn is_at_most(&self, other: &Self) -> bool {
         *self <= *other
-    }
-
-    fn is_flags() -> bool {
-        true
     }
 
     fn are_among(&self, other: &Self) -> bool {
@@ -133,16 +103,8 @@ impl Ordered for i32 {
 }
 
 impl Ordered for i64 {
-    fn is_ordered() -> bool {
-        true
-    }
-
     fn is_at_most(&self, other: &Self) -> bool {
         *self <= *other
-    }
-
-    fn is_flags() -> bool {
-        true
     }
 
     fn are_among(&self, other: &Self) -> bool {
@@ -152,18 +114,10 @@ impl Ordered for i64 {
 }
 
 impl Ordered for Float32 {
-    fn is_ordered() -> bool {
-        true
-    }
-
     fn is_at_most(&self, other: &Self) -> bool {
         is_number(u64::from(self.0), FLOAT_SIGN, FLOAT_INFINITY)
             && is_number(u64::from(other.0), FLOAT_SIGN, FLOAT_INFINITY)
             && place(u64::from(self.0), FLOAT_SIGN) <= place(u64::from(other.0), FLOAT_SIGN)
-    }
-
-    fn is_flags() -> bool {
-        false
     }
 
     fn are_among(&self, other: &Self) -> bool {
@@ -173,18 +127,10 @@ impl Ordered for Float32 {
 }
 
 impl Ordered for Float64 {
-    fn is_ordered() -> bool {
-        true
-    }
-
     fn is_at_most(&self, other: &Self) -> bool {
         is_number(self.0, DOUBLE_SIGN, DOUBLE_INFINITY)
             && is_number(other.0, DOUBLE_SIGN, DOUBLE_INFINITY)
             && place(self.0, DOUBLE_SIGN) <= place(other.0, DOUBLE_SIGN)
-    }
-
-    fn is_flags() -> bool {
-        false
     }
 
     fn are_among(&self, other: &Self) -> bool {
@@ -194,16 +140,8 @@ impl Ordered for Float64 {
 }
 
 impl Ordered for Rectangle {
-    fn is_ordered() -> bool {
-        true
-    }
-
     fn is_at_most(&self, other: &Self) -> bool {
         self.width <= other.width && self.height <= other.height
-    }
-
-    fn is_flags() -> bool {
-        false
     }
 
     fn are_among(&self, other: &Self) -> bool {
@@ -213,19 +151,11 @@ impl Ordered for Rectangle {
 }
 
 impl Ordered for Fraction {
-    fn is_ordered() -> bool {
-        true
-    }
-
     fn is_at_most(&self, other: &Self) -> bool {
         self.denom > 0
             && other.denom > 0
             && u64::from(self.num) * u64::from(other.denom)
                 <= u64::from(other.num) * u64::from(self.denom)
-    }
-
-    fn is_flags() -> bool {
-        false
     }
 
     fn are_among(&self, other: &Self) -> bool {
@@ -235,16 +165,8 @@ impl Ordered for Fraction {
 }
 
 impl Ordered for Fd {
-    fn is_ordered() -> bool {
-        false
-    }
-
     fn is_at_most(&self, other: &Self) -> bool {
         let _other = *other;
-        false
-    }
-
-    fn is_flags() -> bool {
         false
     }
 

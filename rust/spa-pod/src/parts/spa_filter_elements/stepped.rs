@@ -21,9 +21,6 @@ pub struct Steps<T> {
 
 /// One of the nine types over which there are choices, with its steps where it has them.
 pub trait Stepped: Lattice {
-    /// Whether the type has steps.
-    fn has_steps() -> bool;
-
     /// Whether this element is a multiple of the other.
     fn is_multiple(&self, step: &Self) -> bool;
 
@@ -120,10 +117,6 @@ fn first_side(steps: &Steps<u32>) -> Option<u32> {
 }
 
 impl Stepped for bool {
-    fn has_steps() -> bool {
-        false
-    }
-
     fn is_multiple(&self, step: &Self) -> bool {
         let _step = *step;
         false
@@ -139,10 +132,6 @@ impl Stepped for bool {
 }
 
 impl Stepped for Id {
-    fn has_steps() -> bool {
-        false
-    }
-
     fn is_multiple(&self, step: &Self) -> bool {
         let _step = *step;
         false
@@ -158,10 +147,6 @@ impl Stepped for Id {
 }
 
 impl Stepped for i32 {
-    fn has_steps() -> bool {
-        true
-    }
-
     fn is_multiple(&self, step: &Self) -> bool {
         is_multiple(
             u64::from(self.unsigned_abs()),
@@ -193,10 +178,6 @@ impl Stepped for i32 {
 }
 
 impl Stepped for i64 {
-    fn has_steps() -> bool {
-        true
-    }
-
     fn is_multiple(&self, step: &Self) -> bool {
         is_multiple(self.unsigned_abs(), step.unsigned_abs())
     }
@@ -221,10 +202,6 @@ impl Stepped for i64 {
 }
 
 impl Stepped for Float32 {
-    fn has_steps() -> bool {
-        false
-    }
-
     fn is_multiple(&self, step: &Self) -> bool {
         let _step = *step;
         false
@@ -240,10 +217,6 @@ impl Stepped for Float32 {
 }
 
 impl Stepped for Float64 {
-    fn has_steps() -> bool {
-        false
-    }
-
     fn is_multiple(&self, step: &Self) -> bool {
         let _step = *step;
         false
@@ -259,10 +232,6 @@ impl Stepped for Float64 {
 }
 
 impl Stepped for Rectangle {
-    fn has_steps() -> bool {
-        true
-    }
-
     fn is_multiple(&self, step: &Self) -> bool {
         is_multiple(u64::from(self.width), u64::from(step.width))
             && is_multiple(u64::from(self.height), u64::from(step.height))
@@ -295,10 +264,6 @@ impl Stepped for Rectangle {
 }
 
 impl Stepped for Fraction {
-    fn has_steps() -> bool {
-        false
-    }
-
     fn is_multiple(&self, step: &Self) -> bool {
         let _step = *step;
         false
@@ -314,10 +279,6 @@ impl Stepped for Fraction {
 }
 
 impl Stepped for Fd {
-    fn has_steps() -> bool {
-        false
-    }
-
     fn is_multiple(&self, step: &Self) -> bool {
         let _step = *step;
         false

@@ -11,7 +11,8 @@ use crate::parts::spa_value::Value;
 use crate::shims::memory::AllocError;
 
 /// The value that admits exactly the elements that both offers admit: a plain value where one offer is one, else an Enum where one is one, else a
-/// Range, a Step or Flags. None: no element is admitted by both. Refused only for want of memory.
+/// Range, a Step or Flags. None: no element is admitted by both, or one offer is `Masked` and the other `Between` or `Stepped`, since no choice
+/// admits just what such two do. Refused only for want of memory.
 #[inline(never)]
 pub(crate) fn meet<T: Element>(
     a: &Offer<'_, T>,
@@ -37,7 +38,8 @@ pub(crate) fn meet<T: Element>(
     }
 }
 
-/// The value in which two offers meet of which neither is a single element or an Enum: a Range of two Ranges, Flags of two Flags, else a Step.
+/// The value in which two offers meet of which neither is a single element or an Enum: a Range of two Ranges, Flags of two Flags, else a Step. None:
+/// as of `meet`.
 fn meet_wide<T: Element>(a: &Offer<'_, T>, b: &Offer<'_, T>) -> Option<Value> {
     match a {
         Offer::Between(_, low, high) => match b {
@@ -47,24 +49,23 @@ fn meet_wide<T: Element>(a: &Offer<'_, T>, b: &Offer<'_, T>) -> Option<Value> {
                 meet_between(a, b, &low, &high)
             }
             Offer::Stepped(_, steps) => meet_stepped(a, b, &within(steps, low, high)),
-            _ => unreachable!(),
+            _ => None,
         },
         Offer::Stepped(_, steps) => match b {
             Offer::Between(_, low, high) => meet_stepped(a, b, &within(steps, low, high)),
             Offer::Stepped(_, others) => meet_stepped(a, b, &multiples_of_both(steps, others)),
-            _ => unreachable!(),
+            _ => None,
         },
         Offer::Masked(mask) => match b {
             Offer::Masked(other) => meet_masked(mask, other),
-            _ => unreachable!(),
+            _ => None,
         },
         _ => unreachable!(),
     }
 }
 
 /// The element as a value, where both offers admit it; no other element may be admitted by both. None: no element is.
-#[must_use]
-pub(crate) fn meet_only<T: Element>(a: &Offer<'_, T>, b: &Offer<'_, T>, x: &T) -> Option<Value> {
+fn meet_only<T: Element>(a: &Offer<'_, T>, b: &Offer<'_, T>, x: &T) -> Option<Value> {
     if admits(a, x) && admits(b, x) {
         return Some(x.value());
     }

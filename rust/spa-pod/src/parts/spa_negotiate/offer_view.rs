@@ -4,15 +4,16 @@
 use crate::shims::prelude::*;
 use crate::parts::spa_bodies::{CHOICE_HEADER_LEN, VALUE_TYPE_AT};
 use crate::parts::spa_bytes::{HEADER_LEN, open, u32_at, u64_at};
+use crate::parts::spa_canonical::fixed_len;
 use crate::parts::spa_fixed_sized::{ENUM_SHAPE, NONE_SHAPE, RANGE_SHAPE};
 use crate::parts::spa_utils::SpaTypes;
 use crate::shims::memory::AllocError;
 
 /// The length in bytes of a body of one word.
-const ONE_WORD: usize = 4;
+pub(crate) const ONE_WORD: usize = 4;
 
 /// The length in bytes of a body of two words.
-const TWO_WORDS: usize = 8;
+pub(crate) const TWO_WORDS: usize = 8;
 
 /// How long the values of an Enum are, in bytes, that are looked for one by one beside those of another: 16 values of two words.
 const SHORT_LEN: usize = 128;
@@ -69,18 +70,8 @@ fn choice_view(body: &[u8]) -> Option<OfferView<'_>> {
 
 /// Whether there are choices over values of this type.
 fn is_element_type(type_: u32) -> bool {
-    match SpaTypes(type_) {
-        SpaTypes::Bool => true,
-        SpaTypes::Id => true,
-        SpaTypes::Int => true,
-        SpaTypes::Long => true,
-        SpaTypes::Float => true,
-        SpaTypes::Double => true,
-        SpaTypes::Rectangle => true,
-        SpaTypes::Fraction => true,
-        SpaTypes::Fd => true,
-        _ => false,
-    }
+    let len = fixed_len(type_);
+    0 < len && len <= TWO_WORDS as u32
 }
 
 /// Whether two values of this length are the same bytes. Others than the first ones don't count.

@@ -4,7 +4,7 @@
 use crate::shims::prelude::*;
 use crate::parts::spa_negotiate::error::NegotiateError;
 use crate::parts::spa_negotiate::negotiation::common;
-use crate::parts::spa_negotiate::offer_view::{first_common, offer_view};
+use crate::parts::spa_negotiate::offer_view::{ONE_WORD, TWO_WORDS, first_common, offer_view};
 use crate::parts::spa_negotiate::support::is_supported;
 use crate::parts::spa_bytes::{joined, open, two_words, u32_at, u64_at, wide_body, word_body};
 use crate::parts::spa_events::is_container;
@@ -13,12 +13,6 @@ use crate::parts::spa_read::read_leaf;
 use crate::parts::spa_utils::SpaTypes;
 use crate::parts::spa_value::{Held, Value};
 use crate::parts::spa_write::write_value;
-
-/// The length in bytes of a body of one word.
-const ONE_WORD: usize = 4;
-
-/// The length in bytes of a body of two words.
-const TWO_WORDS: usize = 8;
 
 /// Appends a property with a plain value, or with the default of a choice.
 pub(crate) fn put_default(out: &mut Vec<u8>, key: u32, pod: &[u8]) -> bool {

@@ -13,7 +13,7 @@ use Rattle.spa_value.specs.declared.object.Object.{Object'}
 use Rattle.spa_value.specs.declared.value.Value.{Value}
 use Rattle.spa_value.specs.declared.value.Value.TheVariants as V
 use Rattle.spa_value.specs.View.{view, array_view, choice_view}
-use Rattle.spa_filter_offers.specs.Admits.{Admits, AdmitsNone}
+use Rattle.spa_filter_offers.specs.Admits.{Admits}
 use Rattle.spa_filter_offers.proofs.Offering.{kind_of-admitted}
 
 -- the type number of what a choice is over
@@ -29,22 +29,17 @@ element_type (C.Fraction c) = 11
 element_type (C.Fd c) = 18
 
 -- what it admits is of this type
-element_type-admitted : (c : ChoiceValue) (x : Fixed) → Admits (choice_view c) (fixed x) →
+pub admitted_type : (c : ChoiceValue) (x : Fixed) → Admits (choice_view c) (fixed x) →
     type_number (kind_of x) ≡ element_type c
-element_type-admitted (C.Bool c) x h = ap type_number (kind_of-admitted _ _ (λ y. refl) c.0.0 c.1 x h)
-element_type-admitted (C.Id c) x h = ap type_number (kind_of-admitted _ _ (λ y. refl) c.0.0 c.1 x h)
-element_type-admitted (C.Int c) x h = ap type_number (kind_of-admitted _ _ (λ y. refl) c.0.0 c.1 x h)
-element_type-admitted (C.Long c) x h = ap type_number (kind_of-admitted _ _ (λ y. refl) c.0.0 c.1 x h)
-element_type-admitted (C.Float c) x h = ap type_number (kind_of-admitted _ _ (λ y. refl) c.0.0 c.1 x h)
-element_type-admitted (C.Double c) x h = ap type_number (kind_of-admitted _ _ (λ y. refl) c.0.0 c.1 x h)
-element_type-admitted (C.Rectangle c) x h = ap type_number (kind_of-admitted _ _ (λ y. refl) c.0.0 c.1 x h)
-element_type-admitted (C.Fraction c) x h = ap type_number (kind_of-admitted _ _ (λ y. refl) c.0.0 c.1 x h)
-element_type-admitted (C.Fd c) x h = ap type_number (kind_of-admitted _ _ (λ y. refl) c.0.0 c.1 x h)
-
--- a choice of another type admits nothing of this kind
-none_admitted : (k : Kind) (c : ChoiceValue) → element_type c ≢ type_number k → (x : Fixed) →
-    Admits (choice_view c) (fixed x) → kind_of x ≢ k
-none_admitted k c n x h e = n (sym (element_type-admitted c x h) ∙ ap type_number e)
+admitted_type (C.Bool c) x h = ap type_number (kind_of-admitted _ _ (λ y. refl) c.0.0 c.1 x h)
+admitted_type (C.Id c) x h = ap type_number (kind_of-admitted _ _ (λ y. refl) c.0.0 c.1 x h)
+admitted_type (C.Int c) x h = ap type_number (kind_of-admitted _ _ (λ y. refl) c.0.0 c.1 x h)
+admitted_type (C.Long c) x h = ap type_number (kind_of-admitted _ _ (λ y. refl) c.0.0 c.1 x h)
+admitted_type (C.Float c) x h = ap type_number (kind_of-admitted _ _ (λ y. refl) c.0.0 c.1 x h)
+admitted_type (C.Double c) x h = ap type_number (kind_of-admitted _ _ (λ y. refl) c.0.0 c.1 x h)
+admitted_type (C.Rectangle c) x h = ap type_number (kind_of-admitted _ _ (λ y. refl) c.0.0 c.1 x h)
+admitted_type (C.Fraction c) x h = ap type_number (kind_of-admitted _ _ (λ y. refl) c.0.0 c.1 x h)
+admitted_type (C.Fd c) x h = ap type_number (kind_of-admitted _ _ (λ y. refl) c.0.0 c.1 x h)
 
 -- the type number of a value of fixed size
 abbrev pub content_type : Value → ℕ
@@ -105,75 +100,39 @@ other_content : (k : Kind) (v : Value) → content_type v ≢ type_number k → 
     view v ≡ fixed x → kind_of x ≢ k
 other_content k v n x h e = n (sym (content_type-view v x h) ∙ ap type_number e)
 
--- a value, or a choice, of another variant is no content, or admits none, of this kind
+-- a value of another variant is no content of this kind
 pub not_bool : (v : Value) → ((y : _) → v ≢ V.Bool y) → (x : Fixed) → view v ≡ fixed x → ¬ (kind_of x ≡ bool_kind)
 not_bool (V.Bool y) n = absurd (n y refl)
 not_bool v n = other_content bool_kind v (λ h. omega arith)
-
-pub not_over_bool : (c : ChoiceValue) → ((y : _) → c ≢ C.Bool y) → AdmitsNone bool_kind (choice_view c)
-not_over_bool (C.Bool y) n = absurd (n y refl)
-not_over_bool c n = none_admitted bool_kind c (λ h. omega arith)
 
 pub not_id : (v : Value) → ((y : _) → v ≢ V.Id y) → (x : Fixed) → view v ≡ fixed x → ¬ (kind_of x ≡ id_kind)
 not_id (V.Id y) n = absurd (n y refl)
 not_id v n = other_content id_kind v (λ h. omega arith)
 
-pub not_over_id : (c : ChoiceValue) → ((y : _) → c ≢ C.Id y) → AdmitsNone id_kind (choice_view c)
-not_over_id (C.Id y) n = absurd (n y refl)
-not_over_id c n = none_admitted id_kind c (λ h. omega arith)
-
 pub not_int : (v : Value) → ((y : _) → v ≢ V.Int y) → (x : Fixed) → view v ≡ fixed x → ¬ (kind_of x ≡ int_kind)
 not_int (V.Int y) n = absurd (n y refl)
 not_int v n = other_content int_kind v (λ h. omega arith)
-
-pub not_over_int : (c : ChoiceValue) → ((y : _) → c ≢ C.Int y) → AdmitsNone int_kind (choice_view c)
-not_over_int (C.Int y) n = absurd (n y refl)
-not_over_int c n = none_admitted int_kind c (λ h. omega arith)
 
 pub not_long : (v : Value) → ((y : _) → v ≢ V.Long y) → (x : Fixed) → view v ≡ fixed x → ¬ (kind_of x ≡ long_kind)
 not_long (V.Long y) n = absurd (n y refl)
 not_long v n = other_content long_kind v (λ h. omega arith)
 
-pub not_over_long : (c : ChoiceValue) → ((y : _) → c ≢ C.Long y) → AdmitsNone long_kind (choice_view c)
-not_over_long (C.Long y) n = absurd (n y refl)
-not_over_long c n = none_admitted long_kind c (λ h. omega arith)
-
 pub not_float : (v : Value) → ((y : _) → v ≢ V.Float y) → (x : Fixed) → view v ≡ fixed x → ¬ (kind_of x ≡ float_kind)
 not_float (V.Float y) n = absurd (n y refl)
 not_float v n = other_content float_kind v (λ h. omega arith)
-
-pub not_over_float : (c : ChoiceValue) → ((y : _) → c ≢ C.Float y) → AdmitsNone float_kind (choice_view c)
-not_over_float (C.Float y) n = absurd (n y refl)
-not_over_float c n = none_admitted float_kind c (λ h. omega arith)
 
 pub not_double : (v : Value) → ((y : _) → v ≢ V.Double y) → (x : Fixed) → view v ≡ fixed x → ¬ (kind_of x ≡ double_kind)
 not_double (V.Double y) n = absurd (n y refl)
 not_double v n = other_content double_kind v (λ h. omega arith)
 
-pub not_over_double : (c : ChoiceValue) → ((y : _) → c ≢ C.Double y) → AdmitsNone double_kind (choice_view c)
-not_over_double (C.Double y) n = absurd (n y refl)
-not_over_double c n = none_admitted double_kind c (λ h. omega arith)
-
 pub not_rectangle : (v : Value) → ((y : _) → v ≢ V.Rectangle y) → (x : Fixed) → view v ≡ fixed x → ¬ (kind_of x ≡ rectangle_kind)
 not_rectangle (V.Rectangle y) n = absurd (n y refl)
 not_rectangle v n = other_content rectangle_kind v (λ h. omega arith)
-
-pub not_over_rectangle : (c : ChoiceValue) → ((y : _) → c ≢ C.Rectangle y) → AdmitsNone rectangle_kind (choice_view c)
-not_over_rectangle (C.Rectangle y) n = absurd (n y refl)
-not_over_rectangle c n = none_admitted rectangle_kind c (λ h. omega arith)
 
 pub not_fraction : (v : Value) → ((y : _) → v ≢ V.Fraction y) → (x : Fixed) → view v ≡ fixed x → ¬ (kind_of x ≡ fraction_kind)
 not_fraction (V.Fraction y) n = absurd (n y refl)
 not_fraction v n = other_content fraction_kind v (λ h. omega arith)
 
-pub not_over_fraction : (c : ChoiceValue) → ((y : _) → c ≢ C.Fraction y) → AdmitsNone fraction_kind (choice_view c)
-not_over_fraction (C.Fraction y) n = absurd (n y refl)
-not_over_fraction c n = none_admitted fraction_kind c (λ h. omega arith)
-
 pub not_fd : (v : Value) → ((y : _) → v ≢ V.Fd y) → (x : Fixed) → view v ≡ fixed x → ¬ (kind_of x ≡ fd_kind)
 not_fd (V.Fd y) n = absurd (n y refl)
 not_fd v n = other_content fd_kind v (λ h. omega arith)
-
-pub not_over_fd : (c : ChoiceValue) → ((y : _) → c ≢ C.Fd y) → AdmitsNone fd_kind (choice_view c)
-not_over_fd (C.Fd y) n = absurd (n y refl)
-not_over_fd c n = none_admitted fd_kind c (λ h. omega arith)

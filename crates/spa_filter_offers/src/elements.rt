@@ -34,7 +34,7 @@ impl Element for bool {
         }
     }
 
-    #[tactic(auto, using(crate::proofs::Variants::not_over_bool))]
+    #[tactic(auto, using(crate::proofs::Variants::admitted_type))]
     fn in_choice(choice: &ChoiceValue) -> Option<&Choice<Self>> {
         match choice {
             ChoiceValue::Bool(choice) => Some(choice),
@@ -66,7 +66,7 @@ impl Element for Id {
         }
     }
 
-    #[tactic(auto, using(crate::proofs::Variants::not_over_id))]
+    #[tactic(auto, using(crate::proofs::Variants::admitted_type))]
     fn in_choice(choice: &ChoiceValue) -> Option<&Choice<Self>> {
         match choice {
             ChoiceValue::Id(choice) => Some(choice),
@@ -98,7 +98,7 @@ impl Element for i32 {
         }
     }
 
-    #[tactic(auto, using(crate::proofs::Variants::not_over_int))]
+    #[tactic(auto, using(crate::proofs::Variants::admitted_type))]
     fn in_choice(choice: &ChoiceValue) -> Option<&Choice<Self>> {
         match choice {
             ChoiceValue::Int(choice) => Some(choice),
@@ -130,7 +130,7 @@ impl Element for i64 {
         }
     }
 
-    #[tactic(auto, using(crate::proofs::Variants::not_over_long))]
+    #[tactic(auto, using(crate::proofs::Variants::admitted_type))]
     fn in_choice(choice: &ChoiceValue) -> Option<&Choice<Self>> {
         match choice {
             ChoiceValue::Long(choice) => Some(choice),
@@ -162,7 +162,7 @@ impl Element for Float32 {
         }
     }
 
-    #[tactic(auto, using(crate::proofs::Variants::not_over_float))]
+    #[tactic(auto, using(crate::proofs::Variants::admitted_type))]
     fn in_choice(choice: &ChoiceValue) -> Option<&Choice<Self>> {
         match choice {
             ChoiceValue::Float(choice) => Some(choice),
@@ -194,7 +194,7 @@ impl Element for Float64 {
         }
     }
 
-    #[tactic(auto, using(crate::proofs::Variants::not_over_double))]
+    #[tactic(auto, using(crate::proofs::Variants::admitted_type))]
     fn in_choice(choice: &ChoiceValue) -> Option<&Choice<Self>> {
         match choice {
             ChoiceValue::Double(choice) => Some(choice),
@@ -226,7 +226,7 @@ impl Element for Rectangle {
         }
     }
 
-    #[tactic(auto, using(crate::proofs::Variants::not_over_rectangle))]
+    #[tactic(auto, using(crate::proofs::Variants::admitted_type))]
     fn in_choice(choice: &ChoiceValue) -> Option<&Choice<Self>> {
         match choice {
             ChoiceValue::Rectangle(choice) => Some(choice),
@@ -258,7 +258,7 @@ impl Element for Fraction {
         }
     }
 
-    #[tactic(auto, using(crate::proofs::Variants::not_over_fraction))]
+    #[tactic(auto, using(crate::proofs::Variants::admitted_type))]
     fn in_choice(choice: &ChoiceValue) -> Option<&Choice<Self>> {
         match choice {
             ChoiceValue::Fraction(choice) => Some(choice),
@@ -290,7 +290,7 @@ impl Element for Fd {
         }
     }
 
-    #[tactic(auto, using(crate::proofs::Variants::not_over_fd))]
+    #[tactic(auto, using(crate::proofs::Variants::admitted_type))]
     fn in_choice(choice: &ChoiceValue) -> Option<&Choice<Self>> {
         match choice {
             ChoiceValue::Fd(choice) => Some(choice),

@@ -1,5 +1,5 @@
 -- What is written of a block.
-use Rattle.std.proofs.Common.{◌≡◌, ◌≢◌, [], append-nil, arith, refl, subst, sym, take, List, ℕ, Option, Some, None}
+use Rattle.std.proofs.Common.{◌≡◌, ◌≢◌, [], arith, refl, subst, sym, take, List, ℕ, Option}
 use Rattle.std.specs.Io.KnownBytes.{Appends}
 use Rattle.std.specs.Prelude.{Decides, IfErr, IfOk, Result}
 use Rattle.spa_recordings.specs.Streaming.{BeginsMade, IsNotMade, WritesMade}
@@ -16,10 +16,6 @@ use Rattle.pod_commands.specs.declared.request.Printing.{Printing}
 use Rattle.pod_commands.specs.declared.request.Style.{Style}
 use Rattle.pod_commands.specs.declared.request.Streaming.{Streaming}
 use Rattle.pod_commands.specs.declared.request.Streaming.TheVariants.{Json, Print}
-
-pub appends_nothing : (a : Option (List ℕ)) → Appends a a []
-appends_nothing None = tt
-appends_nothing (Some a) = sym (append-nil a)
 
 pub texts_written : (style : Style) (count place : ℕ) (block text out : List ℕ) (old new : Option (List ℕ)) (its : Made) → Prints style.layout block text →
     InColours style.colours text out → Appends old new out → its.refused ≡ 0 → Decides its.nothing (out ≡ []) →

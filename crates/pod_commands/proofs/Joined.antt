@@ -21,6 +21,7 @@ use Rattle.spa_recordings.specs.declared.going_on.RefusedPod.{RefusedPod}
 use Rattle.spa_recordings.specs.declared.reading.Reading.{Reading}
 use Rattle.spa_recordings.specs.declared.reading.Reading.TheVariants.{Exact, Lenient}
 use Rattle.spa_recordings.proofs.Holding.{count_joined, whole_front}
+use Rattle.spa_recordings.proofs.Streamed.{some_joined}
 use Rattle.spa_refusals.specs.Refusals.{IsRefusalOf}
 use Rattle.spa_refusals.specs.Several.{AreSaid}
 use Rattle.spa_refusals.specs.declared.several.NamedRefusal.{NamedRefusal}
@@ -32,10 +33,6 @@ use Rattle.pod_commands.proofs.Longer.{front_same, no_pod_longer, refusal_longer
 abbrev pub AreFronts : List ℕ → List RefusedPod → Type 0
 AreFronts a [] = ⊤
 AreFronts a (pod ∷ pods) = (pod.place ≤ length a) × HasFront (drop pod.place a) × AreFronts a pods
-
-some_longer : (xs ys : List ℕ) → xs ≢ [] → xs ++ ys ≢ []
-some_longer [] ys n e = n refl
-some_longer (x ∷ xs) ys n e = let l = ap length e in omega (arith, l)
 
 rest_longer : (pod more : List ℕ) → HasFront pod → rest_of (pod ++ more) ≡ rest_of pod ++ more
 rest_longer pod more f =
@@ -144,7 +141,7 @@ module _ (name : List ℕ) (reading : Reading) (refused : Refused) (Makes : List
     passes_longer o these count place n first left b pod f its =
         let size = by_size refused reading pod.place left o these n sized its.passed in
         record {
-          some = some_longer left b its.some;
+          some = some_joined left b its.some;
           nothing = no_pod_longer left b f reading pod.kind.now its.nothing;
           passed =
               goes_on_by_size refused reading pod.place (left ++ b) o these n sized (size.0 ∙ ap length (sym (front_same left b f))) size.1;

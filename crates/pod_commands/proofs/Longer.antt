@@ -1,7 +1,7 @@
 -- What is said of a refused pod, whatever follows it.
 use Rattle.std.proofs.Common.{◌≡◌, ◌≢◌, ◌≤◌, ◌<◌, ◌+◌, ◌⊎◌, ◌∙◌, ℕ, List, [], ◌++◌, Option, Some, None, ap, ap₂, append-nil, arith, drop, inl, inr, length, length-append, length-drop, refl, subst, sym, take}
 use Rattle.std.proofs.lemmas.List.{drop-append-le, drop_at, take-append-le, take_at}
-use Rattle.std.proofs.lemmas.Bool.Decides.{nat_tests}
+use Rattle.std.proofs.lemmas.Bool.{le-ltb}
 use Rattle.std.specs.Borrow.{Bor}
 use Rattle.std.specs.Prelude.{false, if◌then◌else◌, nat_lt, string_bytes}
 use Rattle.spa_fixed_sized.specs.Faults.{error_text, kind_text}
@@ -32,9 +32,6 @@ use Rattle.spa_refusals.specs.declared.refusal.Cut.{Cut}
 use Rattle.spa_refusals.specs.declared.refusal.Refusal.{Refusal}
 use Rattle.pod_commands.specs.Streaming.{StreamsAs}
 use Rattle.pod_commands.specs.declared.request.Streaming.TheVariants as streaming
-
-not_below : (a b : ℕ) → b ≤ a → nat_lt a b ≡ false
-not_below a b h = grind (arith, nat_tests)
 
 -- the causes have the same name and the same words
 abbrev IsSameCause : DeserializeError (Bor (List ℕ)) → DeserializeError (Bor (List ℕ)) → Type 0
@@ -67,22 +64,22 @@ module _ (pod more : List ℕ) (f : HasFront pod) where
   name_longer =
       let l = length-append pod more in
       let h = f.header in
-      let long : nat_lt (length (pod ++ more)) 8 ≡ false = not_below (length (pod ++ more)) 8 (omega (arith, l, h)) in
+      let long : nat_lt (length (pod ++ more)) 8 ≡ false = le-ltb (length (pod ++ more)) 8 (omega (arith, l, h)) in
       ap (λ z. if z then None else Some (type_text (type_number (pod ++ more)))) long
       ∙ ap₂ (λ t b. Some (type_text (number_of t b))) type_longer body_longer
-      ∙ sym (ap (λ z. if z then None else Some (type_text (type_number pod))) (not_below (length pod) 8 h))
+      ∙ sym (ap (λ z. if z then None else Some (type_text (type_number pod))) (le-ltb (length pod) 8 h))
 
   wanted_whole : wanted pod ≤ length pod
   wanted_whole =
       let h = f.header in
       let w = f.whole in
-      let e = ap (λ z. if z then 8 else extent (word_at pod 0)) (not_below (length pod) 8 h) in omega (arith, e, w)
+      let e = ap (λ z. if z then 8 else extent (word_at pod 0)) (le-ltb (length pod) 8 h) in omega (arith, e, w)
 
   wanted_longer : wanted (pod ++ more) ≤ length (pod ++ more)
   wanted_longer =
       let h = front_longer.header in
       let w = front_longer.whole in
-      let e = ap (λ z. if z then 8 else extent (word_at (pod ++ more) 0)) (not_below (length (pod ++ more)) 8 h) in omega (arith, e, w)
+      let e = ap (λ z. if z then 8 else extent (word_at (pod ++ more) 0)) (le-ltb (length (pod ++ more)) 8 h) in omega (arith, e, w)
 
   cut_longer : (place : ℕ) (cut : Option Cut) → IsCutOf place pod cut → IsCutOf place (pod ++ more) cut
   cut_longer place None h = wanted_longer

@@ -1,6 +1,5 @@
 -- What is made of inputs, name by name.
-use Rattle.std.proofs.Common.{◌≡◌, ◌∙◌, ◌∷◌, ◌++◌, ◌+◌, ◌<◌, ◌≤◌, [], add-one, append_assoc, append-nil, arith, ap, drop, drop-cons, get_or, inl, inr, length, length-drop, refl, sym, subst, List, ℕ, Option}
-use Rattle.std.proofs.lemmas.List.{nil_from_length}
+use Rattle.std.proofs.Common.{◌≡◌, ◌∙◌, ◌∷◌, ◌++◌, ◌+◌, [], append_assoc, append-nil, arith, ap, get_or, inl, inr, length, refl, sym, subst, List, ℕ, Option}
 use Rattle.std.specs.Borrow.{Bor}
 use Rattle.std.specs.Prelude.{Result, Ok, Err, IfOk}
 use Rattle.spa_recordings.specs.GoingOn.{MakesOf}
@@ -70,13 +69,6 @@ module _ (Makes : List ℕ → List ℕ → ℕ → Type 0) (Stops : List ℕ �
       so.stops more why
       (subst (λ l. StopsAt Makes Stops so.expected holds l more why) (sym e)
       (inl (bytes, known_all so.expected now holds name.now bytes so.known all, s)))
-
--- the next one of a list, and those behind it
-pub next_left : {X : Type 0} (xs : List X) (i : ℕ) (d : X) → i < length xs → drop i xs ≡ get_or xs i d ∷ drop (i + 1) xs
-next_left xs i d h = rw (add-one, drop-cons xs i d) refl
-
-pub none_left : {X : Type 0} (xs : List X) (i : ℕ) → length xs ≤ i → drop i xs ≡ []
-none_left xs i h = let l = length-drop i xs in nil_from_length (drop i xs) (omega (arith, l, h))
 
 -- what is made of bytes as they are
 pub exactly : {V E : Type 0} (r : Result V E) (items : V → List ℕ) (Makes : List ℕ → List ℕ → Type 0) (input : List ℕ) →

@@ -1,5 +1,6 @@
 -- Inputs that are worked on as they come, behind refused pods too.
 use Rattle.std.proofs.Common.{◌≡◌, ◌≢◌, ◌∙◌, ◌∷◌, ◌++◌, [], ap, append_assoc, append-nil, arith, inl, inr, length, refl, subst, sym, List, ℕ, Option, Some, None}
+use Rattle.std.proofs.KnownBytes.{Appends-nil, Appends-trans}
 use Rattle.std.specs.Borrow.{Bor}
 use Rattle.std.specs.Global.{Global}
 use Rattle.std.specs.Io.KnownBytes.{Appends}
@@ -30,11 +31,10 @@ use Rattle.pod_commands.specs.declared.passing.Worker.{Worker}
 use Rattle.pod_commands.specs.declared.request.Making.{Making}
 use Rattle.pod_commands.specs.declared.request.Making.TheVariants as making
 use Rattle.pod_commands.specs.declared.request.Streaming.TheVariants as streaming
-use Rattle.pod_commands.proofs.Blocks.{appends_nothing}
 use Rattle.pod_commands.proofs.Joined.{fronts, joined, said_joined}
 use Rattle.pod_commands.proofs.Made.{MadeSoFar}
 use Rattle.pod_commands.proofs.Made as step
-use Rattle.pod_commands.proofs.Streamed.{all_of, appends_more, written_more as more_written}
+use Rattle.pod_commands.proofs.Streamed.{all_of, written_more as more_written}
 use Rattle.pod_commands.proofs.Worked.{WorkedSoFar}
 use Rattle.pod_commands.proofs.Worked as worked
 
@@ -176,9 +176,9 @@ module _ (reading : Reading) (refused : Refused) (making : Making) where
 
       of : (input : List ℕ) × IsAllOf content input → IsUnread why → IsBrokenInPartAt reading refused making name content old old why
       of k (inl u) =
-          subst (IsBrokenInPartAt reading refused making name content old old) (sym u) (k.0, [], k.1, none_of k.0, appends_nothing old)
+          subst (IsBrokenInPartAt reading refused making name content old old) (sym u) (k.0, [], k.1, none_of k.0, Appends-nil old)
       of k (inr u) =
-          subst (IsBrokenInPartAt reading refused making name content old old) (sym u.2) (k.0, [], k.1, none_of k.0, appends_nothing old)
+          subst (IsBrokenInPartAt reading refused making name content old old) (sym u.2) (k.0, [], k.1, none_of k.0, Appends-nil old)
 
   -- what is known of a file's bytes is known of the file
   file_passed : (name : List ℕ) (content remaining old new : Option (List ℕ)) (olds news : List NamedRefusal) → IsOpened content remaining →
@@ -215,7 +215,7 @@ module _ (reading : Reading) (refused : Refused) (making : Making) where
     pub begins : (old : Option (List ℕ)) (said : List NamedRefusal) → said ≡ [] → PassedSoFar remaining names said old old
     begins old said e = record {
       out = [];
-      written = appends_nothing old;
+      written = Appends-nil old;
       works = worked.begins reading refused making remaining holds names [] said refl e;
       made = step.begins _ _ remaining holds names [] refl;
     }
@@ -226,7 +226,7 @@ module _ (reading : Reading) (refused : Refused) (making : Making) where
         PassedSoFar after behind news old new
     goes_on now after left behind name olds news old mid new e k w so = record {
       out = so.out ++ w.out;
-      written = appends_more old mid new so.out w.out so.written w.written;
+      written = Appends-trans old mid new so.out w.out so.written w.written;
       works =
           worked.goes_on reading refused making remaining holds names now after left behind name w.input w.out so.out (so.out ++ w.out) olds news e w.its k
           (worked.all_through reading refused making name.now w.input w.out olds news w.works) refl

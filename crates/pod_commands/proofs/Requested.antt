@@ -1,9 +1,9 @@
 -- What a parse found, as a request.
-use Rattle.std.proofs.Common.{false, ◌≡◌, ◌∙◌, ◌∷◌, ◌++◌, [], inl, inr, ap, ap₂, refl, sym, subst, arith, length, Bool, codes, List, Option, Some, None, true, true≢false}
+use Rattle.std.proofs.Common.{false, ◌≡◌, ◌∙◌, ◌∷◌, ◌++◌, [], inl, inr, ap, ap₂, refl, sym, subst, arith, length, Bool, codes, List, Option, Some, None, true}
+use Rattle.std.proofs.lemmas.Option.{none-some, same_Some}
 use Rattle.std.specs.Prelude.{Box, is_some, map, option_map, unwrap_or}
 use Rattle.std.specs.Borrow.{Bor}
 use Rattle.std.specs.Prelude.{Result, Ok, Err, IfErr, IfOk}
-use Rattle.std.specs.Result.{IsErrAnd}
 use Rattle.std.specs.Box.{box_value}
 use Rattle.clap.specs.Faults.{fault_of, is_simple_and_free}
 use Rattle.clap.specs.Kinds.{HasKind, IsAmong, Kinds}
@@ -31,21 +31,14 @@ use Rattle.pod_commands.specs.declared.request.Texts.{Texts}
 use Rattle.pod_commands.specs.declared.request.Word.{Word}
 use Rattle.pod_commands.specs.declared.request.Word.TheVariants.{Print, Make, Stream, Diff, Agree}
 
-value_or : {X : Type 0} → X → Option X → X
-value_or x None = x
-value_or x (Some y) = y
-
-some_none : {X : Type 0} (x : X) → Some x ≡ None → ⊥
-some_none x e = true≢false (ap is_some e)
-
 -- the name and the rows of a subcommand that was found
 module _ {Z : Type 0} where
   sub_some : (x : Option (Box SubCommand Z)) (name : Text) (rows : List Row) →
       Some name ≡ option_map (λ b. (out-SubCommand (box_value b)).name.now) x →
       Some rows ≡ option_map (λ p. p.1) (subcommand_rows x) → subcommand_rows x ≡ Some (name, rows)
-  unfolding value_or out-SubCommand out-ArgMatches
-  sub_some None name rows n r = absurd (some_none name n)
-  sub_some (Some b) name rows n r = ap₂ (λ s t. Some (s, t)) (sym (ap (value_or name) n)) (sym (ap (value_or rows) r))
+  unfolding out-SubCommand out-ArgMatches
+  sub_some None name rows n r = absurd (none-some name (sym n))
+  sub_some (Some b) name rows n r = ap₂ (λ s t. Some (s, t)) (sym (same_Some name _ n)) (sym (same_Some rows _ r))
 
 -- the program's command is one of which clap says all
 program_is_simple : is_simple program ≡ true
@@ -90,11 +83,6 @@ some_names (x ∷ xs) h = refl
 pub no_names : (xs : List (Bor Text)) → length xs ≡ 0 → or_input (map (λ v. v.now) xs) ≡ or_input []
 no_names [] h = refl
 no_names (x ∷ xs) h = absurd (omega (arith, h))
-
--- a refusal that is handed on
-pub cause_is : {T E : Type 0} (P : E → Type 0) (r : Result T E) (why : E) → IsErrAnd r (λ w. w ≡ why) → P why → IfErr r P
-cause_is P (Ok x) why h p = absurd h
-cause_is P (Err w) why h p = subst P (sym h) p
 
 -- one name is pushed
 pub pushed : (old new : List (Bor Text)) (x : Bor Text) → old ≡ [] → new ≡ old ++ (x ∷ []) → map (λ v. v.now) new ≡ x.now ∷ []

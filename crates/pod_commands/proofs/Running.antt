@@ -1,6 +1,6 @@
 -- What was made is sent, and answered.
-use Rattle.std.proofs.Common.{◌≡◌, inl, inr, refl, sym, subst, List, ℕ, Option, Some, None}
-use Rattle.std.specs.Io.KnownBytes.{Keeps}
+use Rattle.std.proofs.Common.{◌≡◌, inl, inr, refl, sym, subst, List, ℕ, Option}
+use Rattle.std.proofs.KnownBytes.{Keeps-refl}
 use Rattle.std.specs.Borrow.{Bor}
 use Rattle.std.specs.Prelude.{Result, Ok, Err, IfOk, IfErr}
 use Rattle.pod_commands.specs.Answers.{Gives, IsUntouched, OnAnswer, Outlet, Refuses, outlet}
@@ -9,14 +9,10 @@ use Rattle.pod_commands.specs.declared.answer.Answer.{Answer}
 use Rattle.pod_commands.specs.declared.answer.Answer.TheVariants.{Done, Refused}
 use Rattle.pod_commands.specs.declared.answer.Failure.{Failure}
 
-pub keeps_itself : (a : Option (List ℕ)) → Keeps a a
-keeps_itself None = tt
-keeps_itself (Some a) = refl
-
 -- nothing was written
 pub untouched : (target : Option (Bor (List ℕ))) (old : Option (List ℕ)) (holds : List ℕ → Option (List ℕ)) →
     IsUntouched (outlet target old old holds holds)
-untouched target old holds = (keeps_itself old, λ name. refl)
+untouched target old holds = (Keeps-refl old, λ name. refl)
 
 -- what was made was sent
 pub sent : (IsSo : List ℕ → Type 0) (IsRefused : Failure → Type 0) (o : Outlet) (made : List ℕ) (answer : Answer) → IsSo made →

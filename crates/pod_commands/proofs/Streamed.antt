@@ -1,5 +1,7 @@
 -- Inputs that are written of as they come, name by name.
-use Rattle.std.proofs.Common.{Global, Vec, ◌≡◌, ◌≢◌, ◌∙◌, ◌+◌, ◌∷◌, ◌++◌, ◌&&◌, [], Bool, false, true, true≢false, ap, append_assoc, append-nil, arith, inl, inr, length, refl, subst, suc, sym, take, List, ℕ, Option, Some, None}
+use Rattle.std.proofs.Common.{Global, Vec, ◌≡◌, ◌≢◌, ◌∙◌, ◌+◌, ◌∷◌, ◌++◌, ◌&&◌, [], false, true, true≢false, ap, append-nil, inl, inr, length, refl, subst, sym, take, List, ℕ, Option, Some, None}
+use Rattle.std.proofs.Math.Seq.{take-append-add}
+use Rattle.std.proofs.KnownBytes.{Appends-nil, Appends-trans}
 use Rattle.std.specs.Borrow.{Bor}
 use Rattle.std.specs.Io.KnownBytes.{Appends}
 use Rattle.spa_device.specs.Whole.{IsAllOf}
@@ -7,6 +9,7 @@ use Rattle.std.specs.Prelude.{◌⊎◌, Decides, is_some, IfErr, IfOk, Result, 
 use Rattle.spa_recordings.specs.declared.reading.Reading.{Reading}
 use Rattle.spa_recordings.specs.declared.reading.Reading.TheVariants.{Exact, Lenient}
 use Rattle.spa_recordings.proofs.Holding.{nothing_read}
+use Rattle.spa_recordings.proofs.Streamed.{some_behind, both_nothing}
 use Rattle.spa_recordings.specs.Streaming.{EndsAtPod, MakesFirst, MayStop, Stops, Streams}
 use Rattle.spa_recordings.specs.declared.streaming.Made.{Made}
 use Rattle.spa_recordings.specs.declared.streaming.Stop.{Stop}
@@ -32,14 +35,7 @@ use Rattle.pod_commands.specs.declared.request.Streaming.{Streaming}
 use Rattle.pod_commands.specs.declared.request.Streaming.TheVariants as streaming
 use Rattle.pod_commands.proofs.Made.{MadeSoFar}
 use Rattle.pod_commands.proofs.Made as step
-use Rattle.pod_commands.proofs.Blocks.{appends_nothing}
 use Rattle.pod_commands.proofs.Running.{untouched}
-
-pub appends_more : (a b c : Option (List ℕ)) (xs ys : List ℕ) → Appends a b xs → Appends b c ys → Appends a c (xs ++ ys)
-appends_more None b c xs ys k l = tt
-appends_more (Some a) None c xs ys k l = absurd k
-appends_more (Some a) (Some b) None xs ys k l = absurd l
-appends_more (Some a) (Some b) (Some c) xs ys k l = l ∙ ap (λ zs. zs ++ ys) k ∙ append_assoc a xs ys
 
 -- how far the work is: these bytes are written, and they are what is made of the inputs so far
 pub record StreamedSoFar (reading : Reading) (s : Streaming) (remaining : Option (List ℕ)) (holds : List ℕ → Option (List ℕ)) (names : List (Bor (List ℕ)))
@@ -51,43 +47,25 @@ pub record StreamedSoFar (reading : Reading) (s : Streaming) (remaining : Option
 
 -- nothing was written behind what was
 appends_on : (a b c : Option (List ℕ)) (xs : List ℕ) → Appends a b xs → Appends b c [] → Appends a c xs
-appends_on a b c xs h k = subst (Appends a c) (append-nil xs) (appends_more a b c xs [] h k)
-
-take_behind : (xs ys : List ℕ) (n : ℕ) → take (length xs + n) (xs ++ ys) ≡ xs ++ take n ys
-take_behind [] ys n = ap (λ m. take m ys) (let e : 0 + n ≡ n = omega arith in e)
-take_behind (x ∷ xs) ys n =
-    ap (λ m. take m (x ∷ (xs ++ ys))) (let e : suc (length xs) + n ≡ suc (length xs + n) = omega arith in e) ∙ ap (λ l. x ∷ l) (take_behind xs ys n)
-
-some_behind : (xs ys : List ℕ) → ys ≢ [] → xs ++ ys ≢ []
-some_behind [] ys n e = n e
-some_behind (x ∷ xs) ys n e = let l = ap length e in omega (arith, l)
+appends_on a b c xs h k = subst (Appends a c) (append-nil xs) (Appends-trans a b c xs [] h k)
 
 -- what was written behind what was
 pub written_more : (a b c : Option (List ℕ)) (xs ys : List ℕ) (why : Failure) → Appends a b xs → IsWritten why b c ys → IsWritten why a c (xs ++ ys)
 written_more a b c xs ys (Unwritten t) h k = (
   some_behind xs ys k.0,
   length xs + k.1,
-  subst (Appends a c) (sym (take_behind xs ys k.1)) (appends_more a b c xs (take k.1 ys) h k.2),
+  subst (Appends a c) (sym (take-append-add xs ys k.1)) (Appends-trans a b c xs (take k.1 ys) h k.2),
 )
-written_more a b c xs ys (Pods n w) h k = appends_more a b c xs ys h k
-written_more a b c xs ys (Texts n w) h k = appends_more a b c xs ys h k
-written_more a b c xs ys (Pair n w) h k = appends_more a b c xs ys h k
-written_more a b c xs ys (Lists n m w) h k = appends_more a b c xs ys h k
-written_more a b c xs ys OutOfMemory h k = appends_more a b c xs ys h k
-written_more a b c xs ys (Unread n words) h k = appends_more a b c xs ys h k
-
--- both are nothing exactly where all is
-both_nothing : (a b : Bool) (x y : List ℕ) → Decides a (x ≡ []) → Decides b (y ≡ []) → Decides (a && b) (x ++ y ≡ [])
-both_nothing true b x y f g = (λ e. ap (λ z. z ++ y) (f.0 refl) ∙ g.0 e, λ e. g.1 (sym (ap (λ z. z ++ y) (f.0 refl)) ∙ e))
-both_nothing false b x y f g = (λ e. absurd (true≢false (sym e)), λ e. f.1 (first_nothing x y e))
-  where
-    first_nothing : (x y : List ℕ) → x ++ y ≡ [] → x ≡ []
-    first_nothing [] y e = refl
-    first_nothing (n ∷ x) y e = let l = ap length e in let no : ⊥ = omega (arith, l) in absurd no
+written_more a b c xs ys (Pods n w) h k = Appends-trans a b c xs ys h k
+written_more a b c xs ys (Texts n w) h k = Appends-trans a b c xs ys h k
+written_more a b c xs ys (Pair n w) h k = Appends-trans a b c xs ys h k
+written_more a b c xs ys (Lists n m w) h k = Appends-trans a b c xs ys h k
+written_more a b c xs ys OutOfMemory h k = Appends-trans a b c xs ys h k
+written_more a b c xs ys (Unread n words) h k = Appends-trans a b c xs ys h k
 
 module _ (reading : Reading) (s : Streaming) (remaining : Option (List ℕ)) (holds : List ℕ → Option (List ℕ)) (names : List (Bor (List ℕ))) where
   pub begins : (old : Option (List ℕ)) → StreamedSoFar reading s remaining holds names remaining names (record { refused = 0; nothing = true }) old old
-  begins old = record { out = []; nothing = (λ e. refl, λ e. refl); written = appends_nothing old; made = step.begins _ _ remaining holds names [] refl }
+  begins old = record { out = []; nothing = (λ e. refl, λ e. refl); written = Appends-nil old; made = step.begins _ _ remaining holds names [] refl }
 
   pub goes_on : (now after : Option (List ℕ)) (left behind : List (Bor (List ℕ))) (name : Bor (List ℕ)) (before more all : Made) (old mid new : Option (List ℕ)) →
       left ≡ name ∷ behind → IsKnown (left_behind now name.now) after → Streams (StreamsAs reading s) (content_of now holds name.now) mid new more →
@@ -97,7 +75,7 @@ module _ (reading : Reading) (s : Streaming) (remaining : Option (List ℕ)) (ho
     out = so.out ++ w.out;
     nothing =
         subst (λ z. Decides z (so.out ++ w.out ≡ [])) (sym none) (both_nothing before.nothing more.nothing so.out w.out so.nothing w.made.1);
-    written = appends_more old mid new so.out w.out so.written w.written;
+    written = Appends-trans old mid new so.out w.out so.written w.written;
     made =
         step.goes_on _ _ remaining holds names now after left behind name w.input w.out so.out (so.out ++ w.out) more.refused before.refused all.refused e w.read k w.made.0 refl sum
         so.made;
@@ -143,8 +121,8 @@ unread reading s name content old why u = of (known content) u
     known (Some xs) = (xs, refl)
 
     of : (input : List ℕ) × IsAllOf content input → IsUnread why → IsBrokenAt reading s name content old old why
-    of k (inl e) = subst (IsBrokenAt reading s name content old old) (sym e) (k.0, [], k.1, (k.0, none_of reading s k.0), appends_nothing old)
-    of k (inr e) = subst (IsBrokenAt reading s name content old old) (sym e.2) (k.0, [], k.1, (k.0, none_of reading s k.0), appends_nothing old)
+    of k (inl e) = subst (IsBrokenAt reading s name content old old) (sym e) (k.0, [], k.1, (k.0, none_of reading s k.0), Appends-nil old)
+    of k (inr e) = subst (IsBrokenAt reading s name content old old) (sym e.2) (k.0, [], k.1, (k.0, none_of reading s k.0), Appends-nil old)
 
 -- it ends before it is done
 module _ (reading : Reading) (s : Streaming) (name : Bor (List ℕ)) (content old mid new : Option (List ℕ)) where
@@ -208,7 +186,7 @@ module _ (reading : Reading) (s : Streaming) (name : Bor (List ℕ)) (content ol
         h.out ++ last,
         h.its,
         (t.0.0, read.items, ends_shown h.input (h.out ++ last) h.out last number place w.number w.place read.items refl t.0.1 t.0.2 h.ends shows, t.0.3),
-        appends_more old mid new h.out last h.written t.1.2,
+        Appends-trans old mid new h.out last h.written t.1.2,
       )
   at_shown printing number place read (Unwritten n) e t h =
       let last = t.1 in

@@ -2,8 +2,8 @@
 use Rattle.std.proofs.Common.{◌≡◌, ◌≤◌, ◌<◌, ◌+◌, ◌∙◌, ℕ, true, List, [], ◌∷◌, ◌++◌, append_assoc, append-nil, ap, arith, drop, length, length-append, length-take, sym, subst, take}
 use Rattle.std.proofs.lemmas.List.{drop_at, take_at}
 use Rattle.spa_format.specs.Front.{front_of, rest_of}
-use Rattle.spa_format.proofs.Fronts.{front_and_rest}
-use Rattle.spa_recordings.proofs.Holding.{few_whole, rest_is_shorter}
+use Rattle.spa_format.proofs.Fronts.{front_and_rest, rest_is_shorter}
+use Rattle.spa_recordings.proofs.Holding.{few_whole}
 use Rattle.spa_recordings.specs.declared.going_on.Refused.{Refused}
 use Rattle.spa_recordings.specs.declared.reading.Reading.{Reading}
 use Rattle.spa_refusals.specs.declared.several.NamedRefusal.{NamedRefusal}

@@ -1,6 +1,7 @@
 -- Files that are read twice.
-use Rattle.std.proofs.Common.{◌≡◌, ◌∙◌, ◌∷◌, [], ap, arith, inl, inr, refl, subst, sym, true≢false, List, ℕ, Option, Some, None}
-use Rattle.std.specs.Prelude.{⊤, false, if◌then◌else◌, is_some}
+use Rattle.std.proofs.Common.{◌≡◌, ◌∙◌, ◌∷◌, [], arith, inl, inr, refl, subst, sym, List, ℕ, Option, Some, None}
+use Rattle.std.proofs.lemmas.Option.{none-some}
+use Rattle.std.specs.Prelude.{⊤, false, if◌then◌else◌}
 use Rattle.std.specs.Borrow.{Bor}
 use Rattle.std.specs.Str.{bytes_eq}
 use Rattle.spa_device.specs.Whole.{IsAllOf}
@@ -121,14 +122,11 @@ unknown r holds names made out n _ files m s = tt
 rewritten : (input out : List ℕ) (n : ℕ) → StreamsAs Exact streaming.Rewrite input out n → MakesAll Exact Rewrite input out n
 rewritten input out n h = ((h.0, h.1, h.2.0), h.2.1)
 
-none_some : {X : Type 0} (x : X) → None ≡ Some x → ⊥
-none_some x e = true≢false (sym (ap is_some e))
-
 pub read_again : (answer : Answer) (r s : Option (List ℕ)) (names : List (Bor (List ℕ))) (o : Outlet) → MayReadTwice Exact Rewrite names o.target →
     AreMade (MakesAll Exact Check) r o.before names [] 0 → IsWrittenAs Exact streaming.Rewrite answer s names o → IsMadeBy Exact Stops Rewrite answer r names o
 read_again Done r s names o may m h =
     inl (h.0, made_of_files (StreamsAs Exact streaming.Rewrite) (MakesAll Exact Rewrite) s r o.before names h.0 0 rewritten may.files h.1.0, h.2)
-read_again (Missing k) r s names o may m h = absurd (none_some k h.0)
+read_again (Missing k) r s names o may m h = absurd (none-some k h.0)
 read_again (Shown k) r s names o may m h = absurd (h.0 (none_refused s o.before names h.1.0 k h.1.1))
 read_again (Refused why) r s names o may m h =
     let stops = stops_at_files (StreamsAs Exact streaming.Rewrite) (EndsIn Exact streaming.Rewrite) s r o.before names h.0.0 why may.files h.0.1 in

@@ -7,10 +7,10 @@ use Rattle.spa_recordings.specs.GoingOn.{GoesOn, GoesOnFrom, ends, no_overlap, p
 use Rattle.spa_recordings.specs.declared.going_on.Overlap.{Overlap}
 use Rattle.spa_recordings.specs.declared.going_on.Refused.{Refused}
 use Rattle.spa_recordings.specs.declared.going_on.RefusedPod.{RefusedPod}
-use Rattle.spa_recordings.specs.Reading.{IsNoPod, IsNothing}
+use Rattle.spa_recordings.specs.Reading.{IsNothing}
 use Rattle.spa_recordings.proofs.Going.{passed_some}
+use Rattle.spa_recordings.proofs.Streamed.{nothing_of}
 use Rattle.spa_recordings.specs.declared.reading.Reading.{Reading}
-use Rattle.spa_recordings.specs.declared.reading.Reading.TheVariants.{Exact, Lenient}
 use Rattle.spa_refusals.specs.Several.{AreRefused}
 use Rattle.spa_refusals.specs.declared.several.NamedRefusal.{NamedRefusal}
 use Rattle.pod_commands.specs.Inputs.{IsKnown, content_of, left_behind}
@@ -18,10 +18,6 @@ use Rattle.pod_commands.specs.Making.{Makes}
 use Rattle.pod_commands.specs.Working.{AreWorked, WorksOn, WorksThrough, to_end}
 use Rattle.pod_commands.specs.declared.request.Making.{Making}
 use Rattle.pod_commands.proofs.Known.{known_all, known_behind}
-
-no_pod : (reading : Reading) (left kind : List ℕ) → IsNoPod reading left kind → IsNothing reading left
-no_pod Exact left kind h = h.0
-no_pod Lenient left kind h = h.0
 
 -- the refused pods of what is left of a part of an input aren't read
 left_refused : (name : List ℕ) (reading : Reading) (refused : Refused) (Makes : List ℕ → List ℕ → Type 0) (before : ℕ) (part : List ℕ) (these : Overlap)
@@ -43,7 +39,7 @@ left_refused name reading refused Makes before part these count place left out p
     ∙ sym (drop-drop n (pod.place - before) part) ∙ ap (drop n) here in (
       omega (arith, is, b),
       omega (arith, is, l, a, some, fits),
-      subst (IsNothing reading) (sym here) (no_pod reading at pod.kind.now its.nothing),
+      subst (IsNothing reading) (sym here) (nothing_of reading at pod.kind.now its.nothing),
       left_refused name reading refused Makes before part behind pod.number (pod.place + n) (drop n at) others more on (omega (arith, is, b)) after
           (omega (arith, is, l, a, d, fits)),
     )

@@ -4,4 +4,3 @@ pub mod SinkRefusals
 pub mod Frames
 pub mod Pieces
 pub mod Parts
-mod Wholes

@@ -26,6 +26,17 @@ says_through stands stands' memory memory' f g refusal.MissingChoiceValues h = f
 says_through stands stands' memory memory' f g refusal.WrongSize h = f WrongSize h
 says_through stands stands' memory memory' f g refusal.OutOfMemory h = g h
 
+-- what a refusal says implies what each fault that stands does, and want of memory
+pub said : (stands : Fault → Type 0) (memory fact : Type 0) → ((k : Fault) → stands k → fact) → (memory → fact) →
+    (why : Refusal) → Says stands memory why → fact
+said stands memory fact f g refusal.Short s = f Short s
+said stands memory fact f g refusal.Text s = f Text s
+said stands memory fact f g refusal.InvalidType s = f InvalidType s
+said stands memory fact f g refusal.InvalidChoiceType s = f InvalidChoiceType s
+said stands memory fact f g refusal.MissingChoiceValues s = f MissingChoiceValues s
+said stands memory fact f g refusal.WrongSize s = f WrongSize s
+said stands memory fact f g refusal.OutOfMemory s = g s
+
 -- a fault of the body stands at the front
 pub at_front_of : (b : List ℕ) (k : Fault) →
     HasFront b → StandsInBody (word_at b 4) (body_of b) k → StandsAtFront k b
@@ -75,22 +86,38 @@ choice_refused k b refusal.MissingChoiceValues l p r = (refl, r)
 choice_refused k b refusal.WrongSize l p r = of_choice k refl p r
 choice_refused k b refusal.OutOfMemory l p r = inr (inr (inr (inr (inr (inr refl)))))
 
--- The public refusal that is made of one at a place.
+-- What the public refusal says that is made of one at a place.
+module _ (stands : Fault → List ℕ → Type 0) (memory : Type 0) (place : Bor (List ℕ)) where
+  -- what each fault that stands implies
+  pub said_so : (P : Type 0) → ((k : Fault) → stands k place.now → P) → (why : Refusal) →
+      Says (λ k. stands k place.now) memory why → OnFault P (error_of place why)
+  said_so P f refusal.Short s = f Short s
+  said_so P f refusal.Text s = f Text s
+  said_so P f refusal.InvalidType s = f InvalidType s
+  said_so P f refusal.InvalidChoiceType s = f InvalidChoiceType s
+  said_so P f refusal.MissingChoiceValues s = f MissingChoiceValues s
+  said_so P f refusal.WrongSize s = f WrongSize s
+  said_so P f refusal.OutOfMemory s = tt
 
-said_refused : (input : List ℕ) (place : Bor (List ℕ)) (why : Refusal) →
-    RefusesPod input place.now why → OnFault (IsRefused input) (error_of place why)
-said_refused input place refusal.Short s = format.refused Short place.now input s
-said_refused input place refusal.Text s = format.refused Text place.now input s
-said_refused input place refusal.InvalidType s = format.refused InvalidType place.now input s
-said_refused input place refusal.InvalidChoiceType s = format.refused InvalidChoiceType place.now input s
-said_refused input place refusal.MissingChoiceValues s = format.refused MissingChoiceValues place.now input s
-said_refused input place refusal.WrongSize s = format.refused WrongSize place.now input s
-said_refused input place refusal.OutOfMemory s = tt
+  pub said_memory : (why : Refusal) → Says (λ k. stands k place.now) memory why → OnMemory memory (error_of place why)
+  said_memory refusal.OutOfMemory s = s
+  said_memory _ s = tt
 
-said_memory : (input : List ℕ) (place : Bor (List ℕ)) (why : Refusal) →
-    RefusesPod input place.now why → OnMemory (MayLackMemory input) (error_of place why)
-said_memory input place refusal.OutOfMemory s = s
-said_memory input place _ s = tt
+  pub said_short : (input : List ℕ) → ((k : Fault) → stands k place.now → (k ≡ Short) × (place.now ≡ input)) → ¬ memory →
+      (why : Refusal) → Says (λ k. stands k place.now) memory why → IsShortAt input (error_of place why)
+  said_short input only n refusal.Short s = (refl, (only Short s).1)
+  said_short input only n refusal.Text s = cc ((only Text s).0)
+  said_short input only n refusal.InvalidType s = cc ((only InvalidType s).0)
+  said_short input only n refusal.InvalidChoiceType s = cc ((only InvalidChoiceType s).0)
+  said_short input only n refusal.MissingChoiceValues s = cc ((only MissingChoiceValues s).0)
+  said_short input only n refusal.WrongSize s = cc ((only WrongSize s).0)
+  said_short input only n refusal.OutOfMemory s = absurd (n s)
+
+  pub said_fault : (why : Refusal) → Says (λ k. stands k place.now) memory why → Names stands (error_of place why)
+  said_fault refusal.Short s = s
+  said_fault refusal.Text s = s
+  said_fault refusal.OutOfMemory s = tt
+  said_fault _ s = (place.now, s)
 
 -- where the front isn't there, no fault stands but that it is short
 only_short : (k : Fault) (place input : List ℕ) → Stands k place input → ¬ (HasFront input) → (k ≡ Short) × (place ≡ input)
@@ -104,28 +131,14 @@ only_short k place _ (in_member b vs first left h _ _ _ _ _) n = absurd (n h)
 only_short k place _ (in_key b ps first h _ _ _ _ _ _ _) n = absurd (n h)
 only_short k place _ (in_property b ps first left h _ _ _ _ _ _) n = absurd (n h)
 
-said_short : (input : List ℕ) (place : Bor (List ℕ)) (why : Refusal) →
-    RefusesPod input place.now why → ¬ (HasFront input) → IsShortAt input (error_of place why)
-said_short input place refusal.Short s n = (refl, (only_short Short place.now input s n).1)
-said_short input place refusal.Text s n = cc ((only_short Text place.now input s n).0)
-said_short input place refusal.InvalidType s n = cc ((only_short InvalidType place.now input s n).0)
-said_short input place refusal.InvalidChoiceType s n = cc ((only_short InvalidChoiceType place.now input s n).0)
-said_short input place refusal.MissingChoiceValues s n = cc ((only_short MissingChoiceValues place.now input s n).0)
-said_short input place refusal.WrongSize s n = cc ((only_short WrongSize place.now input s n).0)
-said_short input place refusal.OutOfMemory s n = absurd (n s.0)
-
-said_fault : (input : List ℕ) (place : Bor (List ℕ)) (why : Refusal) →
-    RefusesPod input place.now why → Names (λ k at. Stands k at input) (error_of place why)
-said_fault input place refusal.Short s = s
-said_fault input place refusal.Text s = s
-said_fault input place refusal.OutOfMemory s = tt
-said_fault input place _ s = (place.now, s)
-
 pub refused_as : (input : List ℕ) (place : Bor (List ℕ)) (why : Refusal) →
     RefusesPod input place.now why → RefusesInput input (error_of place why)
-refused_as input place why s = record {
-  refused = said_refused input place why s;
-  memory = said_memory input place why s;
-  short_first = said_short input place why s;
-  named = said_fault input place why s;
-}
+refused_as input place why s =
+    let stands : Fault → List ℕ → Type 0 = λ k at. Stands k at input in
+    let lacks = MayLackMemory input in
+    record {
+      refused = said_so stands lacks place (IsRefused input) (λ k. format.refused k place.now input) why s;
+      memory = said_memory stands lacks place why s;
+      short_first = λ n. said_short stands lacks place input (λ k h. only_short k place.now input h n) (λ h. n h.0) why s;
+      named = said_fault stands lacks place why s;
+    }

@@ -1,7 +1,6 @@
 -- A pod that is at hand: where its value may come next, and what its bytes say of it.
 use Rattle.std.proofs.Common.{◌≡◌, ◌≢◌, ℕ, ◌+◌, ◌<◌, List, [], ◌∷◌, length, refl, sym, ap, ◌∙◌, subst, arith, Bool, true, false, inl, inr, Err}
 use Rattle.std.specs.Prelude.{Option, Some, None, Result, is_some}
-use Rattle.std.proofs.lemmas.List.{take_all}
 use Rattle.spa_format.specs.Faults.{Fault, Stands}
 use Rattle.spa_format.specs.Faults as fault
 use Rattle.spa_format.specs.Kind.{Fixed, Kind, kind_of, type_number}
@@ -9,10 +8,10 @@ use Rattle.spa_format.specs.Tree.{Tree, Trees, fixed, type_of}
 use Rattle.spa_format.specs.Words.{extent, word_at}
 use Rattle.spa_format.specs.Pod.{IsPod, IsWhole}
 use Rattle.spa_format.specs.Encoding.{encoded_body, encoding_of}
-use Rattle.spa_format.specs.Front.{Begins, front_of, rest_of}
+use Rattle.spa_format.specs.Front.{Begins, rest_of}
 use Rattle.spa_format.specs.Typed.{IsBytes}
 use Rattle.spa_format.proofs.Back.{body_fits, type_fits, whole_frame}
-use Rattle.spa_format.proofs.Fronts.{length-body_of}
+use Rattle.spa_format.proofs.Fronts.{length-body_of, own_front}
 use Rattle.spa_format.proofs.Origin.{writable}
 use Rattle.spa_format.proofs.Refused.{refused}
 use Rattle.spa_format.proofs.Shapes.{fixed_only}
@@ -75,10 +74,6 @@ is_somewhere None e f = absurd (cc)
 is_somewhere (Some s) e f = cc
 
 -- ---- what its bytes say
-
--- a whole pod is its own front
-own_front : (b : List ℕ) → length b ≡ extent (word_at b 0) → front_of b ≡ b
-own_front b l = take_all (extent (word_at b 0)) b (omega (arith, l))
 
 pub own_pod : (b : List ℕ) (v : Tree) → length b ≡ extent (word_at b 0) → Begins b v → IsPod b v
 own_pod b v l h = subst (λ c. IsPod c v) (own_front b l) h.pod

@@ -1,10 +1,12 @@
 -- The bodies of an array's elements: what they say, and how they are written one after another.
-use Rattle.std.proofs.Common.{◌≡◌, ℕ, zero, suc, ◌+◌, ◌*◌, ◌/◌, ◌%◌, ◌<◌, ◌≤◌, List, [], ◌∷◌, ◌++◌, length, take, drop, map, refl, sym, ap, subst, ◌∙◌, arith, append_assoc, length-append, length-take, length-drop, Ok, Err}
+use Rattle.std.proofs.Common.{◌≡◌, ℕ, zero, suc, ◌+◌, ◌*◌, ◌%◌, ◌<◌, ◌≤◌, List, [], ◌∷◌, ◌++◌, length, take, drop, map, refl, sym, ap, subst, ◌∙◌, arith, append_assoc, length-take, Ok, Err}
 use Rattle.std.specs.Prelude.{OnErr, OnOk, Result}
 use Rattle.std.specs.Simd.{first_chunks}
 use Rattle.std.proofs.Math.Nat.{mul-mod_left}
-use Rattle.std.proofs.lemmas.List.{append-nil, nil_from_length, take_at}
+use Rattle.std.proofs.lemmas.List.{append-nil}
 use Rattle.spa_fixed_sized.specs.Reading.{AreWhole}
+use Rattle.spa_fixed_sized.proofs.Chunks.{elements_of_bodies}
+use Rattle.spa_fixed_sized.proofs.ArrayWriting.{array_encoding}
 use Rattle.spa_format.specs.Encoding.{array_body, fixed_bodies, encoded_pod}
 use Rattle.spa_format.specs.Tree.{array_type}
 use Rattle.spa_format.specs.Words.{padding, word_bytes}
@@ -15,36 +17,12 @@ use Rattle.spa_builder.specs.Fields.{BuilderFields, IsAt, HasState}
 use Rattle.spa_builder.specs.State.{State}
 use Rattle.spa_builder.specs.Step.{Outcome}
 use Rattle.spa_builder.proofs.Steps.{kept}
+use Rattle.spa_builder.proofs.Valued.{appended_back}
 use Rattle.spa_utils.specs.declared.errno.Errno.{Errno}
-use Rattle.spa_format.specs.Kind.{Kind, type_number, none_kind, bool_kind, id_kind, int_kind, long_kind, float_kind, double_kind, rectangle_kind, fraction_kind, fd_kind, Fixed, IsFixedBody, body_size, content, fixed_body}
+use Rattle.spa_format.specs.Kind.{Kind, type_number, Fixed, IsFixedBody, body_size, content, fixed_body}
 use Rattle.spa_format.specs.Normal.{kept_elements}
 use Rattle.spa_format.specs.Pod.{AreElements}
 use Rattle.spa_format.proofs.FixedKinds.{same_fixed}
-
--- so many bodies of a kind that has bytes are those of what they say
-said_by_bodies : (k : Kind) (n : ℕ) (b : List ℕ) → 0 < body_size k → length b ≡ n * body_size k →
-    AreElements k (map (content k) (first_chunks (body_size k) n b)) b
-said_by_bodies k zero b p e = let z : 0 * body_size k ≡ 0 = grind arith in nil_from_length b (e ∙ z)
-said_by_bodies k (suc n) b p e =
-    let s = body_size k in
-    let m : suc n * s ≡ s + n * s = grind arith in
-    let t = length-take s b in
-    let d = length-drop s b in
-    (p, record { whole = omega arith; says = refl }, said_by_bodies k n (drop s b) p (omega arith))
-
--- and those of None have no bytes, and are no elements
-pub elements_of_bodies : (k : Kind) (n : ℕ) (b : List ℕ) → length b ≡ n * body_size k →
-    AreElements k (kept_elements k (map (content k) (first_chunks (body_size k) n b))) b
-elements_of_bodies none_kind n b e = nil_from_length b (grind arith)
-elements_of_bodies bool_kind n b e = said_by_bodies bool_kind n b (omega arith) e
-elements_of_bodies id_kind n b e = said_by_bodies id_kind n b (omega arith) e
-elements_of_bodies int_kind n b e = said_by_bodies int_kind n b (omega arith) e
-elements_of_bodies long_kind n b e = said_by_bodies long_kind n b (omega arith) e
-elements_of_bodies float_kind n b e = said_by_bodies float_kind n b (omega arith) e
-elements_of_bodies double_kind n b e = said_by_bodies double_kind n b (omega arith) e
-elements_of_bodies rectangle_kind n b e = said_by_bodies rectangle_kind n b (omega arith) e
-elements_of_bodies fraction_kind n b e = said_by_bodies fraction_kind n b (omega arith) e
-elements_of_bodies fd_kind n b e = said_by_bodies fd_kind n b (omega arith) e
 
 -- the bodies that are left are of the other elements, and those before them were written
 pub record ArePutBefore (k : Kind) (bodies left start bytes : List ℕ) : Type 0 where
@@ -101,17 +79,6 @@ one_there size left w p = by_count w.many w.count
         positive zero f = absurd (let z : suc n * 0 ≡ 0 = grind arith in omega arith)
         positive (suc s) f = omega arith
 
-pub whole_rest : (size : ℕ) (left rest : List ℕ) → AreWhole size left → 0 < length left → rest ≡ drop size left → AreWhole size rest
-whole_rest size left rest w p e = by_count w.many w.count
-  where
-    by_count : (n : ℕ) → length left ≡ n * size → AreWhole size rest
-    by_count zero f = absurd (omega arith)
-    by_count (suc n) f =
-        let m : suc n * size ≡ size + n * size = grind arith in
-        let d = length-drop size left in
-        let l = ap length e in
-        record { many = n; count = omega arith }
-
 -- bytes that grow
 
 pub not_grown : (b : List ℕ) → IsGrown b b
@@ -128,20 +95,9 @@ grown_either (Ok x) a b more ok err = (more, ok)
 grown_either (Err e) a b more ok err = subst (IsGrown a) (sym err) (not_grown a)
 
 pub grown_back : (a b : List ℕ) → IsGrown a b → (take (length a) b ≡ a) × (length a ≤ length b)
-grown_back a b g = (
-  ap (take (length a)) g.1 ∙ take_at a g.0 (length a) refl,
-  let l = ap length g.1 ∙ length-append a g.0 in omega arith,
-)
+grown_back a b g = appended_back a g.0 b g.1
 
 -- the pod of an array is written
-
-regrouped : (o a b c d e p : List ℕ) → ((o ++ ((a ++ b) ++ (c ++ d))) ++ e) ++ p ≡ o ++ (a ++ (b ++ ((c ++ (d ++ e)) ++ p)))
-regrouped o a b c d e p =
-    let h = (a ++ b) ++ (c ++ d) in
-    append_assoc (o ++ h) e p ∙ append_assoc o h (e ++ p)
-    ∙ ap (λ x. o ++ x) (append_assoc (a ++ b) (c ++ d) (e ++ p) ∙ append_assoc a b ((c ++ d) ++ (e ++ p)))
-    ∙ ap (λ x. o ++ (a ++ (b ++ x)))
-    (append_assoc c d (e ++ p) ∙ sym (append_assoc c (d ++ e) p ∙ ap (λ x. c ++ x) (append_assoc d e p)))
 
 pub array_written : {A E : Type 0} (r : Result A E) (k : Kind) (bodies old head mid new array child : List ℕ) (size type : ℕ) → head ≡ old ++ (array ++ child) →
     array ≡ word_bytes (8 + length bodies) ++ word_bytes array_type → child ≡ word_bytes size ++ word_bytes type → size ≡ body_size k → type ≡ type_number k →
@@ -152,22 +108,17 @@ array_written (Ok x) k bodies old head mid new array child size type h a c s t m
     let n = 8 + length bodies in
     let l : n ≡ length (array_body k xs) = ap (λ i. 8 + i) (sym (elements_length k xs bodies e)) ∙ sym (array_length k xs) in
     let f = fixed_bodies xs in
-    let its : child ≡ word_bytes (body_size k) ++ word_bytes (type_number k) =
-    c ∙ ap (λ i. word_bytes i ++ word_bytes type) s ∙ ap (λ i. word_bytes (body_size k) ++ word_bytes i) t in
-    p ∙ ap (λ y. y ++ padding n) (m xs e ∙ ap (λ y. y ++ f) (h ∙ ap (λ y. old ++ (y ++ child)) a ∙ ap (λ y. old ++ ((word_bytes n ++ word_bytes array_type) ++ y)) its))
-    ∙ regrouped old (word_bytes n) (word_bytes array_type) (word_bytes (body_size k)) (word_bytes (type_number k)) f (padding n)
-    ∙ ap (λ i. old ++ (word_bytes i ++ (word_bytes array_type ++ (array_body k xs ++ padding i)))) l
+    let its : array ++ child ≡ (word_bytes n ++ word_bytes array_type) ++ (word_bytes size ++ word_bytes type) =
+    ap (λ y. y ++ child) a ∙ ap (λ y. (word_bytes n ++ word_bytes array_type) ++ y) c in
+    p ∙ ap (λ y. y ++ padding n) (m xs e ∙ ap (λ y. y ++ f) h)
+    ∙ append_assoc (old ++ (array ++ child)) f (padding n)
+    ∙ append_assoc old (array ++ child) (f ++ padding n)
+    ∙ ap (λ y. old ++ y) (array_encoding k xs (array ++ child) n size type its l s t)
 
 -- which bytes are bodies of a size
 
 pub whole_back : (s : ℕ) (b : List ℕ) → AreWhole s b → length b % s ≡ 0
 whole_back s b w = ap (λ n. n % s) w.count ∙ mul-mod_left w.many s
-
-whole_parts : (n s : ℕ) → n % s ≡ 0 → n ≡ n / s * s
-whole_parts n s e = grind arith
-
-pub whole_of_rest : (s : ℕ) (b : List ℕ) → length b % s ≡ 0 → AreWhole s b
-whole_of_rest s b e = record { many = length b / s; count = whole_parts (length b) s e }
 
 -- what elements are whole, and what is whole has elements
 pub whole_elements : (k : Kind) (s : ℕ) (xs : List Fixed) (b : List ℕ) → s ≡ body_size k → AreElements k xs b → AreWhole s b

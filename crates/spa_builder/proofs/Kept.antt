@@ -2,6 +2,8 @@
 use Rattle.std.proofs.Common.{◌≡◌, ◌≢◌, ℕ, ◌+◌, ◌-◌, ◌<◌, ◌^◌, List, [], ◌∷◌, ◌++◌, length, refl, sym, ap, suc, ◌∙◌, arith, length-append, Bool, true, false}
 use Rattle.std.specs.Prelude.{nat_eq, nat_lt, cond}
 use Rattle.std.proofs.lemmas.Bool.Decides.{nat_tests}
+use Rattle.std.proofs.lemmas.Bool.{false_from_ne_true}
+use Rattle.std.proofs.lemmas.List.{same_from_push}
 use Rattle.spa_builder.specs.State.{Partial, open_struct, open_object, open_property, open_array, open_choice}
 use Rattle.spa_builder.specs.Fields.{all_so_far, frames_of, what_of}
 use Rattle.spa_builder.specs.Framed.{IsKept, at_stage, frames_in, is_nothing, most_bytes}
@@ -10,20 +12,6 @@ use Rattle.spa_builder.specs.declared.begun.BegunPod.{BegunPod}
 use Rattle.spa_builder.specs.declared.begun.Stage.{Stage}
 use Rattle.spa_builder.proofs.FrameLists.{outermost_is}
 use Rattle.spa_builder.proofs.Sizes.{at_least_8, same_test}
-
--- a last element and what stands before it
-same_last : (xs ys : List BegunPod) (x y : BegunPod) → xs ++ x ∷ [] ≡ ys ++ y ∷ [] → (xs ≡ ys) × (x ≡ y)
-same_last [] [] x y e = (refl, cc)
-same_last [] (z ∷ zs) x y e = let l = ap length e in let m = length-append zs (y ∷ []) in
-    absurd (omega arith)
-same_last (z ∷ zs) [] x y e = let l = ap length e in let m = length-append zs (x ∷ []) in
-    absurd (omega arith)
-same_last (z ∷ zs) (w ∷ ws) x y e =
-    let t : zs ++ x ∷ [] ≡ ws ++ y ∷ [] = cc in
-    let h : z ≡ w = cc in
-    let r = same_last zs ws x y t in
-    let k = r.0 in
-    (cc, r.1)
 
 no_last : (xs : List BegunPod) (x : BegunPod) → xs ++ x ∷ [] ≡ [] → ⊥
 no_last xs x e = let l = ap length e in let m = length-append xs (x ∷ []) in omega arith
@@ -43,16 +31,12 @@ pub frames_without : (outer : List BegunPod) (o : BegunPod) → is_nothing o.wha
     frames_in outer o ≡ outer
 frames_without outer o h = ap (λ b. cond b outer (outer ++ o ∷ [])) h
 
-is_either : (b : Bool) → (b ≡ true → ⊥) → b ≡ false
-is_either true f = absurd (f refl)
-is_either false f = refl
-
 -- where a tree is begun, something is innermost
 begun_something : (outer : List BegunPod) (o : BegunPod) (first most base : ℕ) (p : Partial)
     (ps : List Partial) → IsKept outer o first most → frames_in outer o ≡ frames_of base (p ∷ ps) →
     is_nothing o.what ≡ false
 begun_something outer o first most base p ps k e =
-    is_either (is_nothing o.what) (λ h. no_last _ _ (sym e ∙ frames_without outer o h ∙ k.none h))
+    false_from_ne_true (is_nothing o.what) (λ h. no_last _ _ (sym e ∙ frames_without outer o h ∙ k.none h))
 
 -- where the outermost tree begins, and from which length on its size word can't hold it
 pub record Outermost (first end base : ℕ) (ps : List Partial) : Type 0 where
@@ -136,7 +120,7 @@ pub set_kept : (outer : List BegunPod) (o new : BegunPod) (first most base : ℕ
     new.start ≡ o.start → new.what ≡ what_of q → frames_in outer new ≡ frames_of base (q ∷ ps)
 set_kept outer o new first most base p q ps k e s w =
     let h = begun_something outer o first most base p ps k e in
-    let r = same_last outer (frames_of base ps) o _ (sym (frames_with outer o h) ∙ e) in
+    let r = same_from_push outer (frames_of base ps) o _ (sym (frames_with outer o h) ∙ e) in
     let n : is_nothing new.what ≡ false = ap is_nothing w ∙ what_something q in
     let at : o.start ≡ base + length (all_so_far ps) = ap (λ (x : BegunPod). x.start) r.1 in
     let same : new ≡ record { start = base + length (all_so_far ps); what = what_of q } =
@@ -152,7 +136,7 @@ pub stage_kept : (outer : List BegunPod) (o new : BegunPod) (stage : Stage) (fir
     frames_in outer new ≡ frames_of base (q ∷ ps)
 stage_kept outer o new stage first most base p q ps k e s w h =
     let b = begun_something outer o first most base p ps k e in
-    let r = same_last outer (frames_of base ps) o _ (sym (frames_with outer o b) ∙ e) in
+    let r = same_from_push outer (frames_of base ps) o _ (sym (frames_with outer o b) ∙ e) in
     let was : o.what ≡ what_of p = ap (λ (x : BegunPod). x.what) r.1 in
     set_kept outer o new first most base p q ps k e s (w ∙ ap (λ x. at_stage x stage) was ∙ h)
 
@@ -163,13 +147,13 @@ pub popped_some : (outer rest : List BegunPod) (o next : BegunPod) (first most b
     (is_nothing next.what ≡ false) × (frames_in rest next ≡ frames_of base ps)
 popped_some outer rest o next first most base p [] k e f =
     let h = begun_something outer o first most base p [] k e in
-    let r = same_last outer [] o _ (sym (frames_with outer o h) ∙ e) in
+    let r = same_from_push outer [] o _ (sym (frames_with outer o h) ∙ e) in
     absurd (no_last rest next (sym f ∙ r.0))
 popped_some outer rest o next first most base p (q ∷ qs) k e f =
     let h = begun_something outer o first most base p (q ∷ qs) k e in
-    let r = same_last outer (frames_of base (q ∷ qs)) o _ (sym (frames_with outer o h) ∙ e) in
+    let r = same_from_push outer (frames_of base (q ∷ qs)) o _ (sym (frames_with outer o h) ∙ e) in
     let g = sym f ∙ r.0 in
-    let t = same_last rest (frames_of base qs) next _ g in
+    let t = same_from_push rest (frames_of base qs) next _ g in
     let n : is_nothing next.what ≡ false = ap (λ (x : BegunPod). is_nothing x.what) t.1
     ∙ what_something q in
     (n, frames_with rest next n ∙ g)

@@ -1,8 +1,8 @@
 -- A tree that is given up.
-use Rattle.std.proofs.Common.{◌≡◌, ℕ, ◌+◌, ◌≤◌, ◌^◌, List, [], ◌∷◌, ◌++◌, length, take, refl, sym, ap, ◌∙◌, arith, false, true, eq-eqb, ◌&&◌, Bool}
+use Rattle.std.proofs.Common.{◌≡◌, ℕ, ◌+◌, ◌≤◌, ◌^◌, List, [], ◌∷◌, ◌++◌, length, take, refl, sym, ap, ◌∙◌, arith, false, true, eq-eqb}
 use Rattle.std.specs.Prelude.{nat_eq, nat_lt, cond, Some, None}
-use Rattle.std.proofs.lemmas.Bool.Decides.{nat_tests}
 use Rattle.std.proofs.lemmas.List.{take_at}
+use Rattle.std.proofs.lemmas.Bool.{lt-ltb, and_parts, and_from}
 use borrow.Author.Tests.{ltb-true}
 use Rattle.spa_format.specs.Words.{extent}
 use Rattle.spa_format.specs.Tree.{Trees}
@@ -12,27 +12,20 @@ use Rattle.spa_builder.specs.Step.{state_after_abandon, all_fit, own_size}
 use Rattle.spa_builder.specs.Fields.{BuilderFields, IsAt, all_so_far, frames_of, so_far}
 use Rattle.spa_builder.specs.declared.begun.BegunPod.{BegunPod}
 use Rattle.spa_builder.proofs.FrameLists.{length-frames_of}
-use Rattle.spa_builder.proofs.Steps.{Closing, lt_test}
+use Rattle.spa_builder.proofs.Steps.{Closing}
 
 -- the state without the innermost tree
 abbrev pub without : Trees → List Partial → State
 without closed rest = record { closed = closed; opened = rest }
 
-both : (a b : Bool) → (a && b) ≡ true → (a ≡ true) × (b ≡ true)
-both true b e = (refl, e)
-both false b e = absurd (cc)
-
-join : (a b : Bool) → a ≡ true → b ≡ true → (a && b) ≡ true
-join a b e f = rw (e, f) refl
-
 -- with fewer bytes inside, sizes fit as before
 pub fewer_fit : (ps : List Partial) (n m : ℕ) → n ≤ m → all_fit m ps ≡ true → all_fit n ps ≡ true
 fewer_fit [] n m l h = refl
 fewer_fit (p ∷ ps) n m l h =
-    let b = both (nat_lt (own_size p + m) (2 ^ 32)) (all_fit (extent (own_size p + m)) ps) h in
+    let b = and_parts (nat_lt (own_size p + m) (2 ^ 32)) (all_fit (extent (own_size p + m)) ps) h in
     let t = ltb-true (own_size p + m) (2 ^ 32) b.0 in
-    join (nat_lt (own_size p + n) (2 ^ 32)) (all_fit (extent (own_size p + n)) ps)
-    (lt_test (own_size p + n) (2 ^ 32) (omega arith))
+    and_from (nat_lt (own_size p + n) (2 ^ 32)) (all_fit (extent (own_size p + n)) ps)
+    (lt-ltb (own_size p + n) (2 ^ 32) (omega arith))
     (fewer_fit ps (extent (own_size p + n)) (extent (own_size p + m)) (omega arith) b.1)
 
 pub abandoned_is : (closed : Trees) (ops : List Partial) (p : Partial) (rest : List Partial)
@@ -48,9 +41,6 @@ pub abandoned_other : (closed : Trees) (ops : List Partial) (frame : ℕ) →
 abandoned_other closed [] frame e = refl
 abandoned_other closed (p ∷ rest) frame e =
     ap (λ b. cond b (Some (without closed rest)) None) e
-
-pub other_number : (a b : ℕ) → (a ≡ b → ⊥) → nat_eq a b ≡ false
-other_number a b h = grind (arith, nat_tests)
 
 -- the bytes and the frames from before its push hold the state without it
 pub is_without : (old new : BuilderFields) (s : State) (o : BegunPod) (p : Partial) (rest : List Partial) →

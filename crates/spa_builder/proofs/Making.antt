@@ -1,12 +1,16 @@
 -- A value made call by call: each call is accepted where the whole value would be.
-use Rattle.std.proofs.Common.{◌≡◌, ◌≢◌, ℕ, ◌+◌, ◌*◌, ◌-◌, ◌<◌, ◌≤◌, ◌^◌, List, [], ◌∷◌, ◌++◌, length, refl, sym, ap, ◌∙◌, subst, arith, length-append, Bool, true, false, ◌&&◌, ◌||◌, Ok, Err, inl, inr, eq-eqb}
+use Rattle.std.proofs.Common.{◌≡◌, ◌≢◌, ℕ, ◌+◌, ◌*◌, ◌-◌, ◌<◌, ◌≤◌, ◌^◌, List, [], ◌∷◌, ◌++◌, length, refl, sym, ap, ◌∙◌, subst, arith, length-append, Bool, true, false, ◌&&◌, Ok, Err, inl, inr, eq-eqb}
 use Rattle.std.specs.Prelude.{cond, nat_eq, nat_lt, Option, Some, None, Result, IfErr, MatchResult, OnOk}
-use Rattle.std.proofs.lemmas.Bool.{false≢true}
+use Rattle.std.proofs.lemmas.Bool.{and_parts, and_from, lt-ltb, or_parts, true_from_ne_false}
+use Rattle.std.proofs.lemmas.Option.{same_Some, none-some}
 use borrow.Author.Tests.{ltb-true}
 use Rattle.spa_format.specs.Words.{extent, size_limit}
-use Rattle.spa_format.specs.Kind.{Fixed, Kind, none_kind, bool_kind, id_kind, int_kind, long_kind, float_kind, double_kind, rectangle_kind, fraction_kind, fd_kind, kind_of, body_size, fixed_body}
+use Rattle.spa_format.specs.Kind.{Fixed, Kind, kind_of, body_size, fixed_body}
 use Rattle.spa_format.specs.Tree.{Shape, Tree, fixed, string, bytes, bitmap, array, choice, pointer, struct, object, Trees, no_trees, member, Properties, no_properties, property, join_members, join_properties, property_node_count, type_of}
 use Rattle.spa_format.specs.Encoding.{encoded_body, encoding_of, member_encodings, property_encodings}
+use Rattle.spa_format.proofs.FixedKinds.{size_fits, length-fixed_body}
+use Rattle.spa_format.proofs.Encodings.{length-encoded_pod, member_encodings-join, property_encodings-join, length-pointer, length-object, length-property_encoding}
+use Rattle.spa_format.proofs.Sequences.{join_members-none, join_properties-none}
 use Rattle.spa_format.specs.Writable.{SomeValueHasNul, IsTooLarge, SomeValueTooLarge, IsWritable}
 use Rattle.spa_builder.specs.State.{Partial, open_struct, open_object, open_property, open_array, open_choice, State, start, with_tree, with_property}
 use Rattle.spa_builder.specs.Step.{Call, abandon, state_after_abandon, tree_with_value, closed_value, push_array, push_choice, shape_of, Outcome, Accepts, Inval, Nospc, add, add_prop, all_fit, state_with_tree, state_after_pop, has_nul, state_with_key, own_size, state_with_value, pop, push_object, push_struct, outcome_if_fits, outcome_with_tree, outcome_with_value, some_has_nul, some_value_has_nul, step, outcome_of, takes_trees}
@@ -17,9 +21,9 @@ use Rattle.spa_builder.specs.Replay.{state_after_calls, state_from}
 use Rattle.spa_builder.specs.Making.{AreFixed, ComesTo, state_of_value, calls_for, member_calls, open_behind, property_calls}
 use Rattle.spa_utils.specs.declared.errno.Errno.{Errno}
 use Rattle.spa_utils.specs.declared.errno.TheConstants.Errno.{NOMEM}
-use Rattle.spa_builder.proofs.Lengths.{length-behind_two, length-fixed, length-encoded_pod, length-pointer, members_joined, properties_joined}
-use Rattle.spa_builder.proofs.Steps.{after, begun_is, lt_test, no_element, placed_is}
+use Rattle.spa_builder.proofs.Steps.{after, begun_is, no_element, placed_is}
 use Rattle.spa_builder.proofs.Valued.{clean}
+use Rattle.spa_builder.proofs.Leaving.{fewer_fit}
 
 -- ---- runs
 
@@ -44,44 +48,22 @@ joined s t (c ∷ cs) ys e = joined_by (step s c) t cs ys (λ u h. joined u t cs
 
 -- ---- sizes
 
-both : (a b : Bool) → (a && b) ≡ true → (a ≡ true) × (b ≡ true)
-both true b e = (refl, e)
-both false b e = absurd (false≢true e)
-
-and_true : (a b : Bool) → a ≡ true → b ≡ true → (a && b) ≡ true
-and_true true b e f = f
-and_true false b e f = absurd (false≢true e)
-
-either : (a b : Bool) → (a || b) ≡ false → (a ≡ false) × (b ≡ false)
-either true b e = absurd (cc)
-either false b e = (refl, e)
-
--- what is no larger fits, too
-fits_inside : (ps : List Partial) (n m : ℕ) → n ≤ m → all_fit m ps ≡ true → all_fit n ps ≡ true
-fits_inside [] n m l h = refl
-fits_inside (p ∷ ps) n m l h =
-    let b = both (nat_lt (own_size p + m) size_limit) (all_fit (extent (own_size p + m)) ps) h in
-    let k = ltb-true (own_size p + m) size_limit b.0 in
-    and_true (nat_lt (own_size p + n) size_limit) (all_fit (extent (own_size p + n)) ps)
-    (lt_test (own_size p + n) size_limit (omega arith))
-    (fits_inside ps (extent (own_size p + n)) (extent (own_size p + m)) (omega arith) b.1)
-
 fits_under : (p q : Partial) (ps : List Partial) (n m : ℕ) → own_size p + n ≤ own_size q + m →
     all_fit m (q ∷ ps) ≡ true → all_fit n (p ∷ ps) ≡ true
 fits_under p q ps n m l h =
-    let b = both (nat_lt (own_size q + m) size_limit) (all_fit (extent (own_size q + m)) ps) h in
+    let b = and_parts (nat_lt (own_size q + m) size_limit) (all_fit (extent (own_size q + m)) ps) h in
     let k = ltb-true (own_size q + m) size_limit b.0 in
-    and_true (nat_lt (own_size p + n) size_limit) (all_fit (extent (own_size p + n)) ps)
-    (lt_test (own_size p + n) size_limit (omega arith))
-    (fits_inside ps (extent (own_size p + n)) (extent (own_size q + m)) (omega arith) b.1)
+    and_from (nat_lt (own_size p + n) size_limit) (all_fit (extent (own_size p + n)) ps)
+    (lt-ltb (own_size p + n) size_limit (omega arith))
+    (fewer_fit ps (extent (own_size p + n)) (extent (own_size q + m)) (omega arith) b.1)
 
 members_length : (vs ws : Trees) →
     length (member_encodings (join_members vs ws)) ≡ length (member_encodings vs) + length (member_encodings ws)
-members_length vs ws = ap length (members_joined vs ws) ∙ length-append (member_encodings vs) (member_encodings ws)
+members_length vs ws = ap length (member_encodings-join vs ws) ∙ length-append (member_encodings vs) (member_encodings ws)
 
 properties_length : (ps qs : Properties) → length (property_encodings (join_properties ps qs)) ≡
     length (property_encodings ps) + length (property_encodings qs)
-properties_length ps qs = ap length (properties_joined ps qs) ∙ length-append (property_encodings ps) (property_encodings qs)
+properties_length ps qs = ap length (property_encodings-join ps qs) ∙ length-append (property_encodings ps) (property_encodings qs)
 
 member_length : (v : Tree) (vs : Trees) →
     length (member_encodings (member v vs)) ≡ extent (length (encoded_body v)) + length (member_encodings vs)
@@ -91,13 +73,7 @@ member_length v vs = length-append (encoding_of v) (member_encodings vs)
 property_length : (k f : ℕ) (v : Tree) (ps : Properties) →
     length (property_encodings (property k f v ps)) ≡
     8 + (extent (length (encoded_body v)) + length (property_encodings ps))
-property_length k f v ps = length-behind_two k f (encoding_of v ++ property_encodings ps)
-    ∙ ap (λ n. 8 + n) (length-append (encoding_of v) (property_encodings ps)
-    ∙ ap (λ n. n + length (property_encodings ps)) (length-encoded_pod (type_of v) (encoded_body v)))
-
-object_length : (t i : ℕ) (ps : Properties) →
-    length (encoded_body (object t i ps)) ≡ 8 + length (property_encodings ps)
-object_length t i ps = length-behind_two t i (property_encodings ps)
+property_length k f v ps = omega (arith, length-property_encoding k f v ps, length-encoded_pod (type_of v) (encoded_body v))
 
 one_length : (v : Tree) → length (member_encodings (member v no_trees)) ≡ extent (length (encoded_body v))
 one_length v = let e = member_length v no_trees in let z : length (member_encodings no_trees) ≡ 0 = refl in omega arith
@@ -114,21 +90,21 @@ in_its_place : (p : Partial) (ps : List Partial) (v : Tree) → own_size p ≤ l
     length (encoded_body v) < size_limit → takes_trees ps ≡ true → all_fit 0 (trees_with_value ps v) ≡ true →
     all_fit 0 (p ∷ ps) ≡ true
 in_its_place p [] v l m h f =
-    and_true (nat_lt (own_size p + 0) size_limit) true (lt_test (own_size p + 0) size_limit (omega arith)) refl
+    and_from (nat_lt (own_size p + 0) size_limit) true (lt-ltb (own_size p + 0) size_limit (omega arith)) refl
 in_its_place p (open_struct vs ∷ ps) v l m h f =
     let a = members_length vs (member v no_trees) in
     let b = one_length v in
-    and_true (nat_lt (own_size p + 0) size_limit) (all_fit (extent (own_size p + 0)) (open_struct vs ∷ ps))
-    (lt_test (own_size p + 0) size_limit (omega arith))
+    and_from (nat_lt (own_size p + 0) size_limit) (all_fit (extent (own_size p + 0)) (open_struct vs ∷ ps))
+    (lt-ltb (own_size p + 0) size_limit (omega arith))
     (fits_under (open_struct vs) (open_struct (with_tree vs v)) ps (extent (own_size p + 0)) 0 (omega arith) f)
 in_its_place p (open_object t i qs ∷ ps) v l m h f = absurd (cc)
 in_its_place p (open_property t i qs k g ∷ ps) v l m h f =
     let a = properties_length qs (property k g v no_properties) in
     let b = one_property_length k g v in
-    let c = object_length t i qs in
-    let d = object_length t i (with_property qs k g v) in
-    and_true (nat_lt (own_size p + 0) size_limit) (all_fit (extent (own_size p + 0)) (open_property t i qs k g ∷ ps))
-    (lt_test (own_size p + 0) size_limit (omega arith))
+    let c = length-object t i qs in
+    let d = length-object t i (with_property qs k g v) in
+    and_from (nat_lt (own_size p + 0) size_limit) (all_fit (extent (own_size p + 0)) (open_property t i qs k g ∷ ps))
+    (lt-ltb (own_size p + 0) size_limit (omega arith))
     (fits_under (open_property t i qs k g) (open_object t i (with_property qs k g v)) ps (extent (own_size p + 0)) 0 (omega arith) f)
 in_its_place p (open_array xs ∷ ps) v l m h f = absurd (cc)
 in_its_place p (open_choice k g xs ∷ ps) v l m h f = absurd (cc)
@@ -166,23 +142,13 @@ sized_by o t e f = ap (outcome_if_fits true) e ∙ ap (λ b. cond b (Accepts t) 
 adds : (s t : State) (v : Tree) → Added s t v → step s (add v) ≡ Accepts t
 adds s t v a =
     ap (λ b. cond b Inval (outcome_with_value s v)) a.nul
-    ∙ ap (λ b. outcome_if_fits b (state_with_value s.closed s.opened v)) (lt_test (length (encoded_body v)) size_limit a.small)
+    ∙ ap (λ b. outcome_if_fits b (state_with_value s.closed s.opened v)) (lt-ltb (length (encoded_body v)) size_limit a.small)
     ∙ sized_by (state_with_value s.closed s.opened v) t a.place a.fit
-
-some_same : (s t : State) → Some s ≡ Some t → s ≡ t
-some_same s t e = cc
-
-none_some : (t : State) → None ≡ Some t → ⊥
-none_some t e = cc
-
-takes_by : (b : Bool) → (b ≡ false → ⊥) → b ≡ true
-takes_by true f = refl
-takes_by false f = absurd (f refl)
 
 -- a value of no fixed size comes where any tree may stand
 takes_it : (s t : State) (v : Tree) → ((x : Fixed) → v ≢ fixed x) → state_with_value s.closed s.opened v ≡ Some t →
     takes_trees s.opened ≡ true
-takes_it s t v n e = takes_by (takes_trees s.opened) (λ h. absurd (none_some t (sym (no_element s.closed s.opened v n h) ∙ e)))
+takes_it s t v n e = true_from_ne_false (takes_trees s.opened) (λ h. absurd (none-some t (sym (no_element s.closed s.opened v n h) ∙ e)))
 
 -- ---- what is begun, keyed and closed
 
@@ -209,28 +175,17 @@ closes_so : (closed : Trees) (p : Partial) (ps : List Partial) (n : ℕ) (t : St
 closes_so closed p ps n t l v e f =
     ap (λ m. outcome_of (state_after_pop closed (p ∷ ps) m)) l ∙ ap outcome_of (e ∙ f)
 
-same_count : (n : ℕ) → nat_eq n n ≡ true
-same_count n = eq-eqb n n refl
-
 struct_closes : (closed : Trees) (vs : Trees) (ps : List Partial) →
     state_after_pop closed (open_struct vs ∷ ps) (length (open_struct vs ∷ ps)) ≡ state_with_value closed ps (struct vs)
-struct_closes closed vs ps = ap (λ b. cond b (state_with_value closed ps (struct vs)) None) (same_count (length (open_struct vs ∷ ps)))
+struct_closes closed vs ps = ap (λ b. cond b (state_with_value closed ps (struct vs)) None) (eq-eqb _ _ refl)
 
 object_closes : (closed : Trees) (t i : ℕ) (qs : Properties) (ps : List Partial) →
     state_after_pop closed (open_object t i qs ∷ ps) (length (open_object t i qs ∷ ps)) ≡ state_with_value closed ps (object t i qs)
 object_closes closed t i qs ps =
-    ap (λ b. cond b (state_with_value closed ps (object t i qs)) None) (same_count (length (open_object t i qs ∷ ps)))
+    ap (λ b. cond b (state_with_value closed ps (object t i qs)) None) (eq-eqb _ _ refl)
 
 alone : (s t : State) (v : Tree) → step s (add v) ≡ Accepts t → state_from s (add v ∷ []) ≡ Some t
 alone s t v e = first_accepted s t (add v) [] e
-
-members_end : (ws : Trees) → join_members ws no_trees ≡ ws
-members_end no_trees = refl
-members_end (member w ws) = ap (member w) (members_end ws)
-
-properties_end : (ws : Properties) → join_properties ws no_properties ≡ ws
-properties_end no_properties = refl
-properties_end (property k f w ws) = ap (property k f w) (properties_end ws)
 
 struct_not_fixed : (vs : Trees) (x : Fixed) → struct vs ≡ fixed x → ⊥
 struct_not_fixed vs x e = cc
@@ -254,7 +209,7 @@ mutual
       let a = added_so s t (struct vs) e in
       let h = takes_it s t (struct vs) (λ x q. struct_not_fixed vs x q) a.place in
       let p = placed_is s.closed s.opened (struct vs) h in
-      let is = some_same (after s.closed s.opened (struct vs)) t (sym p ∙ a.place) in
+      let is = same_Some (after s.closed s.opened (struct vs)) t (sym p ∙ a.place) in
       let fit = ap (λ u. all_fit 0 u.opened) is ∙ a.fit in
       let n = length s.opened + 1 in
       let first = in_its_place (open_struct no_trees) s.opened (struct vs) (omega arith) a.small h fit in
@@ -270,11 +225,11 @@ mutual
       let a = added_so s t (object c i ps) e in
       let h = takes_it s t (object c i ps) (λ x q. object_not_fixed c i ps x q) a.place in
       let p = placed_is s.closed s.opened (object c i ps) h in
-      let is = some_same (after s.closed s.opened (object c i ps)) t (sym p ∙ a.place) in
+      let is = same_Some (after s.closed s.opened (object c i ps)) t (sym p ∙ a.place) in
       let fit = ap (λ u. all_fit 0 u.opened) is ∙ a.fit in
       let n = length s.opened + 1 in
-      let none = object_length c i no_properties in
-      let full = object_length c i ps in
+      let none = length-object c i no_properties in
+      let full = length-object c i ps in
       let zero : length (property_encodings no_properties) ≡ 0 = refl in
       let first = in_its_place (open_object c i no_properties) s.opened (object c i ps) (omega arith) a.small h fit in
       let whole = in_its_place (open_object c i ps) s.opened (object c i ps) (omega arith) a.small h fit in
@@ -290,9 +245,9 @@ mutual
       some_has_nul vs ≡ false → all_fit 0 (open_struct (join_members ws vs) ∷ ps) ≡ true →
       state_from (inside closed (open_struct ws) ps) (member_calls n vs) ≡
       Some (inside closed (open_struct (join_members ws vs)) ps)
-  members_made no_trees ws closed ps n l c f = ap (λ us. Some (inside closed (open_struct us) ps)) (sym (members_end ws))
+  members_made no_trees ws closed ps n l c f = ap (λ us. Some (inside closed (open_struct us) ps)) (sym (join_members-none ws))
   members_made (member v vs) ws closed ps n l c f =
-      let d = either (has_nul v) (some_has_nul vs) c in
+      let d = or_parts (has_nul v) (some_has_nul vs) c in
       let u = inside closed (open_struct ws) ps in
       let to = inside closed (open_struct (with_tree ws v)) ps in
       let same = members_behind ws v vs in
@@ -300,7 +255,7 @@ mutual
       let e1 = member_length v vs in
       let e2 = members_length ws (member v no_trees) in
       let e3 = one_length v in
-      let k = ltb-true (own_size (open_struct (join_members ws (member v vs))) + 0) size_limit (both _ _ f).0 in
+      let k = ltb-true (own_size (open_struct (join_members ws (member v vs))) + 0) size_limit (and_parts _ _ f).0 in
       let fit = fits_under (open_struct (with_tree ws v)) (open_struct (join_members ws (member v vs))) ps 0 0 (omega arith) f in
       let one = adds u to v (record { nul = d.0; small = omega arith; place = refl; fit = fit }) in
       let first = subst (λ m. state_from u (calls_for m v) ≡ Some to) (omega arith) (made v u to one) in
@@ -314,9 +269,9 @@ mutual
       state_from (inside closed (open_object t i ws) ps) (property_calls n qs) ≡
       Some (inside closed (open_object t i (join_properties ws qs)) ps)
   properties_made no_properties ws t i closed ps n l c f =
-      ap (λ us. Some (inside closed (open_object t i us) ps)) (sym (properties_end ws))
+      ap (λ us. Some (inside closed (open_object t i us) ps)) (sym (join_properties-none ws))
   properties_made (property k g v qs) ws t i closed ps n l c f =
-      let d = either (has_nul v) (some_value_has_nul qs) c in
+      let d = or_parts (has_nul v) (some_value_has_nul qs) c in
       let u = inside closed (open_object t i ws) ps in
       let waiting = inside closed (open_property t i ws k g) ps in
       let to = inside closed (open_object t i (with_property ws k g v)) ps in
@@ -325,10 +280,10 @@ mutual
       let e1 = property_length k g v qs in
       let e2 = properties_length ws (property k g v no_properties) in
       let e3 = one_property_length k g v in
-      let o0 = object_length t i ws in
-      let o1 = object_length t i (with_property ws k g v) in
-      let o2 = object_length t i (join_properties ws (property k g v qs)) in
-      let m = ltb-true (own_size (open_object t i (join_properties ws (property k g v qs))) + 0) size_limit (both _ _ f).0 in
+      let o0 = length-object t i ws in
+      let o1 = length-object t i (with_property ws k g v) in
+      let o2 = length-object t i (join_properties ws (property k g v qs)) in
+      let m = ltb-true (own_size (open_object t i (join_properties ws (property k g v qs))) + 0) size_limit (and_parts _ _ f).0 in
       let keyed_fit = fits_under (open_property t i ws k g) (open_object t i (join_properties ws (property k g v qs))) ps 0 0
       (omega arith) f in
       let fit = fits_under (open_object t i (with_property ws k g v))
@@ -344,26 +299,14 @@ mutual
 
 -- ---- what can be written, from the start
 
-small_kind : (k : Kind) → body_size k ≤ 8
-small_kind none_kind = omega arith
-small_kind bool_kind = omega arith
-small_kind id_kind = omega arith
-small_kind int_kind = omega arith
-small_kind long_kind = omega arith
-small_kind float_kind = omega arith
-small_kind double_kind = omega arith
-small_kind rectangle_kind = omega arith
-small_kind fraction_kind = omega arith
-small_kind fd_kind = omega arith
-
 small_fixed : (k : Kind) (n : ℕ) → n ≡ body_size k → n < size_limit
-small_fixed k n e = let l = small_kind k in omega arith
+small_fixed k n e = let l = size_fits k in omega arith
 
 not_least : (a b : ℕ) → ¬ (a ≤ b) → b < a
 not_least a b h = omega (arith, h)
 
 small_value : (v : Tree) → ¬ (IsTooLarge v) → length (encoded_body v) < size_limit
-small_value (fixed x) h = small_fixed (kind_of x) (length (fixed_body x)) (length-fixed x)
+small_value (fixed x) h = small_fixed (kind_of x) (length (fixed_body x)) (length-fixed_body x)
 small_value (string s) h = not_least _ _ h
 small_value (bytes s) h = not_least _ _ h
 small_value (bitmap s) h = not_least _ _ h
@@ -394,7 +337,7 @@ sized_some : (o : Option State) (u : State) → outcome_if_fits true o ≡ Accep
 sized_some o u e = (accepted_by false true o u e).2
 
 open_in : (s u : State) → Some s ≡ Some u → length u.opened ≡ length s.opened
-open_in s u e = ap (λ x. length x.opened) (sym (some_same s u e))
+open_in s u e = ap (λ x. length x.opened) (sym (same_Some s u e))
 
 open_added : (o : Option Partial) (closed : Trees) (p : Partial) (ps : List Partial) (u : State) →
     (elim o as (λ _. Option State) [ Some q ↦ Some (inside closed q ps) | None ↦ None ]) ≡ Some u →
@@ -487,7 +430,7 @@ goes_on n t c cs old new r h f =
     (λ u e. open_after c h.state u e ∙ ap (λ m. open_behind m c) h.depth) h.run (f h.state h.at)
 
 arrives : (n : ℕ) (t : State) (b : BuilderFields) → ComesTo n t [] b → IsAt b t
-arrives n t b h = subst (IsAt b) (some_same h.state t h.run) h.at
+arrives n t b h = subst (IsAt b) (same_Some h.state t h.run) h.at
 
 pub at_end : (n : ℕ) (t : State) (c : Call) (old new : BuilderFields) (r : Result (Unit {0}) Errno) → ComesTo n t (c ∷ []) old →
     ((s : State) → IsAt old s → Makes (step s c) old new r) → OnOk r (IsAt new t) × IfErr r (λ e. e ≡ NOMEM)
@@ -505,8 +448,8 @@ fixed_length : (ps : Properties) → AreFixed ps → length (property_encodings 
 fixed_length no_properties h = omega arith
 fixed_length (property k f (fixed x) ps) h =
     let e = property_length k f (fixed x) ps in
-    let l = length-fixed x in
-    let s = small_kind (kind_of x) in
+    let l = length-fixed_body x in
+    let s = size_fits (kind_of x) in
     let r = fixed_length ps h in
     omega arith
 fixed_length (property k f (string x) ps) h = absurd h
@@ -546,7 +489,7 @@ fixed_fits (property k f (object x y z) ps) h n = absurd h
 
 object_fits : (t i : ℕ) (ps : Properties) → AreFixed ps → property_node_count ps < 2 ^ 27 →
     ¬ (IsTooLarge (object t i ps))
-object_fits t i ps h l (inl n) = let e = object_length t i ps in let f = fixed_length ps h in omega arith
+object_fits t i ps h l (inl n) = let e = length-object t i ps in let f = fixed_length ps h in omega arith
 object_fits t i ps h l (inr n) = fixed_fits ps h n
 
 pub fixed_writable : (t i : ℕ) (ps : Properties) → AreFixed ps → property_node_count ps < 2 ^ 27 →

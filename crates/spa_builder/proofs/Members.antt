@@ -1,55 +1,32 @@
 -- Elements of arrays and choices.
 use Rattle.std.proofs.Common.{◌≡◌, ℕ, ◌+◌, ◌-◌, ◌≤◌, ◌^◌, List, [], ◌∷◌, ◌++◌, length, take, drop, refl, sym, ap, ◌∙◌, arith, length-append, append_assoc, Bool, true, false}
-use Rattle.std.specs.Prelude.{nat_lt, nat_eq, cond, Option, Some, None}
-use Rattle.std.proofs.lemmas.List.{append-nil, take_at, drop_at}
+use Rattle.std.specs.Prelude.{nat_lt, cond, Option, Some, None}
+use Rattle.std.proofs.lemmas.List.{append-nil, nil_from_length, take_at, drop_at}
 use Rattle.std.proofs.lemmas.Bool.Decides.{nat_tests}
+use Rattle.std.proofs.lemmas.Bool.{eqb-true}
 use Rattle.spa_format.specs.Words.{word_bytes}
-use Rattle.spa_format.specs.Kind.{Kind, none_kind, bool_kind, id_kind, int_kind, long_kind, float_kind, double_kind, rectangle_kind, fraction_kind, fd_kind, type_number, body_size, Fixed, none, bool, id, int, long, float, double, rectangle, fraction, fd, kind_of, fixed_body}
+use Rattle.spa_format.specs.Kind.{none_kind, type_number, body_size, Fixed, kind_of, fixed_body}
 use Rattle.spa_format.specs.Tree.{shape_number, fixed, Trees, array_type, choice_type}
 use Rattle.spa_format.specs.Encoding.{array_body, fixed_bodies, member_encodings}
-use Rattle.spa_format.proofs.Elements.{bodies_push}
+use Rattle.spa_format.proofs.Elements.{bodies_push, array_length}
+use Rattle.spa_format.proofs.FixedKinds.{length-fixed_body, same_kind}
+use Rattle.spa_format.proofs.Encodings.{two_words_length, length-behind_two}
 use Rattle.spa_builder.specs.State.{Partial, open_struct, open_object, open_property, open_array, open_choice, State}
 use Rattle.spa_builder.specs.Step.{all_fit, takes_trees, state_with_value, child_kind, array_takes}
 use Rattle.spa_builder.specs.Fields.{BuilderFields, IsAt, IsNested, IsFair, so_far, all_so_far, body_so_far, type_of_partial, frames_of}
 use Rattle.spa_builder.specs.Innermost.{has_room_for, has_elements, takes_elements, is_first, takes_element, with_element}
-use Rattle.spa_builder.proofs.Lengths.{length-word_bytes, length-behind_two, length-two}
-use Rattle.spa_builder.proofs.Sizes.{one_size_decides, room_later, length-array_body}
+use Rattle.spa_builder.proofs.Sizes.{one_size_decides, room_later}
 
 of_none : (x : Fixed) → kind_of x ≡ none_kind → fixed_body x ≡ []
-of_none none e = refl
-of_none (bool x) e = absurd (cc)
-of_none (id x) e = absurd (cc)
-of_none (int x) e = absurd (cc)
-of_none (long x) e = absurd (cc)
-of_none (float x) e = absurd (cc)
-of_none (double x) e = absurd (cc)
-of_none (rectangle x y) e = absurd (cc)
-of_none (fraction x y) e = absurd (cc)
-of_none (fd x) e = absurd (cc)
-
-nat_eq-true : (a b : ℕ) → nat_eq a b ≡ true → a ≡ b
-nat_eq-true a b e = grind (arith, nat_tests)
-
--- only units have the type number of units
-none_alone : (k : Kind) → type_number k ≡ type_number none_kind → k ≡ none_kind
-none_alone none_kind e = refl
-none_alone bool_kind e = absurd (omega (arith, e))
-none_alone id_kind e = absurd (omega (arith, e))
-none_alone int_kind e = absurd (omega (arith, e))
-none_alone long_kind e = absurd (omega (arith, e))
-none_alone float_kind e = absurd (omega (arith, e))
-none_alone double_kind e = absurd (omega (arith, e))
-none_alone rectangle_kind e = absurd (omega (arith, e))
-none_alone fraction_kind e = absurd (omega (arith, e))
-none_alone fd_kind e = absurd (omega (arith, e))
+of_none x e = nil_from_length (fixed_body x) (length-fixed_body x ∙ ap body_size e)
 
 fair_array : (xs : List Fixed) (x : Fixed) → array_takes xs x ≡ true → IsFair (open_array xs) →
     IsFair (open_array (xs ++ x ∷ []))
 fair_array [] x t f = λ e. append-nil (fixed_body x) ∙ of_none x e
 fair_array (y ∷ ys) x t f = λ e.
-    let k = nat_eq-true (type_number (kind_of y)) (type_number (kind_of x)) t in
+    let k = eqb-true (type_number (kind_of y)) (type_number (kind_of x)) t in
     bodies_push (y ∷ ys) x ∙ ap (λ l. l ++ fixed_body x) (f e)
-    ∙ of_none x (none_alone (kind_of x) (sym k ∙ ap type_number e))
+    ∙ of_none x (same_kind (kind_of x) none_kind (sym k ∙ ap type_number e))
 
 fair_more : (p : Partial) (x : Fixed) → takes_element p x ≡ true → IsFair p →
     IsFair (with_element p x)
@@ -64,8 +41,8 @@ length-more_bodies : (xs : List Fixed) (x : Fixed) →
     (array_body (child_kind xs) xs) + length (fixed_body x)
 length-more_bodies xs x =
     let ys = xs ++ x ∷ [] in
-    let e0 = length-array_body (child_kind ys) ys in
-    let e1 = length-array_body (child_kind xs) xs in
+    let e0 = array_length (child_kind ys) ys in
+    let e1 = array_length (child_kind xs) xs in
     let e2 = ap length (bodies_push xs x) ∙ length-append (fixed_bodies xs) (fixed_body x) in
     omega arith
 
@@ -212,7 +189,7 @@ replaced_two front back old new a b n k at s e f =
     ∙ ap (λ l. front ++ l) (sym (append_assoc (word_bytes a) (word_bytes b) back)) in
     let t = ap (take at) w ∙ take_at front (two ++ back) at (sym s) in
     let l = length-append front two in
-    let l0 = length-two a b in
+    let l0 = two_words_length a b in
     let d =
     ap (drop (at + 8)) (w ∙ sym (append_assoc front two back))
     ∙ drop_at (front ++ two) back (at + 8) (omega arith) in
@@ -237,10 +214,8 @@ element_bytes p x front mid new at size kind true y h i e l s f g =
     let e0 = ap (λ y. length (front ++ y)) w in
     let e1 = length-append front (t ++ (word_bytes 0 ++ word_bytes 1)) in
     let e2 = length-append t (word_bytes 0 ++ word_bytes 1) in
-    let e3 = length-append (word_bytes 0) (word_bytes 1) in
-    let e4 = length-word_bytes 0 in
-    let e5 = length-word_bytes 1 in
-    let e6 = length-append front t in
+    let e3 = two_words_length 0 1 in
+    let e4 = length-append front t in
     f refl (front ++ t) (fixed_body x) 0 1 (omega arith) m
     ∙ ap (λ n. (front ++ t) ++ (word_bytes n ++ (word_bytes kind ++ fixed_body x))) s
     ∙ ap (λ n. (front ++ t) ++
@@ -255,6 +230,3 @@ element_bytes p x front mid new at size kind false y h i e l s f g =
 pub small_body : (x : Fixed) (n : ℕ) → length (fixed_body x) ≡ n → n ≤ 8 →
     nat_lt (length (fixed_body x)) (2 ^ 32) ≡ true
 small_body x n e h = grind (arith, nat_tests)
-
-pub not_above : (a b : ℕ) → b ≤ a → nat_lt a b ≡ false
-not_above a b h = grind (arith, nat_tests)

@@ -1,7 +1,8 @@
 -- A value that isn't an element, by what the test for it says.
-use Rattle.std.proofs.Common.{◌≡◌, ℕ, ◌<◌, ◌≤◌, ◌++◌, length, refl, sym, ap, ◌∙◌, subst, Bool, true, false, ◌&&◌, Ok, Err, inl, inr}
+use Rattle.std.proofs.Common.{◌≡◌, ℕ, ◌<◌, ◌≤◌, ◌++◌, length, refl, sym, ap, ◌∙◌, subst, true, Ok, Err, inl, inr}
 use Rattle.std.specs.Prelude.{IsErrAnd, Result}
 use Rattle.std.proofs.lemmas.Result.{err_from_is_err_and}
+use Rattle.std.proofs.lemmas.Bool.{and_right, lt-ltb, and_left, le-ltb}
 use Rattle.spa_format.specs.Words.{extent, size_limit}
 use Rattle.spa_format.specs.Tree.{Tree}
 use Rattle.spa_format.specs.Encoding.{encoded_body, encoding_of, member_encodings}
@@ -12,17 +13,12 @@ use Rattle.spa_builder.specs.Innermost.{trees_with_value}
 use Rattle.spa_builder.specs.Answers.{IsAdmitted, IsNoElement, Makes}
 use Rattle.spa_utils.specs.declared.errno.Errno.{Errno}
 use Rattle.spa_utils.specs.declared.errno.TheConstants.Errno.{NOMEM}
-use Rattle.spa_builder.proofs.Members.{not_above}
-use Rattle.spa_builder.proofs.Steps.{sized_goes, sized_nomem, sized_nospc, sized_inval, and_false, placed_is, after, added_fit, is_after, lt_test}
+use Rattle.spa_builder.proofs.Steps.{sized_goes, sized_nomem, sized_nospc, sized_inval, placed_is, after, added_fit, is_after}
 
 -- what a size that was tested says of the value's
 pub record IsSizeOf (n : ℕ) (v : Tree) : Type 0 where
   pub exact : n < size_limit → n ≡ length (encoded_body v)
   pub large : size_limit ≤ n → size_limit ≤ length (encoded_body v)
-
-left_false : (b c : Bool) → b ≡ false → (b && c) ≡ false
-left_false true c e = absurd (cc)
-left_false false c e = refl
 
 refused_so : (s : State) (v : Tree) (old : BuilderFields) (n : ℕ) (e : Errno) → IsAt old s → IsSizeOf n v →
     IsNoElement s v →
@@ -32,11 +28,11 @@ refused_so s v old n e at size none (inl h) =
 refused_so s v old n e at size none (inr (h, t, inl l)) =
     subst (λ x. Makes {A = Unit {0}} (outcome_with_value s v) old old (Err x)) (sym h)
     (sized_nospc _ _ _ (after s.closed s.opened v) old (placed_is s.closed s.opened v t)
-    (left_false _ _ (not_above _ _ (size.large l))))
+    (and_left _ _ (le-ltb _ _ (size.large l))))
 refused_so s v old n e at size none (inr (h, t, inr (l, r))) =
     subst (λ x. Makes {A = Unit {0}} (outcome_with_value s v) old old (Err x)) (sym h)
     (sized_nospc _ _ _ (after s.closed s.opened v) old (placed_is s.closed s.opened v t)
-    (and_false _ _ (added_fit s.opened v (extent n) (ap extent (size.exact l)) t at.nested
+    (and_right _ _ (added_fit s.opened v (extent n) (ap extent (size.exact l)) t at.nested
     ∙ r)))
 
 pub passed : {A : Type 0} (r : Result A Errno) (e : Errno) → IsErrAnd r (λ y. y ≡ e) → r ≡ Err e
@@ -57,7 +53,7 @@ pub admitted_nomem : (s : State) (v : Tree) (old new : BuilderFields) (n : ℕ) 
     Makes (outcome_with_value s v) old new r
 admitted_nomem s v old new n x r at size k e f =
     sized_nomem _ _ (after s.closed s.opened v) old new r
-    (lt_test _ _ (subst (λ m. m < size_limit) (size.exact k.1) k.1))
+    (lt-ltb _ _ (subst (λ m. m < size_limit) (size.exact k.1) k.1))
     (placed_is s.closed s.opened v k.0)
     (added_fit s.opened v (extent n) (ap extent (size.exact k.1)) k.0 at.nested ∙ k.2) e f
 
@@ -70,6 +66,6 @@ admitted s v old new n x y at size k b f =
     let fit : all_fit 0 (trees_with_value s.opened v) ≡ true =
     added_fit s.opened v (extent n) (ap extent (size.exact k.1)) k.0 at.nested ∙ k.2 in
     sized_goes _ _ (after s.closed s.opened v) old new y
-    (lt_test _ _ (subst (λ m. m < size_limit) (size.exact k.1) k.1))
+    (lt-ltb _ _ (subst (λ m. m < size_limit) (size.exact k.1) k.1))
     (placed_is s.closed s.opened v k.0) fit
     (is_after s.closed s.opened v old.bytes new at.bytes at.nested k.0 b (f k.0) fit)

@@ -4,15 +4,17 @@ use Rattle.std.specs.Prelude.{nat_lt, IsTrue}
 use Rattle.std.proofs.lemmas.Bool.Decides.{nat_tests}
 use borrow.Author.Tests.{ltb-true}
 use Rattle.spa_format.specs.Words.{word_bytes, extent}
-use Rattle.spa_format.specs.Kind.{Kind, none_kind, bool_kind, id_kind, int_kind, long_kind, float_kind, double_kind, rectangle_kind, fraction_kind, fd_kind, body_size, type_number, Fixed}
+use Rattle.spa_format.specs.Kind.{Kind, none_kind, bool_kind, id_kind, int_kind, long_kind, float_kind, double_kind, rectangle_kind, fraction_kind, fd_kind, Fixed}
 use Rattle.spa_format.specs.Tree.{shape_number}
 use Rattle.spa_format.specs.Normal.{kept_elements}
 use Rattle.spa_format.specs.Encoding.{array_body, fixed_bodies, property_encodings}
+use Rattle.spa_format.proofs.Encodings.{length-behind_two, two_words_length}
+use Rattle.spa_format.proofs.Elements.{array_length}
 use Rattle.spa_builder.specs.State.{Partial, open_struct, open_object, open_property, open_array, open_choice}
 use Rattle.spa_builder.specs.Step.{own_size, all_fit, takes_trees, child_kind}
 use Rattle.spa_builder.specs.Fields.{body_so_far, so_far, all_so_far, type_of_partial, IsFair, IsNested}
 use Rattle.spa_builder.specs.Innermost.{has_room_for}
-use Rattle.spa_builder.proofs.Lengths.{length-word_bytes, length-behind_two, members_whole, properties_whole}
+use Rattle.spa_builder.proofs.Lengths.{members_whole, properties_whole}
 
 -- what an array keeps of its elements has the bytes of all
 pub kept_bodies : (k : Kind) (xs : List Fixed) → (k ≡ none_kind → fixed_bodies xs ≡ []) →
@@ -28,28 +30,22 @@ kept_bodies rectangle_kind xs h = refl
 kept_bodies fraction_kind xs h = refl
 kept_bodies fd_kind xs h = refl
 
-pub length-array_body : (k : Kind) (xs : List Fixed) →
-    length (array_body k xs) ≡ 8 + length (fixed_bodies xs)
-length-array_body k xs = length-behind_two (body_size k) (type_number k) (fixed_bodies xs)
-
 pub length-body : (p : Partial) → IsFair p → length (body_so_far p) ≡ own_size p
 length-body (open_struct vs) h = refl
 length-body (open_object t i ps) h = refl
 length-body (open_property t i ps k f) h =
     let e0 = length-behind_two t i (property_encodings ps ++ (word_bytes k ++ word_bytes f)) in
     let e1 = length-append (property_encodings ps) (word_bytes k ++ word_bytes f) in
-    let e2 = length-append (word_bytes k) (word_bytes f) in
-    let e3 = length-word_bytes k in
-    let e4 = length-word_bytes f in
-    let e5 = length-behind_two t i (property_encodings ps) in
+    let e2 = two_words_length k f in
+    let e3 = length-behind_two t i (property_encodings ps) in
     omega arith
 length-body (open_array xs) h =
-    length-array_body (child_kind xs) xs
+    array_length (child_kind xs) xs
     ∙ ap (λ l. 8 + length l) (kept_bodies (child_kind xs) xs h)
-    ∙ (let e = length-array_body (child_kind xs) (kept_elements (child_kind xs) xs) in omega arith)
+    ∙ (let e = array_length (child_kind xs) (kept_elements (child_kind xs) xs) in omega arith)
 length-body (open_choice s f xs) h =
     let e0 = length-behind_two (shape_number s) f (array_body (child_kind xs) xs) in
-    let e1 = length-array_body (child_kind xs) xs in
+    let e1 = array_length (child_kind xs) xs in
     omega arith
 
 pub length-so_far : (p : Partial) → IsFair p → length (so_far p) ≡ 8 + own_size p

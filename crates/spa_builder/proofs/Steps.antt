@@ -1,16 +1,17 @@
 -- What a value that is placed, begun or closed does to the bytes and the frames.
 use Rattle.std.proofs.Common.{◌≡◌, ◌≢◌, ℕ, ◌+◌, ◌*◌, ◌/◌, ◌-◌, ◌<◌, ◌≤◌, ◌^◌, List, [], ◌∷◌, ◌++◌, length, take, drop, refl, sym, ap, ◌∙◌, subst, arith, length-append, append_assoc, Bool, true, false, ◌&&◌, Ok, Err, eq-eqb}
 use Rattle.std.specs.Prelude.{nat_lt, nat_eq, cond, IsTrue, Option, Some, None, is_some, Result}
-use Rattle.std.proofs.lemmas.Bool.Decides.{nat_tests}
 use Rattle.std.proofs.lemmas.Result.{err_from_is_err_and}
 use Rattle.std.specs.Prelude.{IsErrAnd}
 use Rattle.std.proofs.lemmas.List.{append-nil, take_at, drop_at}
+use Rattle.std.proofs.lemmas.Bool.{and_parts}
 use Rattle.spa_format.specs.Words.{word_bytes, extent, padding}
 use Rattle.spa_format.specs.Kind.{Fixed, kind_of, body_size, type_number}
 use Rattle.spa_format.specs.Pod.{least_count}
 use Rattle.spa_format.specs.Tree.{Shape, Tree, fixed, string, bytes, bitmap, array, pointer, Trees, no_trees, member, Properties, no_properties, property, struct, object, choice, type_of, array_type, choice_type, object_type, struct_type}
 use Rattle.spa_format.specs.Encoding.{encoded_pod, encoding_of, member_encodings, property_encodings, encoded_body}
-use Rattle.spa_builder.proofs.Lengths.{length-word_bytes, members_joined, properties_joined, length-encoded_pod}
+use Rattle.spa_format.proofs.WordLemmas.{length-word_bytes}
+use Rattle.spa_format.proofs.Encodings.{length-encoded_pod, member_encodings-join, property_encodings-join, two_words_length}
 use Rattle.spa_builder.specs.State.{Partial, open_struct, open_object, open_property, open_array, open_choice, State, start, with_tree, with_property}
 use Rattle.spa_builder.specs.Step.{all_fit, own_size, array_of, child_kind, takes_trees, state_with_value, state_with_key, state_with_tree, state_after_pop, closed_value, outcome_if_fits, outcome_of, Outcome, Accepts, Inval, Nospc}
 use Rattle.spa_builder.specs.Fields.{BuilderFields, fields_of, HasState, IsAt, IsNested, IsFair, so_far, all_so_far, body_so_far, type_of_partial, frames_of, what_of}
@@ -49,17 +50,10 @@ sized_nospc A b o t old f g =
     (subst (λ c. Makes {A = A} (cond c (Accepts t) Nospc) old old (Err NOSPC)) (sym g)
     (refl, refl))
 
-pub lt_test : (a b : ℕ) → a < b → nat_lt a b ≡ true
-lt_test a b h = grind (arith, nat_tests)
-
 -- what `?` passes on
 pub is_nomem : {A : Type 0} (r : Result A Errno) (e : Errno) → IsErrAnd r (λ y. y ≡ e) → e ≡ NOMEM →
     r ≡ Err NOMEM
 is_nomem r e h i = let p = err_from_is_err_and r h in rw (p.1, p.2, i) refl
-
-pub and_false : (b c : Bool) → c ≡ false → (b && c) ≡ false
-and_false true c e = e
-and_false false c e = refl
 
 -- ---- a value that is placed
 
@@ -81,7 +75,7 @@ grown n base a b t e = rw e (simp append_assoc)
 
 one_more : (vs : Trees) (v : Tree) → member_encodings (with_tree vs v) ≡ member_encodings vs ++
     encoding_of v
-one_more vs v = members_joined vs (member v no_trees)
+one_more vs v = member_encodings-join vs (member v no_trees)
     ∙ ap (λ l. member_encodings vs ++ l) (append-nil (encoding_of v))
 
 property_more : (t i : ℕ) (ps : Properties) (k f : ℕ) (v : Tree) →
@@ -90,7 +84,7 @@ property_more : (t i : ℕ) (ps : Properties) (k f : ℕ) (v : Tree) →
     encoding_of v
 property_more t i ps k f v =
     ap (λ l. word_bytes t ++ (word_bytes i ++ l))
-    (properties_joined ps (property k f v no_properties)
+    (property_encodings-join ps (property k f v no_properties)
     ∙ ap (λ l. property_encodings ps ++ (word_bytes k ++ (word_bytes f ++ l)))
     (append-nil (encoding_of v)))
     ∙ simp append_assoc
@@ -235,10 +229,6 @@ pub record Closing (old : BuilderFields) (s : State) (o : BegunPod) (p : Partial
   pub nested : IsNested rest
   pub fit : all_fit (extent (own_size p)) rest ≡ true
 
-both_true : (a b : Bool) → (a && b) ≡ true → (a ≡ true) × (b ≡ true)
-both_true true b e = (refl, e)
-both_true false b e = absurd (cc)
-
 pub closing : (old : BuilderFields) (closed : Trees) (ops : List Partial) (o : BegunPod) →
     IsAt old (record { closed = closed; opened = ops }) →
     Some o ≡ innermost_of (length (member_encodings closed)) ops →
@@ -260,7 +250,7 @@ closing old closed (p ∷ rest) o at e =
     let k = at.nested in
     let sf = length-so_far p k.0 in
     let own = length-body p k.0 in
-    let f = both_true (nat_lt (own_size p + 0) (2 ^ 32)) (all_fit (extent (own_size p + 0)) rest)
+    let f = and_parts (nat_lt (own_size p + 0) (2 ^ 32)) (all_fit (extent (own_size p + 0)) rest)
     at.fit in
     let small : own_size p + 0 < 2 ^ 32 = ltb-true (own_size p + 0) (2 ^ 32) f.0 in
     let zero : own_size p + 0 ≡ own_size p = omega arith in (
@@ -432,10 +422,8 @@ pub keyed_fit : (t i : ℕ) (qs : Properties) (k f : ℕ) (ps : List Partial) �
     IsNested (open_object t i qs ∷ ps) → all_fit 0 (open_property t i qs k f ∷ ps) ≡ has_room_for 8
     (open_object t i qs ∷ ps)
 keyed_fit t i qs k f ps n =
-    let e0 = length-append (word_bytes k) (word_bytes f) in
-    let e1 = length-word_bytes k in
-    let e2 = length-word_bytes f in
-    let e3 = length-append (all_so_far (open_object t i qs ∷ ps)) (word_bytes k ++ word_bytes f) in
+    let e0 = two_words_length k f in
+    let e1 = length-append (all_so_far (open_object t i qs ∷ ps)) (word_bytes k ++ word_bytes f) in
     one_size_decides (open_property t i qs k f ∷ ps) n
     ∙ room_later (open_object t i qs ∷ ps) (open_property t i qs k f ∷ ps) 8 refl
     (ap length (key_more t i qs k f ps) ∙ omega arith)
@@ -467,19 +455,19 @@ sized_inval A b o old e = subst (λ p. Makes {A = A} (outcome_if_fits b p) old o
 pub at_start : (xs : List ℕ) (fs : List BegunPod) → xs ≡ [] → fs ≡ [] → IsAt (fields_of xs fs) start
 at_start xs fs b f = record { bytes = b; frames = f; nested = tt; fit = refl }
 
-kept_one : {A : Type 0} (o : Outcome) (old new : BuilderFields) (r : Result A Errno) → HasState old →
+pub kept_made : {A : Type 0} (o : Outcome) (old new : BuilderFields) (r : Result A Errno) → HasState old →
     Makes o old new r → HasState new
-kept_one (Accepts s) old new (Ok x) h m = (s, m)
-kept_one (Accepts s) old new (Err e) h m = subst HasState (sym m.1) h
-kept_one Inval old new (Ok x) h m = absurd m
-kept_one Inval old new (Err e) h m = subst HasState (sym m.1) h
-kept_one Nospc old new (Ok x) h m = absurd m
-kept_one Nospc old new (Err e) h m = subst HasState (sym m.1) h
+kept_made (Accepts s) old new (Ok x) h m = (s, m)
+kept_made (Accepts s) old new (Err e) h m = subst HasState (sym m.1) h
+kept_made Inval old new (Ok x) h m = absurd m
+kept_made Inval old new (Err e) h m = subst HasState (sym m.1) h
+kept_made Nospc old new (Ok x) h m = absurd m
+kept_made Nospc old new (Err e) h m = subst HasState (sym m.1) h
 
 -- whatever a call makes, the builder holds a state
 pub kept : {A : Type 0} (o : State → Outcome) (old new : BuilderFields) (r : Result A Errno) → HasState old →
     ((s : State) → IsAt old s → Makes (o s) old new r) → HasState new
-kept o old new r h f = kept_one (o h.0) old new r h (f h.0 h.1)
+kept o old new r h f = kept_made (o h.0) old new r h (f h.0 h.1)
 
 -- a tree of no fixed size isn't an element
 pub no_element : (closed : Trees) (ps : List Partial) (v : Tree) → ((x : Fixed) → v ≢ fixed x) →

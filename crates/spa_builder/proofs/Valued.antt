@@ -1,19 +1,21 @@
 -- A value that is written whole where it may come next.
-use Rattle.std.proofs.Common.{◌≡◌, ◌≢◌, ℕ, ◌<◌, ◌≤◌, ◌∷◌, ◌++◌, [], List, length, take, refl, sym, ap, ◌∙◌, subst, arith, Bool, true, false, Ok, Err, inl, inr, ◌⊎◌, eqb-true, eq-eqb, Contains, length-append}
+use Rattle.std.proofs.Common.{◌≡◌, ◌≢◌, ℕ, ◌≤◌, ◌∷◌, ◌++◌, [], List, length, take, refl, sym, ap, ◌∙◌, subst, arith, Bool, true, false, Ok, Err, inl, inr, ◌⊎◌, eqb-true, eq-eqb, Contains, length-append}
 use Rattle.std.specs.Prelude.{cond, nat_lt, None, Some, Option, Result, IsErrAnd}
 use Rattle.std.specs.List.{list_any}
-use Rattle.std.proofs.lemmas.Bool.{or_cases, or_left, or_right, false≢true}
+use Rattle.std.proofs.lemmas.Bool.{or_cases, or_left, or_right, false≢true, and_right, lt-ltb, false_from_ne_true}
 use Rattle.std.proofs.lemmas.List.{append-nil, take_at}
 use Rattle.std.proofs.lemmas.List.Elements.{All-nil, All-cons, All-contains, Contains-append_right, Contains-append_cases}
 use Rattle.spa_sink.specs.Writing.{Begun, RefusesPiece, Sent, none_sent, some_sent}
 use Rattle.spa_sink.specs.declared.gen_error.GenError.{GenError}
 use Rattle.spa_sink.specs.declared.gen_error.GenError.TheVariants.{Full, TooLarge, NulInText, WrongCount, Failed, Io, OutOfMemory}
-use Rattle.spa_format.specs.Kind.{Fixed, Kind, none_kind, bool_kind, id_kind, int_kind, long_kind, float_kind, double_kind, rectangle_kind, fraction_kind, fd_kind, kind_of, type_number}
+use Rattle.spa_format.specs.Kind.{Fixed}
 use Rattle.spa_format.specs.Tree.{Tree, fixed, string, bytes, bitmap, array, choice, pointer, struct, object, Trees, no_trees, member, Properties, no_properties, property, type_of, array_type, choice_type, object_type}
 use Rattle.spa_format.specs.Encoding.{encoded_body, encoding_of, member_encodings}
 use Rattle.spa_format.specs.Words.{size_limit}
 use Rattle.spa_format.specs.Writable.{HasNul, SomeHasNul, SomeValueHasNul, IsTooLarge, IsWritable}
 use Rattle.spa_format.proofs.Back.{body_fits}
+use Rattle.spa_format.proofs.Encodings.{length-encoded_pod}
+use Rattle.spa_format.proofs.Shapes.{not_fixed}
 use Rattle.spa_value.specs.View.{view, array_view, choice_view, object_view}
 use Rattle.spa_value.specs.declared.array.ValueArray.{ValueArray}
 use Rattle.spa_value.specs.declared.choice_value.ChoiceValue.{ChoiceValue}
@@ -27,22 +29,20 @@ use Rattle.spa_builder.specs.Innermost.{trees_with_value, has_room_for}
 use Rattle.spa_builder.specs.Answers.{Makes, MakesValue, RefusesValue, errno_of}
 use Rattle.spa_utils.specs.declared.errno.Errno.{Errno}
 use Rattle.spa_utils.specs.declared.errno.TheConstants.Errno.{INVAL, NOMEM, NOSPC}
-use Rattle.spa_builder.proofs.Lengths.{length-encoded_pod}
-use Rattle.spa_builder.proofs.Steps.{added_fit, after, and_false, is_after, lt_test, nul_refused, kept, placed_is, sized_goes, sized_nospc, without_nul}
+use Rattle.spa_builder.proofs.Steps.{added_fit, after, is_after, nul_refused, placed_is, sized_goes, sized_nospc, without_nul, kept_made}
 
 -- ---- a beginning that was taken is taken back
 
-sent_back : (a l b : List ℕ) → Sent (λ x y z. z ≡ x ++ y) a l b →
-    (take (length a) b ≡ a) × (length a ≤ length b)
-sent_back a l b (none_sent e f) = (
-  ap (take (length a)) (sym f) ∙ sym (ap (take (length a)) (append-nil a))
-      ∙ take_at a [] (length a) refl,
-  let k = ap length f in omega arith,
-)
-sent_back a l b (some_sent p) = (
+pub appended_back : (a l b : List ℕ) → b ≡ a ++ l → (take (length a) b ≡ a) × (length a ≤ length b)
+appended_back a l b p = (
   ap (take (length a)) p ∙ take_at a l (length a) refl,
   let k = ap length p ∙ length-append a l in omega arith,
 )
+
+sent_back : (a l b : List ℕ) → Sent (λ x y z. z ≡ x ++ y) a l b →
+    (take (length a) b ≡ a) × (length a ≤ length b)
+sent_back a l b (none_sent e f) = appended_back a [] b (sym f ∙ sym (append-nil a))
+sent_back a l b (some_sent p) = appended_back a l b p
 
 pub begun_back : (a xs b : List ℕ) → Begun (λ x y z. z ≡ x ++ y) a xs b →
     (take (length a) b ≡ a) × (length a ≤ length b)
@@ -118,12 +118,8 @@ mutual
         | inr later ↦ inr (nul_in_property ps later)
       ]
 
-not_true : (b : Bool) → (b ≡ true → ⊥) → b ≡ false
-not_true true h = absurd (h refl)
-not_true false h = refl
-
 pub clean : (v : Tree) → ¬ (HasNul v) → has_nul v ≡ false
-clean v h = not_true (has_nul v) (λ e. h (nul_in v e))
+clean v h = false_from_ne_true (has_nul v) (λ e. h (nul_in v e))
 
 -- ---- what is answered
 
@@ -152,7 +148,7 @@ pub value_added : (s : State) (v : Tree) (old new : BuilderFields) (x : Unit {0}
 value_added s v old new x at t w room b f =
     let fit = value_room s v old at t ∙ room in
     without_nul (has_nul v) _ old new (Ok x) (clean v w.no_nul)
-    (sized_goes _ _ (after s.closed s.opened v) old new x (lt_test _ _ (body_fits v w.fits))
+    (sized_goes _ _ (after s.closed s.opened v) old new x (lt-ltb _ _ (body_fits v w.fits))
     (placed_is s.closed s.opened v t) fit
     (is_after s.closed s.opened v old.bytes new at.bytes at.nested t b f fit))
 
@@ -164,7 +160,7 @@ value_beyond s v old new at t w room e =
     subst (λ h. Makes {A = Unit {0}} (step s (add v)) old h (Err NOSPC)) (sym e)
     (without_nul (has_nul v) _ old old (Err NOSPC) (clean v w.no_nul)
     (sized_nospc _ _ _ (after s.closed s.opened v) old (placed_is s.closed s.opened v t)
-    (and_false _ _ (value_room s v old at t ∙ room))))
+    (and_right _ _ (value_room s v old at t ∙ room))))
 
 pub value_with_nul : (s : State) (v : Tree) (old new : BuilderFields) → HasNul v → new ≡ old →
     Makes {A = Unit {0}} (step s (add v)) old new (Err INVAL)
@@ -206,10 +202,6 @@ value_refused s v old new r e t is same (inr h) =
       same = same;
     })
 
-pub kept_made : (o : Outcome) (old new : BuilderFields) (r : Result (Unit {0}) Errno) → HasState old →
-    Makes o old new r → HasState new
-kept_made o old new r h m = kept (λ s. o) old new r h (λ s at. m)
-
 -- whatever it makes, the builder holds a state
 kept_one : (s : State) (v : Tree) (old new : BuilderFields) (r : Result (Unit {0}) Errno) → HasState old →
     MakesValue s v old new r → IsAt old s → HasState new
@@ -221,25 +213,6 @@ pub kept_value : (v : Tree) (old new : BuilderFields) (r : Result (Unit {0}) Err
 kept_value v old new r h f = kept_one h.0 v old new r h (f h.0 h.1) h.1
 
 -- ---- which values are of fixed size
-
-kinds : (k : Kind) → (type_number k ≤ 11) ⊎ (type_number k ≡ 18)
-kinds none_kind = inl (omega arith)
-kinds bool_kind = inl (omega arith)
-kinds id_kind = inl (omega arith)
-kinds int_kind = inl (omega arith)
-kinds long_kind = inl (omega arith)
-kinds float_kind = inl (omega arith)
-kinds double_kind = inl (omega arith)
-kinds rectangle_kind = inl (omega arith)
-kinds fraction_kind = inl (omega arith)
-kinds fd_kind = inr refl
-
-not_fixed : (v : Tree) (n : ℕ) → type_of v ≡ n → 11 < n → n ≢ 18 → (x : Fixed) → v ≢ fixed x
-not_fixed v n t a b x e =
-    elim (kinds (kind_of x)) [
-      | inl l ↦ (let u : type_of v ≡ type_number (kind_of x) = ap type_of e in omega arith)
-      | inr r ↦ b (sym t ∙ ap type_of e ∙ r)
-    ]
 
 -- the law of the types of trees
 module _ (arrays : (a : ValueArray) → type_of (array_view a) ≡ array_type)

@@ -4,6 +4,7 @@ use Rattle.std.proofs.Common.{◌≡◌, ℕ, ◌+◌, ◌≤◌, List, [], leng
 use Rattle.std.proofs.Common.{take, drop, sym, subst, append-nil, arith, length-drop, ◌∙◌}
 use Rattle.std.proofs.Math.Seq.{take-add}
 use Rattle.std.proofs.lemmas.List.{take_all, length-take-le}
+use Rattle.std.proofs.KnownBytes.{Appends-nil}
 use Rattle.spa_device.specs.Counting.{Attempted, Counted, Handed, Took, all_taken, one_failed, some_taken}
 use Rattle.spa_device.specs.CountingLaws.{known_more}
 
@@ -44,10 +45,6 @@ pub record Counts {D : Type 0} (holds : D → Option (List ℕ)) (old : D) (byte
   pub whole : failed ≡ false → n ≡ length bytes
   pub known : Appends (holds old) (holds last) (take n bytes)
 
-no_bytes : (a : Option (List ℕ)) → Appends a a []
-no_bytes None = tt
-no_bytes (Some a) = sym (append-nil a)
-
 kept : (a b : Option (List ℕ)) (bytes : List ℕ) → Attempted a b bytes None → Appends a b (take 0 bytes)
 kept None b bytes k = tt
 kept (Some a) None bytes k = absurd k
@@ -58,7 +55,7 @@ pub counts : {D : Type 0} (attempts : Attempting D) (holds : D → Option (List 
     (last : D) (failed : Bool) (n : ℕ) (old : D) (bytes : List ℕ) → Handed attempts last failed n old bytes →
     Counts holds old bytes last failed n
 counts attempts holds say last failed _ _ _ (all_taken e) =
-    record { most = omega arith; whole = λ _. refl; known = no_bytes (holds last) }
+    record { most = omega arith; whole = λ _. refl; known = Appends-nil (holds last) }
 counts attempts holds say last failed _ _ _ (one_failed old bytes e a) = record {
   most = omega arith;
   whole = λ f. absurd (cc (e, f));

@@ -1,26 +1,17 @@
 -- What filters by UTF-8 keep and pass over.
-use Rattle.std.proofs.Common.{◌≡◌, ℕ, ◌≤◌, Bool, true, false, cond, ◌&&◌, List, [], ◌∷◌, length, refl, sym, ◌∙◌, ap, arith, rules, map, suc}
+use Rattle.std.proofs.Common.{◌≡◌, ℕ, ◌≤◌, Bool, true, false, cond, List, [], ◌∷◌, length, refl, sym, ◌∙◌, ap, arith, rules, map}
 use Rattle.std.specs.Borrow.{Bor}
 use Rattle.std.specs.List.{filter}
 use Rattle.std.specs.Str.{IsUtf8, is_utf8}
 use Rattle.std.proofs.lemmas.Str.{IsUtf8-from_is_utf8, is_utf8-from_IsUtf8}
+use Rattle.std.proofs.lemmas.Bool.{false_from_ne_true, and_right, and_left}
+use Rattle.std.proofs.lemmas.List.{length-map}
 use Rattle.spa_dict.specs.Pairs.{Pair, is_text_pair, pair_of, pairs_of, text_keys, text_pairs, text_values}
 
 -- ---- tests
 
-never_true : (t : Bool) → (t ≡ true → ⊥) → t ≡ false
-never_true true never = absurd (never refl)
-never_true false never = refl
-
 is_utf8-fails : (b : List ℕ) → ¬ (IsUtf8 b) → is_utf8 b ≡ false
-is_utf8-fails b bad = never_true (is_utf8 b) (λ e. bad (IsUtf8-from_is_utf8 b e))
-
-first_fails : (s t : Bool) → s ≡ false → (s && t) ≡ false
-first_fails s t p = rw p refl
-
-second_fails : (s t : Bool) → t ≡ false → (s && t) ≡ false
-second_fails true t p = p
-second_fails false t p = refl
+is_utf8-fails b bad = false_from_ne_true (is_utf8 b) (λ e. bad (IsUtf8-from_is_utf8 b e))
 
 -- ---- the front of a filtered list
 
@@ -40,10 +31,10 @@ module _ {before after : List Pair} {k v : List ℕ} (first : before ≡ (k, v) 
       ap text_pairs first ∙ kept is_text_pair (k, v) after both ∙ rw (e, f) refl
 
   pub key_fails : ¬ (IsUtf8 k) → text_pairs before ≡ text_pairs after
-  key_fails bad = ap text_pairs first ∙ dropped is_text_pair (k, v) after (first_fails (is_utf8 k) (is_utf8 v) (is_utf8-fails k bad))
+  key_fails bad = ap text_pairs first ∙ dropped is_text_pair (k, v) after (and_left (is_utf8 k) (is_utf8 v) (is_utf8-fails k bad))
 
   pub value_fails : ¬ (IsUtf8 v) → text_pairs before ≡ text_pairs after
-  value_fails bad = ap text_pairs first ∙ dropped is_text_pair (k, v) after (second_fails (is_utf8 k) (is_utf8 v) (is_utf8-fails v bad))
+  value_fails bad = ap text_pairs first ∙ dropped is_text_pair (k, v) after (and_right (is_utf8 k) (is_utf8 v) (is_utf8-fails v bad))
 
   pub text_key_kept : {key : List ℕ} → key ≡ k → IsUtf8 k → text_keys before ≡ key ∷ text_keys after
   text_key_kept e s = ap text_keys first ∙ kept is_utf8 k (map (λ p. p.0) after) (is_utf8-from_IsUtf8 k s) ∙ sym (ap (λ x. x ∷ text_keys after) e)
@@ -67,24 +58,20 @@ length-filter-le : {X : Type 0} (p : X → Bool) (xs : List X) → length (filte
 length-filter-le p [] = omega arith
 length-filter-le p (x ∷ xs) = shorter (p x) x xs (filter p xs) (length-filter-le p xs)
 
-length-map : {X Y : Type 0} (f : X → Y) (xs : List X) → length (map f xs) ≡ length xs
-length-map f [] = refl
-length-map f (x ∷ xs) = ap (λ n. suc n) (length-map f xs)
-
 pub fewer_keys : (ps : List Pair) → length (text_keys ps) ≤ length ps
 fewer_keys ps =
-    let same = length-map (λ p. p.0) ps in
+    let same = length-map ps (λ p. p.0) in
     let fewer = length-filter-le is_utf8 (map (λ p. p.0) ps) in
     omega (arith, same, fewer)
 
 pub fewer_values : (ps : List Pair) → length (text_values ps) ≤ length ps
 fewer_values ps =
-    let same = length-map (λ p. p.1) ps in
+    let same = length-map ps (λ p. p.1) in
     let fewer = length-filter-le is_utf8 (map (λ p. p.1) ps) in
     omega (arith, same, fewer)
 
 pub pairs_counted : (items : List (Bor (List ℕ) × Bor (List ℕ))) → length (pairs_of items) ≡ length items
-pairs_counted items = length-map pair_of items
+pairs_counted items = length-map items pair_of
 
 pub fewer_pairs : (ps : List Pair) → length (text_pairs ps) ≤ length ps
 fewer_pairs ps = length-filter-le is_text_pair ps

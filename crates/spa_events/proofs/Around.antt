@@ -1,7 +1,7 @@
 -- The levels around the one that is open, as events are written and levels end.
-use Rattle.std.proofs.Common.{◌≡◌, ◌≢◌, ◌⊎◌, inl, inr, ℕ, ◌+◌, ◌<◌, ◌≤◌, List, [], ◌∷◌, ◌++◌, length, take, drop, refl, sym, ap, subst, ◌∙◌, arith, length-append, length-take, length-set, append_assoc, append-nil}
+use Rattle.std.proofs.Common.{◌≡◌, ◌≢◌, inl, inr, ℕ, ◌+◌, ◌<◌, ◌≤◌, List, [], ◌∷◌, ◌++◌, length, take, drop, refl, sym, ap, subst, ◌∙◌, arith, length-append, length-take, length-set, append_assoc, append-nil}
 use Rattle.std.specs.Prelude.{Bool, true, false, if◌then◌else◌, slice_set}
-use Rattle.std.proofs.lemmas.Bool.{eq-eqb, ne_eqb}
+use Rattle.std.proofs.lemmas.Bool.{eq-eqb, ne_eqb, cases_Bool}
 use Rattle.std.proofs.lemmas.List.{drop-drop, drop-set-lt, get_or-set_other, get_or-set_same, get_or-take, take-append-drop, take_more_set}
 use Rattle.std.proofs.Math.Seq.{take-append_seam, take-length}
 use Rattle.spa_events.specs.Events.{IsFilled, IsListed, events_of, is_object, is_struct, no_parent}
@@ -144,15 +144,11 @@ stands_behind input old events count l e s h lt none =
           ∙ ap (λ z. z ++ rest_events input (count + 1) (level_behind l e ∷ s.around)) (sym (take_more_set events count e lt));
     }
 
-or_not : (x : Bool) → (x ≡ true) ⊎ (x ≡ false)
-or_not true = inl refl
-or_not false = inr refl
-
 -- an event is written, and what is inside its pod or behind it is open
 pub stands_following : (input : List ℕ) (old events : List Event) (count : ℕ) (l : Level) (e : Event) → Stands input old events count l → HasNext input l e →
     count < length events → Stands input old (slice_set events count e) (count + 1) (level_following count l e)
 stands_following input old events count l e s h lt =
-    elim (or_not (holds_pods e.type_ e.size)) [
+    elim (cases_Bool (holds_pods e.type_ e.size)) [
       | inl t ↦ subst (λ x. Stands input old (slice_set events count e) (count + 1) (if x then level_inside count e else level_behind l e)) (sym t)
           (stands_next input old events count l e s h lt)
       | inr t ↦ subst (λ x. Stands input old (slice_set events count e) (count + 1) (if x then level_inside count e else level_behind l e)) (sym t)

@@ -1,5 +1,6 @@
 -- What two values filter to, from pod to pod.
-use Rattle.std.proofs.Common.{◌≡◌, ◌≢◌, ◌&&◌, Bool, true, false, ℕ, ◌<◌, ◌^◌, List, ◌++◌, length, refl, sym, ap, ◌∙◌, subst, arith}
+use Rattle.std.proofs.Common.{◌≡◌, ◌≢◌, ℕ, ◌<◌, ◌^◌, List, ◌++◌, length, refl, sym, ap, ◌∙◌, subst, arith}
+use Rattle.std.proofs.lemmas.Bool.{and_right, and_left}
 use Rattle.spa_format.specs.Kind.{Kind, Fixed, content, fixed_body, kind_of, type_number}
 use Rattle.spa_format.specs.Tree.{Shape, none_choice, range_choice, step_choice, enum_choice, flags_choice, Tree, fixed, choice, choice_type, type_of}
 use Rattle.spa_format.specs.Pod.{IsBody, IsPod}
@@ -12,7 +13,6 @@ use Rattle.spa_format.proofs.Unique.{one_value, same_body}
 use Rattle.spa_bytes.specs.Opening.{Opens}
 use Rattle.spa_fixed_sized.specs.Choices.{choice_enum_tree}
 use Rattle.spa_utils.specs.declared.choice.ChoiceEnum.{ChoiceEnum}
-use Rattle.spa_utils.specs.declared.choice.ChoiceEnum.TheVariants as E
 use Rattle.spa_filter_offers.specs.Admits.{Admits, AreSupported, HasCommon, IsCommon, IsMeeting, IsPlain, IsSupported, choice_flags_of, plain_of}
 use Rattle.spa_filter_offers.specs.Offers.{IsContent}
 use Rattle.spa_filter_offers.proofs.Offering.{kind_of-admitted, only_contents}
@@ -22,6 +22,7 @@ use Rattle.spa_filter.specs.declared.refused.Refused.{Refused}
 use Rattle.spa_filter.specs.declared.refused.Refused.TheVariants.{Apart, TooLarge, OutOfMemory}
 use Rattle.spa_filter.proofs.Plain.{IsPlainTree, IsMeeting-same, none-apart}
 use Rattle.spa_filter.proofs.Swapping.{AreSupported-swapped, IsMeeting-swapped}
+use Rattle.spa_value.proofs.TypeLaws.{type_of-choice_enum_tree}
 
 -- a pod of a choice without flags, as it is written
 zero_kept : (s : Shape) (f : ℕ) → f ≡ 0 → kept_flags s f ≡ f
@@ -61,13 +62,6 @@ appended_fixed x type k old new t e h p =
       parts = p ∙ ap (λ n. old ++ encoded_pod n (fixed_body x)) (t ∙ ap type_number (sym e));
     }
 
-pub choice_typed : {T : Type 0} (k : Kind) (f : T → Fixed) (n : ℕ) (e : ChoiceEnum T) → type_of (choice_enum_tree k f n e) ≡ choice_type
-choice_typed k f n (E.None y) = refl
-choice_typed k f n (E.Range y a b) = refl
-choice_typed k f n (E.Step y a b s) = refl
-choice_typed k f n (E.Enum y ys) = refl
-choice_typed k f n (E.Flags y ys) = refl
-
 pub has_body : (v : Tree) (pod body rest : List ℕ) (type : ℕ) → IsCanonicalPod v pod → Opens pod type body rest → HasBody v type body
 has_body v pod body rest type w o =
     record {
@@ -93,7 +87,7 @@ offered k v w t b c x e h s i j l p a =
 -- the choice that was read of a body is its own
 pub same_choice : {T : Type 0} (k : Kind) (f : T → Fixed) (n : ℕ) (e : ChoiceEnum T) (w : Tree) (c : List ℕ) → HasBody w choice_type c →
     IsBody (choice_enum_tree k f n e) c → choice_enum_tree k f n e ≡ w
-same_choice k f n e w c h i = same_body (choice_enum_tree k f n e) w c (choice_typed k f n e ∙ sym h.its_type) i h.content
+same_choice k f n e w c h i = same_body (choice_enum_tree k f n e) w c (type_of-choice_enum_tree k f n e ∙ sym h.its_type) i h.content
 
 pub plain_tree : (v : Tree) → IsPlain v → IsPlainTree v
 plain_tree (choice s f k d vs) h = absurd h
@@ -116,14 +110,6 @@ plain_is k v b x e h s =
     let same : v ≡ fixed x = y.2 ∙ ap (λ z. fixed z) says in
     record { same = same; alone = (plain_tree v (subst IsPlain (sym same) tt)).alone }
 
-pub and_false : (b c : Bool) → c ≡ false → (b && c) ≡ false
-and_false true c e = e
-and_false false c e = refl
-
-false_and : (b c : Bool) → b ≡ false → (b && c) ≡ false
-false_and true c e = cc
-false_and false c e = refl
-
 -- the plain value of a second side that the first admits
 pub appended_second : (v w : Tree) (pod old new : List ℕ) → IsOffered w v → IsCanonicalPod w pod → new ≡ old ++ pod → IsCommonAppended v w old new
 appended_second v w pod old new o h p =
@@ -131,7 +117,7 @@ appended_second v w pod old new o h p =
     let both : IsCommon v w w = (o.admitted, t.itself) in
     record {
       value = w;
-      supported = (o.supported, t.supported, (and_false _ _ t.unbounded, and_false _ _ t.unflagged));
+      supported = (o.supported, t.supported, (and_right _ _ t.unbounded, and_right _ _ t.unflagged));
       meeting = record {
         each = λ x. (λ a. (subst (Admits v) (sym (t.alone x a)) o.admitted, a), λ a. a.1);
         admitted = subst (IsCommon v w) (sym t.own) both;
@@ -163,7 +149,7 @@ appended_same v w pod other old new h k i j e p =
     let same : v ≡ w = one_value other v w (subst (λ b. IsPod b v) e i.its_pod) j.its_pod in
     record {
       value = v;
-      supported = (t.supported, u.supported, (false_and _ _ t.unflagged, false_and _ _ t.unbounded));
+      supported = (t.supported, u.supported, (and_left _ _ t.unflagged, and_left _ _ t.unbounded));
       meeting = IsMeeting-same v w v t same refl;
       appended = record { pod = pod; written = i; parts = p };
     }
@@ -173,7 +159,7 @@ pub plain_differ : (v w : Tree) → IsPlain v → IsPlain w → v ≢ w → AreS
 plain_differ v w h k n =
     let t = plain_tree v h in
     let u = plain_tree w k in
-    ((t.supported, u.supported, (false_and _ _ t.unflagged, false_and _ _ t.unbounded)), none-apart v w t u n)
+    ((t.supported, u.supported, (and_left _ _ t.unflagged, and_left _ _ t.unbounded)), none-apart v w t u n)
 
 -- and two whose pods differ
 pub plain_apart : (v w : Tree) (pod other : List ℕ) → IsPlain v → IsPlain w → IsCanonicalPod v pod → IsCanonicalPod w other → pod ≢ other →

@@ -1,5 +1,6 @@
 -- Enums, by their borrowed bodies.
 use Rattle.std.proofs.Common.{◌≡◌, ◌↔◌, false, ℕ, ◌≤◌, List, [], ◌∷◌, length, map, drop, refl, sym, ap, ◌∙◌, subst, arith, length-drop, Some, None}
+use Rattle.std.proofs.lemmas.Bool.{and_right}
 use Rattle.std.specs.Prelude.{slice_get}
 use Rattle.std.specs.List.{Contains}
 use Rattle.spa_format.specs.Words.{word_at}
@@ -15,11 +16,12 @@ use Rattle.spa_filter_offers.specs.declared.offer.Offer.{Offer}
 use Rattle.spa_filter.specs.CommonPods.{AreBoth, AreEnumValues, HasBody, IsCommonAppended, IsCommonRefused, IsCommonTooLarge, IsMetAppended, IsMetRefused, IsUnwritten}
 use Rattle.spa_filter.specs.declared.refused.Refused.{Refused}
 use Rattle.spa_filter.specs.declared.refused.Refused.TheVariants.{Apart, TooLarge, OutOfMemory}
-use Rattle.spa_filter.proofs.CommonPods.{and_false, appended_over, choice_typed, none_over}
+use Rattle.spa_filter.proofs.CommonPods.{appended_over, none_over}
 use Rattle.spa_filter_offers.proofs.Contents.{Contains-first, not_among}
 use Rattle.spa_filter_offers.proofs.Meetings.{IsOffer-content, MeetsIn-among}
 use Rattle.spa_filter_offers.proofs.Offering.{IsSupported-admits, only_by}
 use Rattle.spa_filter.proofs.Outcomes.{IsMeeting-offers, none_common}
+use Rattle.spa_value.proofs.TypeLaws.{type_of-choice_enum_tree}
 
 -- the body of an Enum, from its values
 pub enum_body : (k : Kind) (default : Fixed) (others : List Fixed) (array elements body : List ℕ) → 16 ≤ length body → word_at body 0 ≡ 3 →
@@ -93,7 +95,7 @@ enum_first k d values body p u = (refl, refl)
 pub enum_second : (k : Kind) (d : Fixed) (values : List (List ℕ)) (body : List ℕ) (p : AreEnumValues k d values body) (u : Tree) →
     AreSayable u (enum_side k d values body p).tree
 unfolding enum_side
-enum_second k d values body p u = (and_false (is_flags u) false refl, and_false (is_bounded u) false refl)
+enum_second k d values body p u = (and_right (is_flags u) false refl, and_right (is_bounded u) false refl)
 
 -- and one that was read
 pub read_side : {T : Type 0} (k : Kind) (f : T → Fixed) (n : ℕ) (e : ChoiceEnum T) (offer : Offer T) (body : List ℕ) →
@@ -102,7 +104,7 @@ pub read_side : {T : Type 0} (k : Kind) (f : T → Fixed) (n : ℕ) (e : ChoiceE
 read_side k f n e offer body h its o =
     record {
       tree = choice_enum_tree k f n e;
-      its_type = choice_typed k f n e;
+      its_type = type_of-choice_enum_tree k f n e;
       its_body = h;
       supported = λ x a. IsSupported-admits k f its n e x ((o.each x).1 a);
       offers = o;

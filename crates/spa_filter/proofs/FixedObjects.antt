@@ -8,7 +8,7 @@ use Rattle.spa_filter.specs.Settling.{settled_properties, FiltersSettle, IsFixed
 use Rattle.spa_filter.specs.Laws.{MeetingsCommute, MeetingsRepeat, MeetingsNarrow}
 
 -- a default is plain
-IsPlain-plain_of : (t : Tree) → IsPlain (plain_of t)
+pub IsPlain-plain_of : (t : Tree) → IsPlain (plain_of t)
 IsPlain-plain_of (choice s f k d vs) = tt
 IsPlain-plain_of _ = tt
 

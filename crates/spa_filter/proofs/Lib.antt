@@ -4,7 +4,6 @@ pub mod Agreeing
 pub mod Steps
 pub mod Objects
 pub mod Plain
-pub mod Passing
 pub mod FixedObjects
 pub mod CommonPods
 pub mod EnumValues

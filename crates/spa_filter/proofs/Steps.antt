@@ -3,6 +3,7 @@ use Rattle.std.proofs.Common.{◌≡◌, ℕ, ◌+◌, ◌<◌, Bool, true, fals
 use Rattle.std.specs.BTreeSet.{BTreeSet}
 use Rattle.std.specs.List.{All}
 use Rattle.spa_format.specs.Tree.{Properties, no_properties, property, join_properties}
+use Rattle.spa_format.proofs.Sequences.{join_properties-assoc}
 use Rattle.spa_value.specs.declared.object.Property.{Property}
 use Rattle.spa_value.specs.View.{view}
 use Rattle.spa_value.specs.Views.{property_views, property_view}
@@ -11,7 +12,7 @@ use Rattle.spa_keyed_objects.specs.Keys.{AtKey, HoldsAtKeys, key_list}
 use Rattle.spa_keyed_objects.specs.PropertyLists.{HasKeys, IsAdded, IsPushed, offered_in}
 use Rattle.spa_keyed_objects.proofs.Holding.{HoldsAtKeys-seen, HoldsAtKeys-new}
 use Rattle.spa_keyed_objects.proofs.Lookups.{offered_at-either}
-use Rattle.spa_keyed_objects.proofs.KeySets.{join_properties-assoc, there, absent, more_keys}
+use Rattle.spa_keyed_objects.proofs.KeySets.{there, absent, more_keys}
 use Rattle.spa_filter.specs.declared.error.FilterError.{FilterError}
 use Rattle.spa_filter.specs.declared.filtering.Filtered.{Filtered}
 use Rattle.spa_filter.specs.Filtering.{Filters, Agree}

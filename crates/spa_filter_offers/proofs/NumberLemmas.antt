@@ -1,5 +1,5 @@
 -- Values of fixed size have search keys of their own, and sets of keys are compared by what they have.
-use Rattle.std.proofs.Common.{◌≡◌, ◌⊎◌, inl, inr, ◌↔◌, List, [], ◌∷◌, ◌++◌, Bool, true, false, not, cond, if◌then◌else◌, ◌==◌, true≢false, refl, sym, ap, ◌∙◌, subst, arith}
+use Rattle.std.proofs.Common.{◌≡◌, ◌⊎◌, inl, inr, ◌↔◌, List, [], ◌∷◌, ◌++◌, Bool, true, false, cond, if◌then◌else◌, ◌==◌, true≢false, refl, sym, ap, ◌∙◌, subst}
 use Rattle.std.specs.BTreeMap.{is_at}
 use Rattle.std.specs.BTreeSet.{BTreeSet, contains, IsEmpty}
 use Rattle.std.specs.List.{Contains, list_any}
@@ -9,9 +9,11 @@ use Rattle.std.specs.declared.cmp.Ordering.{Ordering}
 use Rattle.std.specs.declared.cmp.Ordering.TheVariants.{Less, Equal, Greater}
 use Rattle.std.proofs.lemmas.Cmp.{ranked, int_ranked, tied_itself}
 use Rattle.std.proofs.lemmas.List.Elements.{Contains-append_left, Contains-push, Contains-push_cases}
+use Rattle.std.proofs.lemmas.Bool.{not-false}
 use Rattle.spa_format.specs.Kind.{bool_kind, id_kind, int_kind, long_kind, float_kind, double_kind, rectangle_kind, fraction_kind, fd_kind, type_number, Fixed, none, bool, id, int, long, float, double, rectangle, fraction, fd}
 use Rattle.spa_filter_offers.specs.declared.numbers.Numbers.{Numbers}
 use Rattle.spa_filter_offers.specs.Numbering.{numbers_of, numbers_cmp, Has, HasAll, IsInserted}
+use Rattle.spa_filter_offers.proofs.Contents.{not_among}
 
 -- the content with these numbers
 fixed_of : Numbers → Fixed
@@ -85,10 +87,6 @@ tied_numbers a =
     let second = tied_itself nat_cmp_total a.second in
     rw (type_, signed, first, second) refl
 
-not-false : (b : Bool) → not b ≡ false → b ≡ true
-not-false true h = refl
-not-false false h = absurd (true≢false h)
-
 -- the numbers of one more content were inserted, and were new or not
 module _ (old new : BTreeSet Numbers) (x : Fixed) (n : Numbers) (is : n ≡ numbers_of x) (is_new : Bool)
     (inserted : IsInserted old n is_new new) where
@@ -141,9 +139,6 @@ module _ (old new : BTreeSet Numbers) (x : Fixed) (n : Numbers) (is : n ≡ numb
         | inr o ↦ (h.each y).0 o
       ] in
       record { each = λ y. (to y, λ among. (added y).1 (inr ((h.each y).1 among))) }
-
-not_among : (x : Fixed) → ¬ (Contains [] x)
-not_among x h = omega (arith, h.1)
 
 -- an empty set has no content
 pub empty_has_none : (set : BTreeSet Numbers) → IsEmpty set → HasAll set []

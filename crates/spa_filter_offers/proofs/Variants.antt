@@ -1,18 +1,15 @@
 -- Which type a value or a choice is of.
 use Rattle.std.proofs.Common.{◌≡◌, ◌≢◌, ℕ, refl, sym, ap, ◌∙◌, arith}
 use Rattle.spa_format.specs.Kind.{Kind, bool_kind, id_kind, int_kind, long_kind, float_kind, double_kind, rectangle_kind, fraction_kind, fd_kind, type_number, Fixed, none, bool, id, int, long, float, double, rectangle, fraction, fd, kind_of}
-use Rattle.spa_format.specs.Tree.{fixed}
-use Rattle.spa_fixed_sized.specs.Choices.{choice_enum_tree}
-use Rattle.spa_utils.specs.declared.choice.ChoiceEnum.{ChoiceEnum}
-use Rattle.spa_utils.specs.declared.choice.ChoiceEnum.TheVariants as E
-use Rattle.spa_value.specs.declared.array.ValueArray.{ValueArray}
-use Rattle.spa_value.specs.declared.array.ValueArray.TheVariants as A
+use Rattle.spa_format.specs.Tree.{fixed, array_type, choice_type}
+use Rattle.spa_format.proofs.Shapes.{not_fixed}
 use Rattle.spa_value.specs.declared.choice_value.ChoiceValue.{ChoiceValue}
 use Rattle.spa_value.specs.declared.choice_value.ChoiceValue.TheVariants as C
 use Rattle.spa_value.specs.declared.object.Object.{Object'}
 use Rattle.spa_value.specs.declared.value.Value.{Value}
 use Rattle.spa_value.specs.declared.value.Value.TheVariants as V
 use Rattle.spa_value.specs.View.{view, array_view, choice_view}
+use Rattle.spa_value.proofs.TypeLaws.{type_of-array_view, type_of-choice_view}
 use Rattle.spa_filter_offers.specs.Admits.{Admits}
 use Rattle.spa_filter_offers.proofs.Offering.{kind_of-admitted}
 
@@ -55,26 +52,6 @@ content_type (V.Fraction x) = 11
 content_type (V.Fd x) = 18
 content_type _ = 0
 
-array_apart : (a : ValueArray) (x : Fixed) → array_view a ≢ fixed x
-array_apart (A.None xs) x h = cc
-array_apart _ x h = cc
-
-choice_apart : {T : Type 0} (k : Kind) (f : T → Fixed) (n : ℕ) (e : ChoiceEnum T) (x : Fixed) →
-    choice_enum_tree k f n e ≢ fixed x
-choice_apart k f n (E.None y) x h = cc
-choice_apart k f n _ x h = cc
-
-choice_view-apart : (c : ChoiceValue) (x : Fixed) → choice_view c ≢ fixed x
-choice_view-apart (C.Bool c) x h = choice_apart _ _ c.0.0 c.1 x h
-choice_view-apart (C.Id c) x h = choice_apart _ _ c.0.0 c.1 x h
-choice_view-apart (C.Int c) x h = choice_apart _ _ c.0.0 c.1 x h
-choice_view-apart (C.Long c) x h = choice_apart _ _ c.0.0 c.1 x h
-choice_view-apart (C.Float c) x h = choice_apart _ _ c.0.0 c.1 x h
-choice_view-apart (C.Double c) x h = choice_apart _ _ c.0.0 c.1 x h
-choice_view-apart (C.Rectangle c) x h = choice_apart _ _ c.0.0 c.1 x h
-choice_view-apart (C.Fraction c) x h = choice_apart _ _ c.0.0 c.1 x h
-choice_view-apart (C.Fd c) x h = choice_apart _ _ c.0.0 c.1 x h
-
 same_content : (x y : Fixed) → fixed x ≡ fixed y → type_number (kind_of y) ≡ type_number (kind_of x)
 same_content x y h = let e : x ≡ y = cc in sym (ap (λ z. type_number (kind_of z)) e)
 
@@ -90,8 +67,8 @@ content_type-view (V.Double y) x h = same_content (double y.0) x h
 content_type-view (V.Rectangle y) x h = same_content (rectangle y.width y.height) x h
 content_type-view (V.Fraction y) x h = same_content (fraction y.num y.denom) x h
 content_type-view (V.Fd y) x h = same_content (fd y.0) x h
-content_type-view (V.ValueArray a) x h = absurd (array_apart a x h)
-content_type-view (V.Choice c) x h = absurd (choice_view-apart c x h)
+content_type-view (V.ValueArray a) x h = absurd (not_fixed (array_view a) array_type (type_of-array_view a) (omega arith) (λ e. omega arith) x h)
+content_type-view (V.Choice c) x h = absurd (not_fixed (choice_view c) choice_type (type_of-choice_view c) (omega arith) (λ e. omega arith) x h)
 content_type-view (V.Object (Object' t n s ps)) x h = cc
 content_type-view _ x h = cc
 

@@ -4,6 +4,7 @@ use Rattle.std.specs.List.{All}
 use Rattle.std.proofs.lemmas.List.Elements.{All-nil}
 use Rattle.spa_format.specs.Pod.{IsPod}
 use Rattle.spa_format.specs.Tree.{Tree, object, Properties, no_properties, property, join_properties}
+use Rattle.spa_format.proofs.Sequences.{join_properties-assoc}
 use Rattle.spa_keyed_objects.specs.Keys.{AtKey, offered_at}
 use Rattle.spa_keyed_objects.proofs.Holding.{HoldsAtKeys-none}
 use Rattle.spa_keyed_objects.proofs.Lookups.{offered_at-joined}
@@ -18,7 +19,6 @@ use Rattle.spa_object_view.specs.Fronts.{BeginBoth, IsObject}
 use Rattle.spa_object_view.specs.Meeting.{AreOfOneType, IsRefusedNext, Meets, MeetsTooLarge}
 use Rattle.spa_object_view.specs.Written.{AreApartAtFirst}
 use Rattle.spa_object_view.proofs.Both.{never_both, other_first, other_second}
-use Rattle.spa_object_view.proofs.Joined.{join_properties-assoc}
 use Rattle.spa_object_view.proofs.Rules.{all_agree, both, holds_by, never_one_type}
 use Rattle.spa_filter_pods.specs.Fronts.{AreFrontsRefused, FilterTooLarge, FiltersAt, OnNoFilter}
 

@@ -1,6 +1,6 @@
 -- Steps of the reader of arrays.
-use Rattle.std.proofs.Common.{◌≡◌, ℕ, suc, zero, ◌*◌, ◌-◌, ◌/◌, ◌%◌, ◌<◌, ◌≤◌, List, [], ◌∷◌}
-use Rattle.std.proofs.Common.{length, refl, arith}
+use Rattle.std.proofs.Common.{◌≡◌, ℕ, suc, zero, ◌*◌, ◌-◌, ◌/◌, ◌%◌, ◌<◌, ◌≤◌, List}
+use Rattle.std.proofs.Common.{length, arith}
 use Rattle.spa_fixed_sized.specs.Reading.{AreWhole}
 
 whole_parts : (n s : ℕ) → n % s ≡ 0 → n ≡ n / s * s
@@ -12,7 +12,3 @@ whole_of s b e = record { many = length b / s; count = whole_parts (length b) s 
 pub one_less : (m s l : ℕ) → l ≡ m * s → s ≤ l → 0 < s → l - s ≡ (m - 1) * s
 one_less zero s l e h p = absurd (omega arith)
 one_less (suc m) s l e h p = grind arith
-
-pub nothing : (b : List ℕ) → length b ≡ 0 → b ≡ []
-nothing [] e = refl
-nothing (x ∷ b) e = absurd (omega arith)

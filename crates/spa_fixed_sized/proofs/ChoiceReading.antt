@@ -1,9 +1,9 @@
 -- Steps of the reader of choices.
-use Rattle.std.proofs.Common.{◌≡◌, ℕ, suc, zero, ◌+◌, ◌*◌, ◌-◌, ◌<◌, ◌≤◌, List, [], ◌∷◌, length}
+use Rattle.std.proofs.Common.{◌≡◌, ℕ, ◌+◌, ◌*◌, ◌-◌, ◌<◌, ◌≤◌, List, [], ◌∷◌, length}
 use Rattle.std.proofs.Common.{take, drop, map, refl, sym, ap, ◌∙◌, subst, arith, length-drop}
-use Rattle.std.proofs.lemmas.List.{length-take-le, drop-drop}
+use Rattle.std.proofs.lemmas.List.{drop-drop}
 use Rattle.spa_format.specs.Words.{word_at}
-use Rattle.spa_format.specs.Kind.{Kind, type_number, body_size, Fixed, content, IsFixedBody}
+use Rattle.spa_format.specs.Kind.{Kind, type_number, body_size, Fixed, IsFixedBody}
 use Rattle.spa_format.specs.Tree.{Shape, none_choice, range_choice, step_choice, enum_choice}
 use Rattle.spa_format.specs.Tree.{flags_choice, shape_number}
 use Rattle.spa_format.specs.Normal.{kept_flags}
@@ -19,7 +19,7 @@ use Rattle.spa_fixed_sized.specs.declared.fault.Refusal.TheVariants.{InvalidChoi
 use Rattle.spa_fixed_sized.specs.declared.fault.Refusal.TheVariants.{MissingChoiceValues, WrongSize}
 use Rattle.spa_fixed_sized.specs.declared.fault.Refusal.TheVariants.{OutOfMemory}
 use Rattle.spa_fixed_sized.specs.Reading.{AreWhole, IsOpened, ReadsAs, RefusesValues, RefusesChoice}
-use Rattle.spa_fixed_sized.proofs.Arrays.{one_less, nothing}
+use Rattle.spa_fixed_sized.proofs.Arrays.{one_less}
 
 pub array_type : (b array : List ℕ) (n : ℕ) → array ≡ drop 8 b → word_at b 12 ≡ n →
     word_at array 4 ≡ n
@@ -84,25 +84,6 @@ before k s x xs b after z p h e r = (
   subst (λ n. IsFixedBody k (take n b) x) z h,
   subst (λ n. AreElements k xs (drop n b)) z (subst (AreElements k xs) e r),
 )
-
--- whole elements say some values
-surplus : (k : Kind) (m : ℕ) (b : List ℕ) → 0 < body_size k → length b ≡ m * body_size k →
-    (xs : List Fixed) × AreElements k xs b
-surplus k zero b p e = ([], nothing b (e ∙ omega arith))
-surplus k (suc m) b p e =
-    let l : body_size k ≤ length b = grind arith in
-    let d = length-drop (body_size k) b in
-    let r =
-    surplus k m (drop (body_size k) b) p (let q : length
-    (drop (body_size k) b) ≡ m * body_size k = grind arith in q) in (
-      content k (take (body_size k) b) ∷ r.0,
-      (p, record { whole = length-take-le (body_size k) b l; says = refl }, r.1),
-    )
-
-pub left_over : (k : Kind) (s : ℕ) (b : List ℕ) → s ≡ body_size k → 0 < s → AreWhole s b →
-    (xs : List Fixed) × AreElements k xs b
-left_over k s b z p w =
-    surplus k w.many b (subst (λ n. 0 < n) z p) (w.count ∙ ap (λ n. w.many * n) z)
 
 chosen : (h : Shape) (f : ℕ) (k : Kind) (x : Fixed) (xs all : List Fixed) (elements b : List ℕ) →
     IsOpened k elements b → word_at b 0 ≡ shape_number h → f ≡ kept_flags h (word_at b 4) →

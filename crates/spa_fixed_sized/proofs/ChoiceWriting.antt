@@ -6,10 +6,9 @@ use Rattle.spa_format.specs.Words.{word_bytes, padding}
 use Rattle.spa_format.specs.Kind.{Kind, type_number, body_size, Fixed, kind_of}
 use Rattle.spa_format.specs.Tree.{choice_type}
 use Rattle.spa_format.specs.Encoding.{fixed_bodies, array_body, encoded_pod}
-use Rattle.spa_format.proofs.WordLemmas.{length-word_bytes}
 use Rattle.spa_format.proofs.Elements.{array_length, fixed_bodies-append}
+use Rattle.spa_format.proofs.Encodings.{two_words_length, length-behind_two}
 use Rattle.spa_fixed_sized.specs.Choices.{choice_body}
-use Rattle.spa_fixed_sized.proofs.Pods.{length-two_words}
 use Rattle.spa_fixed_sized.proofs.ElementWriting.{bodies_length}
 
 -- how long the body is
@@ -18,12 +17,7 @@ pub length-choice_body : {A : Type 0} {B : Type 0} (shape flags : ℕ) (k : Kind
     ((v : B) → kind_of (f v) ≡ k) → s ≡ body_size k →
     length (choice_body shape flags k (map e xs ++ map f ys)) ≡ 16 + length xs * s + length ys * s
 length-choice_body shape flags k e f s xs ys t u z =
-    let l0 =
-    length-append (word_bytes shape) (word_bytes flags ++ array_body k (map e xs ++ map f ys))
-    in
-    let l1 = length-append (word_bytes flags) (array_body k (map e xs ++ map f ys)) in
-    let l2 = length-word_bytes shape in
-    let l3 = length-word_bytes flags in
+    let l0 = length-behind_two shape flags (array_body k (map e xs ++ map f ys)) in
     let l4 = array_length k (map e xs ++ map f ys) in
     let l5 =
     ap length (fixed_bodies-append (map e xs) (map f ys)) ∙ length-append
@@ -69,9 +63,9 @@ choice_encoding k xs ys pod choice child bodies start n shape flags s t m e b p 
     let l2 =
     length-append (word_bytes n ++ word_bytes choice_type)
     (word_bytes shape ++ word_bytes flags) in
-    let l3 = length-two_words n choice_type in
-    let l4 = length-two_words shape flags in
-    let l5 = length-two_words (body_size k) (type_number k) in
+    let l3 = two_words_length n choice_type in
+    let l4 = two_words_length shape flags in
+    let l5 = two_words_length (body_size k) (type_number k) in
     let l : length head ≡ 24 = omega arith in
     let first : take (24 + m) start ≡ head ++ fixed_bodies xs =
     ap (take (24 + m)) e ∙ ap (λ i. take (i + m) (head ++ bodies)) (sym l) ∙ take-append-add
@@ -109,10 +103,7 @@ pub length-choice : {T : Type 0} (shape flags : ℕ) (k : Kind) (f : T → Fixed
     ((v : T) → kind_of (f v) ≡ k) → s ≡ body_size k →
     length (choice_body shape flags k (map f vs)) ≡ 16 + length vs * s
 length-choice shape flags k f s vs t z =
-    let l0 = length-append (word_bytes shape) (word_bytes flags ++ array_body k (map f vs)) in
-    let l1 = length-append (word_bytes flags) (array_body k (map f vs)) in
-    let l2 = length-word_bytes shape in
-    let l3 = length-word_bytes flags in
+    let l0 = length-behind_two shape flags (array_body k (map f vs)) in
     let l4 = array_length k (map f vs) in
     let l5 = bodies_length k f s vs t z in
     omega arith

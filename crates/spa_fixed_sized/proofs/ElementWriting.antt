@@ -2,7 +2,7 @@
 use Rattle.std.proofs.Common.{◌≡◌, ℕ, ◌+◌, ◌*◌, ◌<◌, ◌≤◌, List, [], ◌∷◌, ◌++◌, length, take, drop}
 use Rattle.std.proofs.Common.{map, get_or, refl, sym, ap, ◌∙◌, subst, arith, append_assoc}
 use Rattle.std.proofs.Common.{length-append, take-append-drop}
-use Rattle.std.proofs.lemmas.List.{map-append, take_more}
+use Rattle.std.proofs.lemmas.List.{map-append, take_more, nil_from_length}
 use Rattle.spa_format.specs.Kind.{Kind, body_size, Fixed, none, bool, id, int, long, float, double}
 use Rattle.spa_format.specs.Kind.{rectangle, fraction, fd, kind_of, fixed_body}
 use Rattle.spa_format.specs.Encoding.{fixed_bodies}
@@ -163,13 +163,9 @@ pub units_are : {T : Type 0} (k : Kind) (f : T → Fixed) (vs : List T) →
 units_are k f [] t z = tt
 units_are k f (v ∷ vs) t z = (t v, units_typed (f v) (ap body_size (t v) ∙ z), units_are k f vs t z)
 
-empty : (b : List ℕ) → length b ≡ 0 → b ≡ []
-empty [] e = refl
-empty (x ∷ b) e = absurd (omega arith)
-
 pub units_unsent : {S : Type 0} {T : Type 0} {appends : S → List ℕ → S → Type 0} (k : Kind)
     (f : T → Fixed) (vs : List T) (s : S) → ((v : T) → kind_of (f v) ≡ k) → body_size k ≡ 0 →
     Sent appends s (fixed_bodies (map f vs)) s
 units_unsent k f vs s t z =
     let l = bodies_length k f 0 vs t (sym z) in
-    none_sent (empty (fixed_bodies (map f vs)) (l ∙ omega arith)) refl
+    none_sent (nil_from_length (fixed_bodies (map f vs)) (l ∙ omega arith)) refl

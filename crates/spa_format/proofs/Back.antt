@@ -16,6 +16,7 @@ use Rattle.spa_format.proofs.Fronts.{front_of_whole}
 use Rattle.spa_format.proofs.FixedKinds.{number_is, size_fits, fixed_back, length-fixed_body}
 use Rattle.spa_format.proofs.Elements.{array_back}
 use Rattle.spa_format.proofs.Choices.{choice_back, pointer_back, pointer_length}
+use Rattle.spa_format.proofs.Encodings.{length-behind_two, two_words_length}
 
 -- an encoded pod is whole
 pub whole_frame : (t : ℕ) (b : List ℕ) (P : List ℕ → Type 0) → t < 2 ^ 32 → length b < 2 ^ 32 → P b → IsWhole (encoded_pod t b) t P
@@ -75,14 +76,12 @@ mutual
   back_body (struct vs) h n l = back_members vs h n (λ t. l (inr t))
   back_body (object t i ps) h n l =
       let b = encoded_body (object t i ps) in
-      let e0 = length-append (word_bytes t) (word_bytes i ++ property_encodings ps) in
-      let e1 = length-append (word_bytes i) (property_encodings ps) in
-      let e2 = length-word_bytes t in
-      let e3 = length-word_bytes i in
+      let e0 = length-behind_two t i (property_encodings ps) in
+      let e1 = length-word_bytes t in
       let w0 : word_at b 0 ≡ t = word_inside [] (word_bytes i ++ property_encodings ps) t 0 refl h.0 in
-      let w1 : word_at b 4 ≡ i = word_inside (word_bytes t) (property_encodings ps) i 4 e2 h.1 in
+      let w1 : word_at b 4 ≡ i = word_inside (word_bytes t) (property_encodings ps) i 4 e1 h.1 in
       let d : drop 8 b ≡ property_encodings ps =
-      ap (drop 8) (sym (append_assoc (word_bytes t) (word_bytes i) (property_encodings ps))) ∙ drop_at (word_bytes t ++ word_bytes i) (property_encodings ps) 8 (length-append (word_bytes t) (word_bytes i) ∙ omega arith) in
+      ap (drop 8) (sym (append_assoc (word_bytes t) (word_bytes i) (property_encodings ps))) ∙ drop_at (word_bytes t ++ word_bytes i) (property_encodings ps) 8 (two_words_length t i) in
       ((let le : 8 ≤ length b = omega arith in le), sym w0, sym w1, subst (AreProperties (normal_properties ps)) (sym d) (back_props ps h.2 n (λ x. l (inr x))))
 
   pub back_members : (vs : Trees) → AllTyped vs → ¬ (SomeHasNul vs) → ¬ (SomeTooLarge vs) → AreMembers (normal_members vs) (member_encodings vs)
@@ -105,13 +104,11 @@ mutual
       let t = encoded_pod (type_of v) (encoded_body v) in
       let more = t ++ property_encodings ps in
       let b = property_encodings (property k f v ps) in
-      let e0 = length-append (word_bytes k) (word_bytes f ++ more) in
-      let e1 = length-append (word_bytes f) more in
-      let e2 = length-word_bytes k in
-      let e3 = length-word_bytes f in
+      let e0 = length-behind_two k f more in
+      let e1 = length-word_bytes k in
       let w0 : word_at b 0 ≡ k = word_inside [] (word_bytes f ++ more) k 0 refl h.0 in
-      let w1 : word_at b 4 ≡ f = word_inside (word_bytes k) more f 4 e2 h.1 in
-      let d : drop 8 b ≡ more = ap (drop 8) (sym (append_assoc (word_bytes k) (word_bytes f) more)) ∙ drop_at (word_bytes k ++ word_bytes f) more 8 (length-append (word_bytes k) (word_bytes f) ∙ omega arith) in (
+      let w1 : word_at b 4 ≡ f = word_inside (word_bytes k) more f 4 e1 h.1 in
+      let d : drop 8 b ≡ more = ap (drop 8) (sym (append_assoc (word_bytes k) (word_bytes f) more)) ∙ drop_at (word_bytes k ++ word_bytes f) more 8 (two_words_length k f) in (
         (let le : 8 ≤ length b = omega arith in le),
         sym w0,
         sym w1,

@@ -1,6 +1,6 @@
 -- The bodies of choices and of pointers.
 use Rattle.std.proofs.Common.{◌≡◌, ℕ, ◌+◌, ◌<◌, ◌≤◌, ◌^◌, inr, ⊎_elim, List, [], ◌∷◌, ◌++◌, length, drop, refl, sym, ap, ◌∙◌, subst, arith, length-append, length-drop, length-take, append_assoc}
-use Rattle.std.proofs.lemmas.List.{drop_at, take_all}
+use Rattle.std.proofs.lemmas.List.{drop_at, take_all, nil_from_length}
 use Rattle.spa_format.specs.Words.{word_at, word_bytes, wide_at, wide_bytes}
 use Rattle.spa_format.specs.Kind.{Kind, body_size, Fixed, fixed_body}
 use Rattle.spa_format.specs.Tree.{Shape, none_choice, range_choice, step_choice, enum_choice, flags_choice, shape_number, choice, pointer}
@@ -8,8 +8,10 @@ use Rattle.spa_format.specs.Normal.{kept_flags}
 use Rattle.spa_format.specs.Pod.{IsArray, least_count, values_taken, IsChoice, IsPointer}
 use Rattle.spa_format.specs.Encoding.{fixed_bodies, array_body, encoded_body}
 use Rattle.spa_format.specs.Typed.{IsBytes, AreOf, IsCount}
-use Rattle.spa_format.proofs.WordLemmas.{length-word_bytes, length-wide_bytes, word_inside, wide_last, word_fits, wide_fits, IsBytes-drop}
+use Rattle.spa_format.proofs.WordLemmas.{length-word_bytes, word_inside, wide_last, word_fits, wide_fits, IsBytes-drop}
 use Rattle.spa_format.proofs.Elements.{same_array, same_array_length, array_length, array_back, typed_array, kept_of_sized, fewer_bodies, AreOf-take}
+use Rattle.spa_format.proofs.Encodings.{length-behind_two}
+pub use Rattle.spa_format.proofs.Encodings.{length-pointer as pointer_length}
 
 pub same_shape : (s t : Shape) → shape_number s ≡ shape_number t → s ≡ t
 same_shape none_choice none_choice e = refl
@@ -64,12 +66,8 @@ count_of_taken enum_choice xs h = tt
 count_of_taken flags_choice xs h = tt
 
 -- and all of a list that is as long as that.
-nothing : (xs : List Fixed) → length xs ≡ 0 → xs ≡ []
-nothing [] e = refl
-nothing (x ∷ xs) e = absurd (omega arith)
-
 all_taken : (s : Shape) (xs : List Fixed) → IsCount s (length xs) → xs ≡ values_taken s xs
-all_taken none_choice xs h = nothing xs h
+all_taken none_choice xs h = nil_from_length xs h
 all_taken range_choice xs h = sym (take_all 2 xs (omega arith))
 all_taken step_choice xs h = sym (take_all 3 xs (omega arith))
 all_taken enum_choice xs h = refl
@@ -94,17 +92,9 @@ same_choice s t f g k l x y xs ys b h i =
     let e7 = i.first in
     cc
 
-choice_length : (s : Shape) (f : ℕ) (c : List ℕ) → length (word_bytes (shape_number s) ++ (word_bytes f ++ c)) ≡ 8 + length c
-choice_length s f c =
-    let e0 = length-append (word_bytes (shape_number s)) (word_bytes f ++ c) in
-    let e1 = length-append (word_bytes f) c in
-    let e2 = length-word_bytes (shape_number s) in
-    let e3 = length-word_bytes f in
-    omega arith
-
 pub short_choice : (s : Shape) (f : ℕ) (k : Kind) (x : Fixed) (xs : List Fixed) (b : List ℕ) → IsChoice s f k x xs b → length (encoded_body (choice s f k x xs)) ≤ length b
 short_choice s f k x xs b h =
-    let e0 = choice_length s f (array_body k (x ∷ xs)) in
+    let e0 = length-behind_two (shape_number s) f (array_body k (x ∷ xs)) in
     let e1 = array_length k (x ∷ xs) in
     let e2 = array_length k (x ∷ h.all) in
     let e3 = same_array_length k (x ∷ h.all) (drop 8 b) h.values in
@@ -121,7 +111,7 @@ choice_back s f k x xs lf lk h n =
     let m = word_bytes (shape_number s) in
     let e2 = length-word_bytes (shape_number s) in
     let e3 = length-word_bytes f in
-    let l = choice_length s f a in
+    let l = length-behind_two (shape_number s) f a in
     let w : word_at (m ++ (word_bytes f ++ a)) 4 ≡ f = word_inside m a f 4 e2 lf in
     let d : drop 8 (m ++ (word_bytes f ++ a)) ≡ a = ap (drop 8) (sym (append_assoc m (word_bytes f) a)) ∙ drop_at (m ++ word_bytes f) a 8 (length-append m (word_bytes f) ∙ omega arith) in
     let v : IsArray k (x ∷ xs) a = subst (λ ys. IsArray k ys a) (kept_of_sized k (x ∷ xs) lk) (array_back k (x ∷ xs) h) in
@@ -158,15 +148,6 @@ same_pointer t u a c b h i =
     (λ m. ⊎_elim (λ n. absurd (let p = m.0 in let q = n.0 in omega arith)) (λ n. m.1 ∙ sym n.1) i.1)
     h.1 in
     cc
-
-pub pointer_length : (t a : ℕ) → length (encoded_body (pointer t a)) ≡ 16
-pointer_length t a =
-    let e0 = length-append (word_bytes t) (word_bytes 0 ++ wide_bytes a) in
-    let e1 = length-append (word_bytes 0) (wide_bytes a) in
-    let e2 = length-word_bytes t in
-    let e3 = length-word_bytes 0 in
-    let e4 = length-wide_bytes a in
-    omega arith
 
 -- a pointer's body has 12 or 16 bytes, which pads to 16
 pub pointer_size : (t a : ℕ) (b : List ℕ) → IsPointer t a b → (12 ≤ length b) × (length b ≤ 16)

@@ -1,6 +1,6 @@
 -- Bodies of one kind one after another.
 use Rattle.std.proofs.Common.{◌≡◌, ℕ, ◌+◌, ◌*◌, ◌<◌, ◌≤◌, ◌^◌, List, [], ◌∷◌, ◌++◌, length, take, drop, refl, sym, ap, ◌∙◌, subst, arith, length-append, length-drop, length-take, append_assoc}
-use Rattle.std.proofs.lemmas.List.{append-nil, take_at, drop_at, take-append-drop, take_all, take-append-le, drop-append-le}
+use Rattle.std.proofs.lemmas.List.{append-nil, take_at, drop_at, take-append-drop, take_all, take-append-le, drop-append-le, nil_from_length}
 use Rattle.std.proofs.Common.{drop_of_length-le}
 use Rattle.spa_format.specs.Words.{word_bytes}
 use Rattle.spa_format.specs.Kind.{Kind, none_kind, bool_kind, id_kind, int_kind, long_kind, float_kind, double_kind, rectangle_kind, fraction_kind, fd_kind, type_number, body_size, Fixed, IsFixedBody, fixed_body}
@@ -10,6 +10,7 @@ use Rattle.spa_format.specs.Encoding.{fixed_bodies, array_body}
 use Rattle.spa_format.specs.Typed.{IsBytes, AreOf}
 use Rattle.spa_format.proofs.WordLemmas.{length-word_bytes, word_inside, IsBytes-take, IsBytes-drop}
 use Rattle.spa_format.proofs.FixedKinds.{same_kind, number_is, size_fits, kind_of_body, same_fixed, fixed_back, typed_fixed, fixed_length, length-fixed_body}
+use Rattle.spa_format.proofs.Encodings.{length-behind_two}
 
 -- a sized body is not at the end
 not_at_end : (k : Kind) (x : Fixed) (b : List ℕ) → b ≡ [] → 0 < body_size k → ¬ (IsFixedBody k (take (body_size k) b) x)
@@ -86,15 +87,11 @@ sized_back k (x ∷ xs) l h =
       subst (AreElements k xs) (sym (drop_at (fixed_body x) (fixed_bodies xs) (body_size k) e)) (sized_back k xs l h.2),
     )
 
-nothing : (b : List ℕ) → length b ≡ 0 → b ≡ []
-nothing [] e = refl
-nothing (x ∷ b) e = absurd (omega arith)
-
 units_back : (xs : List Fixed) → AreOf none_kind xs → fixed_bodies xs ≡ []
 units_back [] h = refl
 units_back (x ∷ xs) h =
     let e : length (fixed_body x) ≡ 0 = length-fixed_body x ∙ ap body_size h.0 in
-    ap (λ l. l ++ fixed_bodies xs) (nothing (fixed_body x) e) ∙ units_back xs h.2
+    ap (λ l. l ++ fixed_bodies xs) (nil_from_length (fixed_body x) e) ∙ units_back xs h.2
 
 pub elements_back : (k : Kind) (xs : List Fixed) → AreOf k xs → AreElements k (kept_elements k xs) (fixed_bodies xs)
 elements_back none_kind xs h = units_back xs h
@@ -139,12 +136,7 @@ same_array k l xs ys b h i =
     (e, same_elements k xs ys (drop 8 b) h.elements (subst (λ j. AreElements j ys (drop 8 b)) (sym e) i.elements))
 
 pub array_length : (k : Kind) (xs : List Fixed) → length (array_body k xs) ≡ 8 + length (fixed_bodies xs)
-array_length k xs =
-    let e0 = length-append (word_bytes (body_size k)) (word_bytes (type_number k) ++ fixed_bodies xs) in
-    let e1 = length-append (word_bytes (type_number k)) (fixed_bodies xs) in
-    let e2 = length-word_bytes (body_size k) in
-    let e3 = length-word_bytes (type_number k) in
-    omega arith
+array_length k xs = length-behind_two (body_size k) (type_number k) (fixed_bodies xs)
 
 pub same_array_length : (k : Kind) (xs : List Fixed) (b : List ℕ) → IsArray k xs b → length (array_body k xs) ≡ length b
 same_array_length k xs b h =

@@ -2,32 +2,37 @@
 use Rattle.std.proofs.Common.{◌≡◌, ℕ, ◌+◌, ◌-◌, ◌≤◌, List, ◌++◌, length, refl, sym, ap, ◌∙◌, arith, append_assoc, length-append}
 use Rattle.std.proofs.lemmas.List.{append-nil, length-replicate}
 use Rattle.std.specs.Int.{w32, to_le_bytes}
-use Rattle.spa_format.specs.Words.{header_size, padded_size, padding, word_bytes, wide_bytes}
+use Rattle.spa_format.specs.Words.{extent, header_size, padded_size, padding, word_bytes, wide_bytes}
 use Rattle.spa_format.specs.Encoding.{encoded_body, encoding_of, encoded_pod, member_encodings, property_encodings}
-use Rattle.spa_format.specs.Tree.{Tree, Trees, Properties, no_trees, member, no_properties, property, type_of, pointer, pointer_type}
+use Rattle.spa_format.specs.Tree.{Tree, Trees, Properties, no_trees, member, no_properties, property, type_of, object, pointer, pointer_type, join_members, join_properties}
+use Rattle.spa_format.proofs.WordLemmas.{length-wide_bytes}
+pub use Rattle.spa_format.proofs.WordLemmas.{length-word_bytes}
 
-pub length-word_bytes : (n : ℕ) → length (word_bytes n) ≡ 4
-unfolding word_bytes
-length-word_bytes n = refl
+-- two words before others
+pub length-behind_two : (a b : ℕ) (c : List ℕ) → length (word_bytes a ++ (word_bytes b ++ c)) ≡ header_size + length c
+length-behind_two a b c =
+    let e0 = length-append (word_bytes a) (word_bytes b ++ c) in
+    let e1 = length-append (word_bytes b) c in
+    let e2 = length-word_bytes a in
+    let e3 = length-word_bytes b in
+    omega arith
 
-pub length-wide_bytes : (n : ℕ) → length (wide_bytes n) ≡ 8
-unfolding wide_bytes
-length-wide_bytes n = refl
+pub two_words_length : (m n : ℕ) → length (word_bytes m ++ word_bytes n) ≡ 8
+two_words_length m n =
+    length-append (word_bytes m) (word_bytes n)
+    ∙ (let e = length-word_bytes m in let f = length-word_bytes n in omega arith)
 
 pub length-padding : (size : ℕ) → length (padding size) ≡ padded_size size - size
 length-padding size = length-replicate (padded_size size - size) 0
 
 -- a header, then the body, rounded up
 pub length-encoded_pod : (type : ℕ) (body : List ℕ) →
-    length (encoded_pod type body) ≡ header_size + padded_size (length body)
+    length (encoded_pod type body) ≡ extent (length body)
 length-encoded_pod type body =
     let n = length body in
-    let e0 = length-append (word_bytes n) (word_bytes type ++ (body ++ padding n)) in
-    let e1 = length-append (word_bytes type) (body ++ padding n) in
-    let e2 = length-append body (padding n) in
-    let e3 = length-padding n in
-    let e4 = length-word_bytes n in
-    let e5 = length-word_bytes type in
+    let e0 = length-behind_two n type (body ++ padding n) in
+    let e1 = length-append body (padding n) in
+    let e2 = length-padding n in
     let up : n ≤ padded_size n = omega arith in
     omega arith
 
@@ -39,19 +44,8 @@ body_within type body = omega (arith, length-encoded_pod type body)
 pub header_within : (type : ℕ) (body : List ℕ) → header_size ≤ length (encoded_pod type body)
 header_within type body = omega (arith, body_within type body)
 
-pub two_words_length : (m n : ℕ) → length (word_bytes m ++ word_bytes n) ≡ 8
-two_words_length m n =
-    length-append (word_bytes m) (word_bytes n)
-    ∙ (let e = length-word_bytes m in let f = length-word_bytes n in omega arith)
-
-length-pointer : (t a : ℕ) → length (word_bytes t ++ (word_bytes 0 ++ wide_bytes a)) ≡ 16
-length-pointer t a =
-    let e0 = length-append (word_bytes t) (word_bytes 0 ++ wide_bytes a) in
-    let e1 = length-append (word_bytes 0) (wide_bytes a) in
-    let e2 = length-word_bytes t in
-    let e3 = length-word_bytes 0 in
-    let e4 = length-wide_bytes a in
-    omega arith
+pub length-pointer : (t a : ℕ) → length (word_bytes t ++ (word_bytes 0 ++ wide_bytes a)) ≡ 16
+length-pointer t a = omega (arith, length-behind_two t 0 (wide_bytes a), length-wide_bytes a)
 
 -- the encoding of a pointer, as it is appended
 pub pointer_encoding : (t a : ℕ) →
@@ -112,3 +106,25 @@ whole_properties (property k f v ps) =
     let here = whole_encoding (type_of v) (encoded_body v) in
     let there = whole_properties ps in
     omega arith
+
+pub length-object : (t i : ℕ) (ps : Properties) →
+    length (encoded_body (object t i ps)) ≡ header_size + length (property_encodings ps)
+length-object t i ps = length-behind_two t i (property_encodings ps)
+
+-- Two lists behind one another.
+
+pub member_encodings-join : (vs ws : Trees) →
+    member_encodings (join_members vs ws) ≡ member_encodings vs ++ member_encodings ws
+member_encodings-join no_trees ws = refl
+member_encodings-join (member v vs) ws =
+    ap (λ l. encoding_of v ++ l) (member_encodings-join vs ws)
+    ∙ sym (append_assoc (encoding_of v) (member_encodings vs) (member_encodings ws))
+
+pub property_encodings-join : (ps qs : Properties) →
+    property_encodings (join_properties ps qs) ≡ property_encodings ps ++ property_encodings qs
+property_encodings-join no_properties qs = refl
+property_encodings-join (property k f v ps) qs =
+    property_encoding k f v (join_properties ps qs)
+    ∙ ap (λ l. (key_words k f ++ encoding_of v) ++ l) (property_encodings-join ps qs)
+    ∙ sym (append_assoc (key_words k f ++ encoding_of v) (property_encodings ps) (property_encodings qs))
+    ∙ ap (λ l. l ++ property_encodings qs) (sym (property_encoding k f v ps))

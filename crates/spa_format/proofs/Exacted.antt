@@ -1,6 +1,6 @@
 -- For what bytes convey there is a pod that is no longer than they are, and so the encoding is one.
 use Rattle.std.proofs.Common.{◌≡◌, ℕ, ◌-◌, ◌<◌, ◌≤◌, ◌^◌, ⊎_elim, List, [], ◌∷◌, ◌++◌, length, take, drop, refl, sym, ap, ◌∙◌, subst, arith, length-append, length-drop, length-take}
-use Rattle.spa_format.specs.Words.{word_at, word_bytes, extent, padded_size, body_of}
+use Rattle.spa_format.specs.Words.{word_at, extent, padded_size, body_of}
 use Rattle.spa_format.specs.Tree.{Shape, none_choice, Tree, fixed, string, bytes, bitmap, array, choice, pointer, struct, object, Trees, no_trees, member, Properties, no_properties, property, type_of}
 use Rattle.std.proofs.lemmas.List.{drop_at}
 use Rattle.spa_format.specs.Kind.{Kind, Fixed, fixed_body}
@@ -9,7 +9,7 @@ use Rattle.spa_format.specs.Typed.{IsBytes, AreOf, IsTyped, AllTyped, AllPropert
 use Rattle.spa_format.specs.Writable.{IsWritable}
 use Rattle.spa_format.specs.Encoding.{encoding_of, encoded_body, array_body, encoded_pod}
 use Rattle.spa_format.specs.Lenient.{HasChild, HasFixedChild, ConveysChoice, ConveysBody, ConveyMembers, ConveyProperties, Conveys}
-use Rattle.spa_format.proofs.WordLemmas.{length-word_bytes, word_at-append, word_at-take, word_fits, IsBytes-drop}
+use Rattle.spa_format.proofs.WordLemmas.{word_at-append, word_at-take, word_fits, IsBytes-drop}
 use Rattle.spa_format.proofs.FixedKinds.{kind_of_body, typed_fixed, fixed_length}
 use Rattle.spa_format.proofs.Elements.{array_length}
 use Rattle.spa_format.proofs.Choices.{choice_back}
@@ -17,6 +17,7 @@ use Rattle.spa_format.proofs.Short.{length-encoded_pod, shortest, without_nul, n
 use Rattle.spa_format.proofs.Back.{whole_frame, type_fits, encoding_is_pod}
 use Rattle.spa_format.proofs.Origin.{IsBytes-body_of, IsBytes-first, IsBytes-others, normal, typed_body}
 use Rattle.spa_format.proofs.Conveyed.{by_shape}
+use Rattle.spa_format.proofs.Encodings.{length-behind_two}
 
 -- a body of the value that is no longer than these bytes; and the value is typed
 record HasExact (v : Tree) (b : List ℕ) : Type 0 where
@@ -64,15 +65,13 @@ bytes_of_child t child b f h = subst IsBytes (sym h.body) (IsBytes-body_of (drop
 none_choice_exact : (k : Kind) (x : Fixed) (b : List ℕ) → IsBytes b → HasFixedChild k x b → HasExact (choice none_choice 0 k x []) b
 none_choice_exact k x b f h =
     let of_kind : AreOf k (x ∷ []) = (kind_of_body k h.child x h.says, typed_fixed k h.child x (bytes_of_child _ h.child b f h.there) h.says, tt) in
-    let e0 = length-append (word_bytes 0) (word_bytes 0 ++ array_body k (x ∷ [])) in
-    let e1 = length-append (word_bytes 0) (array_body k (x ∷ [])) in
-    let e2 = array_length k (x ∷ []) in
-    let e3 = length-append (fixed_body x) [] in
-    let e4 = length-word_bytes 0 in
-    let e5 = fixed_length k h.child x h.says in
-    let e6 = length_of_child _ h.child b h.there in
-    let e7 = e6.0 in
-    let e8 = e6.1 in
+    let e0 = length-behind_two 0 0 (array_body k (x ∷ [])) in
+    let e1 = array_length k (x ∷ []) in
+    let e2 = length-append (fixed_body x) [] in
+    let e3 = fixed_length k h.child x h.says in
+    let e4 = length_of_child _ h.child b h.there in
+    let e5 = e4.0 in
+    let e6 = e4.1 in
     record {
       body = encoded_body (choice none_choice 0 k x []);
       says = choice_back none_choice 0 k x [] (omega arith) h.sized of_kind refl;

@@ -1,7 +1,7 @@
 -- Fixation of accepted properties: pods of the values after fixation.
 use Rattle.std.proofs.Common.{◌≡◌, ◌≢◌, ℕ, ◌+◌, ◌-◌, ◌≤◌, List, [], ◌∷◌, ◌++◌, length, take, drop, refl, sym, ap, ap₂, ◌∙◌, subst, arith, length-append, length-drop, true, false}
 use Rattle.std.specs.Prelude.{if◌then◌else◌, nat_le, nat_eq, Bool, ◌&&◌, ◌||◌, not}
-use Rattle.std.proofs.Math.Bool.{and-true}
+use Rattle.std.proofs.Math.Bool.{and-true, and-false}
 use Rattle.std.proofs.lemmas.Bool.{le-leb, ne_eqb}
 use Rattle.std.proofs.lemmas.List.{drop_at, take_at, append_assoc, length-take-le, drop-drop, drop-take}
 use Rattle.spa_format.specs.Words.{word_at, word_bytes, extent, body_of}
@@ -14,6 +14,7 @@ use Rattle.spa_format.proofs.FixedKinds.{number_is}
 use Rattle.spa_format.proofs.WordLemmas.{word_at-append, word_at-take, word_at-drop, word_inside, length-word_bytes}
 use Rattle.spa_format.proofs.FixationLemmas.{length-none_choice_pod, fixated_properties-next, fixated_properties-end}
 use Rattle.spa_format.proofs.WalkedMembers.{property_parts}
+use Rattle.spa_format.proofs.Short.{length_of_body}
 
 -- what stays in a choice's pod, and what changes
 record IsNoneOf (b z : List ℕ) : Type 0 where
@@ -45,14 +46,11 @@ behind_header b m e =
     ∙ drop-take 8 m (drop 8 b)
     ∙ ap (take m) (drop-drop 8 8 b ∙ sym (drop-drop 4 12 b))
 
-length-whole_body : (b : List ℕ) (t : ℕ) (P : List ℕ → Type 0) → IsWhole b t P → length (body_of b) ≡ word_at b 0
-length-whole_body b t P w = let x = w.whole in let d = length-drop 8 b in length-take-le (word_at b 0) (drop 8 b) (omega arith)
-
 -- a choice's pod has room for its header
 choice_size : (s : Shape) (f : ℕ) (k : Kind) (x : Fixed) (xs : List Fixed) (b : List ℕ) →
     IsWhole b 19 (IsChoice s f k x xs) → 16 ≤ word_at b 0
 choice_size s f k x xs b w =
-    let l = length-whole_body b _ _ w in
+    let l = length_of_body b _ _ w in
     let h = w.content.header in
     let v = w.content.values.header in
     let d = length-drop 8 (body_of b) in
@@ -115,10 +113,6 @@ choose false a p h first z v w ea ep pw pv = (first, ep, pv)
 same_choice : (t : Bool) (v : Tree) → (if t then v else v) ≡ v
 same_choice true v = refl
 same_choice false v = refl
-
-and-false : (x : Bool) → (x && false) ≡ false
-and-false true = refl
-and-false false = refl
 
 other_fixated : (v : Tree) (h first : List ℕ) → length h ≡ 8 → IsPod first v → type_of v ≢ 19 →
     IsFixatedTo h first v v

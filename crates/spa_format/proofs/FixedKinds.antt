@@ -1,5 +1,5 @@
 -- The kinds that have a fixed size: each fact once, for all of them.
-use Rattle.std.proofs.Common.{◌≡◌, ℕ, ◌<◌, ◌^◌, ◌⊎◌, inl, inr, List, ◌++◌, length, Bool, true, false, refl, sym, ap, ◌∙◌, subst, arith, length-append}
+use Rattle.std.proofs.Common.{◌≡◌, ℕ, ◌<◌, ◌^◌, ◌⊎◌, inl, inr, List, ◌++◌, length, Bool, true, false, refl, sym, ap, ◌∙◌, subst, arith}
 use Rattle.std.proofs.lemmas.Int.{to_z-of_z, ints}
 use Rattle.std.specs.Prelude.{if◌then◌else◌, ℤ, nat_lt, FitsSigned}
 use Rattle.std.specs.Int.{w32, w64, cast_unsigned, cast_signed}
@@ -8,6 +8,7 @@ use Rattle.spa_format.specs.Words.{word_at, word_bytes, wide_at, wide_bytes}
 use Rattle.spa_format.specs.Kind.{Kind, none_kind, bool_kind, id_kind, int_kind, long_kind, float_kind, double_kind, rectangle_kind, fraction_kind, fd_kind, type_number, body_size, Fixed, none, bool, id, int, long, float, double, rectangle, fraction, fd, kind_of, content, IsFixedBody, fixed_body}
 use Rattle.spa_format.specs.Typed.{IsBytes, IsTypedFixed}
 use Rattle.spa_format.proofs.WordLemmas.{length-word_bytes, length-wide_bytes, word_at-word_bytes, wide_at-word_bytes, word_last, word_at-append, word_fits, wide_fits}
+use Rattle.spa_format.proofs.Encodings.{two_words_length}
 
 -- no two kinds have one number
 pub same_kind : (k l : Kind) → type_number k ≡ type_number l → k ≡ l
@@ -48,9 +49,6 @@ kind_of_content rectangle_kind b = refl
 kind_of_content fraction_kind b = refl
 kind_of_content fd_kind b = refl
 
-two_words : (m n : ℕ) → length (word_bytes m ++ word_bytes n) ≡ 8
-two_words m n = let e = length-append (word_bytes m) (word_bytes n) in let f = length-word_bytes m in let g = length-word_bytes n in omega arith
-
 pub length-fixed_body : (x : Fixed) → length (fixed_body x) ≡ body_size (kind_of x)
 length-fixed_body none = refl
 length-fixed_body (bool x) = length-word_bytes (if x then 1 else 0)
@@ -59,8 +57,8 @@ length-fixed_body (int x) = length-word_bytes (cast_unsigned w32 x)
 length-fixed_body (long x) = length-wide_bytes (cast_unsigned w64 x)
 length-fixed_body (float x) = length-word_bytes x
 length-fixed_body (double x) = length-wide_bytes x
-length-fixed_body (rectangle w h) = two_words w h
-length-fixed_body (fraction n d) = two_words n d
+length-fixed_body (rectangle w h) = two_words_length w h
+length-fixed_body (fraction n d) = two_words_length n d
 length-fixed_body (fd x) = length-wide_bytes (cast_unsigned w64 x)
 
 bool_back : (x : Bool) → x ≡ nat_lt 0 (word_at (word_bytes (if x then 1 else 0)) 0)

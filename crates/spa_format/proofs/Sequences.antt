@@ -9,6 +9,19 @@ use Rattle.spa_format.proofs.Unique.{same_body}
 use Rattle.spa_format.proofs.WordLemmas.{word_at-append}
 use Rattle.std.proofs.lemmas.List.{drop-append-le}
 
+pub join_members-none : (vs : Trees) → join_members vs no_trees ≡ vs
+join_members-none no_trees = refl
+join_members-none (member v vs) = ap (member v) (join_members-none vs)
+
+pub join_properties-none : (ps : Properties) → join_properties ps no_properties ≡ ps
+join_properties-none no_properties = refl
+join_properties-none (property k f v ps) = ap (property k f v) (join_properties-none ps)
+
+pub join_properties-assoc : (ps qs rs : Properties) →
+    join_properties (join_properties ps qs) rs ≡ join_properties ps (join_properties qs rs)
+join_properties-assoc no_properties qs rs = refl
+join_properties-assoc (property k f v ps) qs rs = ap (property k f v) (join_properties-assoc ps qs rs)
+
 pub members_joined : (vs ws : Trees) (b c : List ℕ) → AreMembers vs b → AreMembers ws c → AreMembers (join_members vs ws) (b ++ c)
 members_joined no_trees ws b c h k = subst (λ l. AreMembers ws (l ++ c)) (sym h) k
 members_joined (member v vs) ws b c h k =

@@ -1,7 +1,7 @@
 -- A value's shape, from its type number.
-use Rattle.std.proofs.Common.{◌≡◌, ◌≢◌, ℕ, refl, sym, arith, List}
+use Rattle.std.proofs.Common.{◌≡◌, ◌≢◌, ◌<◌, ◌≤◌, ◌∙◌, ℕ, inl, inr, refl, sym, ap, arith, List}
 use Rattle.spa_format.specs.Kind.{Kind, type_number, Fixed, kind_of}
-use Rattle.spa_format.specs.Tree.{Shape, Tree, fixed, string, bytes, bitmap, array, choice, pointer, struct, object, Trees, Properties, type_of}
+use Rattle.spa_format.specs.Tree.{Shape, Tree, fixed, string, bytes, bitmap, array, choice, pointer, struct, object, Trees, Properties, type_of, node_count}
 use Rattle.spa_format.proofs.FixedKinds.{same_kind, number_is}
 
 -- numbers of no kind that has a fixed size
@@ -79,3 +79,25 @@ fixed_only (choice s f l x xs) k e = absurd (other_19 k (sym e))
 fixed_only (pointer t a) k e = absurd (other_17 k (sym e))
 fixed_only (struct vs) k e = absurd (other_14 k (sym e))
 fixed_only (object t i ps) k e = absurd (other_15 k (sym e))
+
+-- a value has one pod at least
+pub some_node : (v : Tree) → 1 ≤ node_count v
+some_node (fixed x) = omega arith
+some_node (string s) = omega arith
+some_node (bytes s) = omega arith
+some_node (bitmap s) = omega arith
+some_node (array k xs) = omega arith
+some_node (choice s f k x xs) = omega arith
+some_node (pointer t a) = omega arith
+some_node (struct vs) = omega arith
+some_node (object t i ps) = omega arith
+
+-- a type number past those of fixed size
+pub not_fixed : (v : Tree) (n : ℕ) → type_of v ≡ n → 11 < n → n ≢ 18 → (x : Fixed) → v ≢ fixed x
+not_fixed v n t a b x e =
+    let u : type_of v ≡ type_number (kind_of x) = ap type_of e in
+    elim (number_is (kind_of x)) [
+      | inl l ↦ (let m = l.1 in omega arith)
+      | inr (inl l) ↦ (let m = l.1 in omega arith)
+      | inr (inr r) ↦ b (sym t ∙ u ∙ r)
+    ]

@@ -1,37 +1,22 @@
 -- No pod of a value is shorter than the value's encoding, and a value that bytes spell can be written.
-use Rattle.std.proofs.Common.{◌≡◌, ℕ, ◌-◌, ◌<◌, ◌≤◌, ◌^◌, ⊎_elim, List, [], ◌∷◌, ◌++◌, length, drop, sym, ap, ◌∙◌, subst, arith, length-append, length-drop, length-take}
-use Rattle.std.proofs.lemmas.List.{length-replicate}
-use Rattle.spa_format.specs.Words.{word_at, word_bytes, extent, padded_size, padding, body_of}
+use Rattle.std.proofs.Common.{◌≡◌, ℕ, ◌<◌, ◌≤◌, ◌^◌, ⊎_elim, List, [], ◌∷◌, ◌++◌, length, drop, sym, ap, ◌∙◌, subst, arith, length-append, length-drop, length-take}
+use Rattle.spa_format.specs.Words.{word_at, padded_size, body_of}
 use Rattle.spa_format.specs.Tree.{Tree, fixed, string, bytes, bitmap, array, choice, pointer, struct, object, Trees, no_trees, member, Properties, no_properties, property, type_of}
 use Rattle.spa_format.specs.Kind.{kind_of, fixed_body}
 use Rattle.spa_format.specs.Pod.{IsWhole, IsBody, AreMembers, AreProperties, IsPod}
 use Rattle.spa_format.specs.Encoding.{encoded_pod, encoded_body, member_encodings, property_encodings, encoding_of}
 use Rattle.spa_format.specs.Writable.{HasNul, SomeHasNul, SomeValueHasNul, IsTooLarge, SomeTooLarge, SomeValueTooLarge}
-use Rattle.spa_format.proofs.WordLemmas.{length-word_bytes}
 use Rattle.spa_format.proofs.FixedKinds.{fixed_length}
 use Rattle.spa_format.proofs.Elements.{same_array_length}
 use Rattle.spa_format.proofs.Choices.{short_choice, pointer_length, pointer_size}
-
-pub length-padding : (s : ℕ) → length (padding s) ≡ padded_size s - s
-length-padding s = length-replicate (padded_size s - s) 0
+pub use Rattle.spa_format.proofs.Encodings.{length-encoded_pod}
+use Rattle.spa_format.proofs.Encodings.{length-object, length-property_encoding}
 
 pub padded_above : (s : ℕ) → s ≤ padded_size s
 padded_above s = omega arith
 
 pub padded_mono : (s t : ℕ) → s ≤ t → padded_size s ≤ padded_size t
 padded_mono s t h = omega arith
-
-pub length-encoded_pod : (t : ℕ) (b : List ℕ) → length (encoded_pod t b) ≡ extent (length b)
-length-encoded_pod t b =
-    let n = length b in
-    let e0 = length-append (word_bytes n) (word_bytes t ++ (b ++ padding n)) in
-    let e1 = length-append (word_bytes t) (b ++ padding n) in
-    let e2 = length-append b (padding n) in
-    let e3 = length-padding n in
-    let e4 = length-word_bytes n in
-    let e5 = length-word_bytes t in
-    let up = padded_above n in
-    omega arith
 
 -- the body of whole bytes is as long as the size word says
 pub length_of_body : (b : List ℕ) (t : ℕ) (P : List ℕ → Type 0) → IsWhole b t P → length (body_of b) ≡ word_at b 0
@@ -53,11 +38,8 @@ short_frame first t u P c h le =
 
 short_object : (t i : ℕ) (ps : Properties) (b : List ℕ) → 8 ≤ length b → length (property_encodings ps) ≤ length (drop 8 b) → length (encoded_body (object t i ps)) ≤ length b
 short_object t i ps b l le =
-    let e0 = length-append (word_bytes t) (word_bytes i ++ property_encodings ps) in
-    let e1 = length-append (word_bytes i) (property_encodings ps) in
-    let e2 = length-word_bytes t in
-    let e3 = length-word_bytes i in
-    let e4 = length-drop 8 b in
+    let e0 = length-object t i ps in
+    let e1 = length-drop 8 b in
     omega arith
 
 -- a pointer's body may be shorter than its encoding's, but is padded to as much
@@ -92,15 +74,10 @@ mutual
   short_props (property k f v ps) b h =
       let here = short_frame h.3 (type_of v) (type_of v) (IsBody v) (encoded_body v) h.6 (short_body v (body_of h.3) h.6.content) in
       let there = short_props ps h.4 h.7 in
-      let t = encoded_pod (type_of v) (encoded_body v) in
-      let e0 = length-append (word_bytes k) (word_bytes f ++ (t ++ property_encodings ps)) in
-      let e1 = length-append (word_bytes f) (t ++ property_encodings ps) in
-      let e2 = length-append t (property_encodings ps) in
-      let e3 = length-word_bytes k in
-      let e4 = length-word_bytes f in
-      let e5 = ap length h.5 in
-      let e6 = length-append h.3 h.4 in
-      let e7 = length-drop 8 b in
+      let e0 = length-property_encoding k f v ps in
+      let e1 = ap length h.5 in
+      let e2 = length-append h.3 h.4 in
+      let e3 = length-drop 8 b in
       let l = h.0 in
       omega arith
 

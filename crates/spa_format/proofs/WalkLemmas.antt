@@ -23,7 +23,7 @@ length-drop_extent b h =
     let l = length-drop 8 b in
     rw e (omega arith)
 
-walk_at_most-there : (n k : ℕ) (b : List ℕ) → extent_behind k b ≤ length b →
+pub walk_at_most-there : (n k : ℕ) (b : List ℕ) → extent_behind k b ≤ length b →
     walk_at_most (suc n) k b ≡ take (extent_behind k b) b ∷ walk_at_most n k (drop (extent_behind k b) b)
 walk_at_most-there n k b h =
     let e = le-leb (extent_behind k b) (length b) h in

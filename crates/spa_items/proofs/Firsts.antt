@@ -1,25 +1,19 @@
 -- The first pod of those that stand one after another, opened.
-use Rattle.std.proofs.Common.{◌≡◌, ℕ, ◌+◌, ◌-◌, ◌≤◌, List, length, take, drop, refl, sym, ap, ◌∙◌, arith, length-drop, length-take}
+use Rattle.std.proofs.Common.{◌≡◌, ℕ, ◌+◌, ◌-◌, ◌≤◌, List, length, drop, refl, sym, ap, ◌∙◌, arith, length-drop, length-take}
 use Rattle.std.specs.Prelude.{Bool, true, false, if◌then◌else◌}
-use Rattle.std.proofs.lemmas.List.{drop-drop, drop-take, take-take}
+use Rattle.std.proofs.lemmas.List.{drop-drop}
 use Rattle.spa_events.specs.Inside.{OpensFirst, key_size}
 use Rattle.spa_events.proofs.Firsts.{behind_word, pod_behind}
 use Rattle.spa_format.specs.Front.{front_of}
 use Rattle.spa_format.specs.Walk.{extent_behind}
 use Rattle.spa_format.specs.Words.{body_of, extent, padded_size, word_at}
 use Rattle.spa_format.proofs.WordLemmas.{word_at-take}
+use Rattle.spa_format.proofs.Fronts.{body_of_front}
 use Rattle.spa_items.specs.Puts.{IsFirst, first_of}
 use Rattle.spa_items.specs.declared.listing.First.{First}
 
 front_word : (b : List ℕ) (i : ℕ) → i ≤ 4 → word_at (front_of b) i ≡ word_at b i
 front_word b i h = word_at-take (extent (word_at b 0)) i b (omega arith)
-
-front_body : (b : List ℕ) → body_of (front_of b) ≡ body_of b
-front_body b =
-    let n = word_at b 0 in
-    ap (λ s. take s (drop 8 (front_of b))) (front_word b 0 (omega arith))
-    ∙ ap (take n) (drop-take 8 (padded_size n) b)
-    ∙ take-take n (padded_size n) (drop 8 b) (omega arith)
 
 key_word : (keyed : Bool) (b : List ℕ) (i : ℕ) → i ≤ 4 → (if keyed then word_at b i else 0) ≡ (if keyed then word_at (first_of keyed b) i else 0)
 key_word false b i h = refl
@@ -44,7 +38,7 @@ stands_first keyed b f i ek ef =
       its_key = ek ∙ key_word keyed b 0 (omega arith);
       its_flags = ef ∙ key_word keyed b 4 (omega arith);
       its_type = o.its_type ∙ sym (front_word (drop k b) 4 (omega arith)) ∙ ap (λ q. word_at q 4) (sym (pod_behind k b));
-      its_body = o.its_body ∙ sym (front_body (drop k b)) ∙ ap body_of (sym (pod_behind k b));
+      its_body = o.its_body ∙ sym (body_of_front (drop k b)) ∙ ap body_of (sym (pod_behind k b));
       its_rest = o.its_rest ∙ ap (λ n. drop (extent n) (drop k b)) z ∙ drop-drop (extent (word_at b k)) k b;
       fits = omega arith;
     }

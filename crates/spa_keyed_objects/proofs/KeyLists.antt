@@ -4,6 +4,7 @@ use Rattle.std.specs.List.{filter}
 use Rattle.std.specs.Cmp.{unsigned_Decides}
 use Rattle.std.proofs.lemmas.List.{append-nil}
 use Rattle.std.proofs.lemmas.List.Elements.{filter-append}
+use Rattle.std.proofs.lemmas.Bool.{eqb-true}
 use Rattle.spa_format.specs.Tree.{Tree, Properties, no_properties, property, join_properties}
 use Rattle.spa_keyed_objects.specs.Keys.{key_list, distinct_of, contains}
 
@@ -15,12 +16,9 @@ without j ks = filter (λ i. not (i == j)) ks
 pub test-self : (n : ℕ) → (n == n) ≡ true
 test-self n = (unsigned_Decides n n).1 refl
 
-pub test-true : (m n : ℕ) → (m == n) ≡ true → m ≡ n
-test-true m n = (unsigned_Decides m n).0
-
 test-flipped_by : (m n : ℕ) (b : Bool) → (n == m) ≡ b → (m == n) ≡ false → (n == m) ≡ false
 test-flipped_by m n true e h =
-    absurd (true≢false (sym (test-self n) ∙ ap (λ x. x == n) (test-true n m e) ∙ h))
+    absurd (true≢false (sym (test-self n) ∙ ap (λ x. x == n) (eqb-true n m e) ∙ h))
 test-flipped_by m n false e h = e
 
 test-flipped : (m n : ℕ) → (m == n) ≡ false → (n == m) ≡ false
@@ -61,7 +59,7 @@ distinct_of-seen_by : (j k : ℕ) (ks : List ℕ) (b c : Bool) → (j == k) ≡ 
     without j (distinct_of (ks ++ k ∷ [])) ≡ without j (distinct_of ks)
 distinct_of-seen_by j k ks b true e f h more = ap (without j) (more f)
 distinct_of-seen_by j k ks true false e f h more =
-    let none = ap (λ n. without n (k ∷ [])) (test-true j k e) ∙ without-same k [] in
+    let none = ap (λ n. without n (k ∷ [])) (eqb-true j k e) ∙ without-same k [] in
     ap (without j) (distinct_of-new k ks f) ∙ without-append j (distinct_of ks) (k ∷ [])
     ∙ ap (λ js. without j (distinct_of ks) ++ js) none ∙ append-nil (without j (distinct_of ks))
 distinct_of-seen_by j k ks false false e f h more = absurd (true≢false (sym h))

@@ -1,30 +1,14 @@
 -- A set of keys, as one more property is looked at.
-use Rattle.std.proofs.Common.{◌≡◌, ℕ, ◌==◌, Bool, true, false, not, if◌then◌else◌, true≢false, refl, sym, ap, ◌∙◌}
+use Rattle.std.proofs.Common.{◌≡◌, ℕ, ◌==◌, Bool, true, false, if◌then◌else◌, sym, ap, ◌∙◌}
+use Rattle.std.proofs.lemmas.Bool.{not-false, not-true}
 use Rattle.std.specs.BTreeSet.{BTreeSet}
-use Rattle.spa_format.specs.Tree.{Properties, no_properties, property, join_properties}
+use Rattle.spa_format.specs.Tree.{Properties, join_properties}
 use Rattle.spa_value.specs.declared.object.Property.{Property}
 use Rattle.spa_value.specs.View.{view}
 use Rattle.spa_value.specs.Views.{property_view}
 use Rattle.spa_keyed_objects.specs.Keys.{key_list, contains}
 use Rattle.spa_keyed_objects.specs.PropertyLists.{HasKeys, IsAdded}
 use Rattle.spa_keyed_objects.proofs.KeyLists.{contains-key_list}
-
-pub join_properties-none : (ps : Properties) → join_properties ps no_properties ≡ ps
-join_properties-none no_properties = refl
-join_properties-none (property k f v ps) = ap (property k f v) (join_properties-none ps)
-
-pub join_properties-assoc : (ps qs rs : Properties) →
-    join_properties (join_properties ps qs) rs ≡ join_properties ps (join_properties qs rs)
-join_properties-assoc no_properties qs rs = refl
-join_properties-assoc (property k f v ps) qs rs = ap (property k f v) (join_properties-assoc ps qs rs)
-
-not-false : (b : Bool) → not b ≡ false → b ≡ true
-not-false true h = refl
-not-false false h = absurd (true≢false h)
-
-not-true : (b : Bool) → not b ≡ true → b ≡ false
-not-true true h = absurd (true≢false (sym h))
-not-true false h = refl
 
 -- the set has the keys of the properties before p, and p's key is added to it, in which it is new or not
 module _ (p : Property) (old new : BTreeSet ℕ) (is_new : Bool) (added : IsAdded old p.key is_new new)

@@ -11,11 +11,11 @@ use Rattle.spa_format.specs.Front.{HasFront, front_of}
 use Rattle.spa_format.specs.Lenient.{ConveyMembers}
 use Rattle.spa_format.proofs.Conveyed.{pod_conveys}
 use Rattle.spa_format.proofs.Fronts.{front_and_rest, front_of_whole}
+use Rattle.spa_format.proofs.Encodings.{member_encodings-join}
 use Rattle.spa_bodies.specs.Reading.{OnFault}
 use Rattle.spa_read.specs.Reading.{ConveysNothing}
 use Rattle.spa_read.proofs.Conveying.{members_joined, none_behind}
 use Rattle.spa_canonical.specs.Rewriting.{AreRewritten, IsLeft}
-use Rattle.spa_write.proofs.MemberLists.{member_encodings_join}
 use Rattle.spa_lenient.specs.Rewriting.{AppendsFirst, AppendsFront, AreRewrittenLeniently, IsLeftLeniently, RefusesFront, RefusesList}
 
 -- pods convey their values
@@ -43,7 +43,7 @@ further input left rest old now new before vs h e m w = record {
   parts = h.parts ∙ ap (λ l. h.first ++ l) e ∙ sym (append_assoc h.first before rest);
   convey = members_joined h.values vs h.first before h.convey m;
   written = w ∙ ap (λ l. l ++ member_encodings vs) h.written ∙ append_assoc old (member_encodings h.values) (member_encodings vs)
-      ∙ ap (λ l. old ++ l) (sym (member_encodings_join h.values vs));
+      ∙ ap (λ l. old ++ l) (sym (member_encodings-join h.values vs));
 }
 
 -- those that are pods

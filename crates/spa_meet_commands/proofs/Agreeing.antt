@@ -1,12 +1,11 @@
 -- Two inputs that agree or are refused, and an input that consists of two.
-use Rattle.std.proofs.Common.{◌≡◌, ℕ, List, [], append-nil, refl, subst, sym, inl, inr, arith, length, length-drop}
+use Rattle.std.proofs.Common.{◌≡◌, ℕ, List, [], refl, sym, inl, inr, arith, length, length-drop}
 use Rattle.std.proofs.lemmas.Bool.{cases_lt}
 use Rattle.std.proofs.lemmas.List.{nil_from_length}
 use Rattle.spa_format.specs.Words.{extent, word_at}
-use Rattle.spa_format.specs.Front.{Begins, HasFront, rest_of}
-use Rattle.spa_format.specs.Pod.{IsBody, IsPod}
-use Rattle.spa_format.proofs.Fronts.{front_of_whole}
-use Rattle.spa_format.specs.Tree.{Tree, type_of, object, fixed, string, bytes, bitmap, array, choice, pointer, struct}
+use Rattle.spa_format.specs.Front.{HasFront, rest_of}
+use Rattle.spa_format.specs.Pod.{IsPod}
+use Rattle.spa_format.specs.Tree.{Tree, object, fixed, string, bytes, bitmap, array, choice, pointer, struct}
 use Rattle.spa_filter.specs.Filtering.{CanFilter, IsFilter}
 use Rattle.spa_filter.specs.declared.error.FilterError.{FilterError}
 use Rattle.spa_filter.specs.declared.error.FilterError.TheVariants.{TypeMismatch, Missing, Unsupported, Disjoint, Unread, NotObject, TooLarge, OutOfMemory}
@@ -76,9 +75,3 @@ nothing_behind b absent =
       | inl short ↦ sym (nil_from_length (rest_of b) (omega (arith, d, short)))
       | inr long ↦ absurd (absent (record { header = omega (arith, long); whole = long }))
     ]
-
--- a pod begins with itself
-pub pod_begins : (pod : List ℕ) (v : Tree) → IsPod pod v → Begins pod v
-pod_begins pod v h =
-    let its = front_of_whole pod pod [] (type_of v) (IsBody v) (sym (append-nil pod)) h in
-    record { there = its.0; pod = subst (λ z. IsPod z v) its.1 h }

@@ -1,14 +1,14 @@
 -- Objects made plain can be written where the objects can, and are no longer.
-use Rattle.std.proofs.Common.{◌≡◌, ◌≤◌, ℕ, ◌+◌, List, ◌∷◌, ◌++◌, Bool, true, false, arith, length, length-append, inl, inr}
+use Rattle.std.proofs.Common.{◌≤◌, ℕ, List, ◌∷◌, Bool, true, false, arith, length, length-append, inl, inr}
 use Rattle.std.specs.Prelude.{if◌then◌else◌}
 use Rattle.spa_format.specs.Encoding.{array_body, encoded_body, encoded_pod, encoding_of, fixed_bodies, property_encodings}
 use Rattle.spa_format.specs.Fixation.{may_fixate}
-use Rattle.spa_format.specs.Kind.{Kind, Fixed, body_size, fixed_body, type_number}
+use Rattle.spa_format.specs.Kind.{Kind, Fixed, fixed_body}
 use Rattle.spa_format.specs.Tree.{Shape, Tree, fixed, string, bytes, bitmap, array, choice, pointer, struct, object, Properties, no_properties, property, shape_number, type_of}
-use Rattle.spa_format.specs.Words.{word_bytes}
 use Rattle.spa_format.specs.Writable.{HasNul, IsTooLarge, IsWritable, SomeValueHasNul, SomeValueTooLarge}
 use Rattle.spa_format.proofs.Short.{length-encoded_pod}
-use Rattle.spa_format.proofs.WordLemmas.{length-word_bytes}
+use Rattle.spa_format.proofs.Encodings.{length-property_encoding, length-object, length-behind_two}
+use Rattle.spa_format.proofs.Elements.{array_length}
 use Rattle.spa_filter_offers.specs.Admits.{plain_of}
 use Rattle.spa_meet_commands.specs.Settling.{plain_object, plain_properties}
 
@@ -38,12 +38,10 @@ plain_large (object t i ps) h = h
 
 default_short : (s : Shape) (f : ℕ) (k : Kind) (x : Fixed) (xs : List Fixed) → length (fixed_body x) ≤ length (encoded_body (choice s f k x xs))
 default_short s f k x xs =
-    let e0 = length-append (word_bytes (shape_number s)) (word_bytes f ++ array_body k (x ∷ xs)) in
-    let e1 = length-append (word_bytes f) (array_body k (x ∷ xs)) in
-    let e2 = length-append (word_bytes (body_size k)) (word_bytes (type_number k) ++ fixed_bodies (x ∷ xs)) in
-    let e3 = length-append (word_bytes (type_number k)) (fixed_bodies (x ∷ xs)) in
-    let e4 = length-append (fixed_body x) (fixed_bodies xs) in
-    omega (arith, e0, e1, e2, e3, e4)
+    let e0 = length-behind_two (shape_number s) f (array_body k (x ∷ xs)) in
+    let e1 = array_length k (x ∷ xs) in
+    let e2 = length-append (fixed_body x) (fixed_bodies xs) in
+    omega (arith, e0, e1, e2)
 
 plain_short : (v : Tree) → length (encoded_body (plain_of v)) ≤ length (encoded_body v)
 plain_short (choice s f k x xs) = default_short s f k x xs
@@ -85,32 +83,14 @@ values_large no_properties h = h
 values_large (property k f v ps) (inl h) = inl (chosen_large (may_fixate f) v h)
 values_large (property k f v ps) (inr h) = inr (values_large ps h)
 
-property_length : (k f : ℕ) (v : Tree) (ps : Properties) →
-    length (property_encodings (property k f v ps)) ≡ 8 + length (encoding_of v) + length (property_encodings ps)
-property_length k f v ps =
-    let e0 = length-append (word_bytes k) (word_bytes f ++ (encoding_of v ++ property_encodings ps)) in
-    let e1 = length-append (word_bytes f) (encoding_of v ++ property_encodings ps) in
-    let e2 = length-append (encoding_of v) (property_encodings ps) in
-    let e3 = length-word_bytes k in
-    let e4 = length-word_bytes f in
-    omega (arith, e0, e1, e2, e3, e4)
-
 values_short : (ps : Properties) → length (property_encodings (plain_properties ps)) ≤ length (property_encodings ps)
 values_short no_properties = omega arith
 values_short (property k f v ps) =
-    let e = property_length k f v ps in
-    let d = property_length k f (if may_fixate f then plain_of v else v) (plain_properties ps) in
+    let e = length-property_encoding k f v ps in
+    let d = length-property_encoding k f (if may_fixate f then plain_of v else v) (plain_properties ps) in
     let s = chosen_short (may_fixate f) v in
     let r = values_short ps in
     omega (arith, e, d, s, r)
-
-object_length : (t i : ℕ) (ps : Properties) → length (encoded_body (object t i ps)) ≡ 8 + length (property_encodings ps)
-object_length t i ps =
-    let e0 = length-append (word_bytes t) (word_bytes i ++ property_encodings ps) in
-    let e1 = length-append (word_bytes i) (property_encodings ps) in
-    let e2 = length-word_bytes t in
-    let e3 = length-word_bytes i in
-    omega (arith, e0, e1, e2, e3)
 
 -- ---- Values
 
@@ -127,8 +107,8 @@ object_nul (struct vs) h = h
 
 object_large : (v : Tree) → IsTooLarge (plain_object v) → IsTooLarge v
 object_large (object t i ps) (inl h) =
-    let l = object_length t i ps in
-    let m = object_length t i (plain_properties ps) in
+    let l = length-object t i ps in
+    let m = length-object t i (plain_properties ps) in
     let s = values_short ps in
     inl (omega (arith, h, l, m, s))
 object_large (object t i ps) (inr h) = inr (values_large ps h)

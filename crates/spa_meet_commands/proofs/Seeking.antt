@@ -7,6 +7,7 @@ use Rattle.spa_format.specs.Front.{HasFront, front_of, rest_of}
 use Rattle.spa_format.specs.Walk.{walk}
 use Rattle.spa_format.specs.Fixation.{walk_size}
 use Rattle.spa_format.proofs.WalkLemmas.{walk-end, walk-there}
+use Rattle.spa_format.proofs.Fronts.{pod_begins}
 use Rattle.spa_filter.specs.declared.error.FilterError.{FilterError}
 use Rattle.spa_filter.specs.declared.error.FilterError.TheVariants as cause
 use Rattle.spa_object_view.specs.Fronts.{BeginsObjectOf}
@@ -16,7 +17,6 @@ use Rattle.spa_object_view.proofs.ObjectPods.{begins_object}
 use Rattle.spa_filter_pods.specs.Fronts.{OfViewed}
 use Rattle.spa_meet_commands.specs.Agreeing.{Agree, ArentAgreed}
 use Rattle.spa_meet_commands.specs.Lists.{AgreesWithNone, AreApart, AreOfObjects, AreViewed, FirstGives, FirstPairGives, Gives, IsBehindObjects, IsList, IsOfDisagreement, NoneAgree, OfBoth, OfOne}
-use Rattle.spa_meet_commands.proofs.Agreeing.{pod_begins}
 use Rattle.spa_meet_commands.specs.declared.pair.Work.{Work}
 
 -- the object at the front of an input is that of its front

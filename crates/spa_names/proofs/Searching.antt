@@ -6,7 +6,7 @@ use Rattle.std.specs.Cmp.{IsTotalOrder}
 use Rattle.std.specs.Ordering.{is_lt, is_eq}
 use Rattle.std.specs.declared.cmp.Ordering.{Ordering}
 use Rattle.std.specs.declared.cmp.Ordering.TheVariants.{Less, Equal, Greater}
-use Rattle.std.proofs.lemmas.Bool.{cases_lt}
+use Rattle.std.proofs.lemmas.Bool.{cases_lt, and_parts}
 use Rattle.std.proofs.lemmas.Cmp.{alike_right}
 use Rattle.std.proofs.lemmas.List.Sorted.{searchable_from_sorted}
 
@@ -21,21 +21,17 @@ less_from Less is = refl
 less_from Equal is = search
 less_from Greater is = search
 
-both_from : (a b : Bool) → (a && b) ≡ true → (a ≡ true) × (b ≡ true)
-both_from true b is = (refl, is)
-both_from false b is = search
-
 module _ {X K : Type 0} {R : K → K → Ordering} (o : IsTotalOrder R) (key : X → K) where
   -- the first is below each that follows it
   first_below : (x : X) (xs : List X) → rises R key (x ∷ xs) ≡ true → (i : ℕ) (d : X) → i < length xs → R (key x) (key (get_or xs i d)) ≡ Less
   first_below x [] up i d in_range = absurd (omega (arith, in_range))
-  first_below x (y ∷ ys) up zero d in_range = less_from _ (both_from _ _ up).0
+  first_below x (y ∷ ys) up zero d in_range = less_from _ (and_parts _ _ up).0
   first_below x (y ∷ ys) up (suc i) d in_range =
-      o.trans (key x) (key y) _ (less_from _ (both_from _ _ up).0) (first_below y ys (both_from _ _ up).1 i d (omega (arith, in_range)))
+      o.trans (key x) (key y) _ (less_from _ (and_parts _ _ up).0) (first_below y ys (and_parts _ _ up).1 i d (omega (arith, in_range)))
 
   rest_rises : (x : X) (xs : List X) → rises R key (x ∷ xs) ≡ true → rises R key xs ≡ true
   rest_rises x [] up = refl
-  rest_rises x (y ∷ ys) up = (both_from _ _ up).1
+  rest_rises x (y ∷ ys) up = (and_parts _ _ up).1
 
   -- each key is below those behind it
   below : (xs : List X) → rises R key xs ≡ true → (i j : ℕ) (d : X) → i < j → j < length xs → R (key (get_or xs i d)) (key (get_or xs j d)) ≡ Less

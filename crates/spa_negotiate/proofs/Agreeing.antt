@@ -9,16 +9,12 @@ use Rattle.spa_negotiate.specs.declared.error.NegotiateError.TheVariants.{Unsupp
 use Rattle.spa_negotiate.specs.Admits.{AreSupported, IsCommon, IsPlain, IsSupported, plain_of}
 use Rattle.spa_negotiate.specs.Meeting.{IsMetAt}
 use Rattle.spa_negotiate.specs.Refusals.{IsKeyRefusal, IsValueRefusal}
+use Rattle.spa_filter.proofs.FixedObjects.{IsPlain-plain_of}
 
 -- a plain value is supported
 pub IsSupported-plain : (v : Tree) → IsPlain v → IsSupported v
 IsSupported-plain (choice s f k d vs) h = absurd h
 IsSupported-plain _ h = tt
-
--- a default is plain
-pub IsPlain-plain_of : (v : Tree) → IsPlain (plain_of v)
-IsPlain-plain_of (choice s f k d vs) = tt
-IsPlain-plain_of _ = tt
 
 -- what two values that stand under a key meet in, and why they don't, where `found` is what the other side offers there
 module _ (a b : Offered) (found : Option Offered) (is : found ≡ Some b) where

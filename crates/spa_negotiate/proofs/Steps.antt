@@ -2,6 +2,7 @@
 use Rattle.std.proofs.Common.{◌≡◌, ℕ, ◌+◌, ◌<◌, Bool, true, false, List, length, take, drop, get_or, refl, sym, ap, ◌∙◌, subst, Some}
 use Rattle.std.specs.BTreeSet.{BTreeSet}
 use Rattle.spa_format.specs.Tree.{Tree, Properties, no_properties, property, join_properties}
+use Rattle.spa_format.proofs.Sequences.{join_properties-assoc}
 use Rattle.spa_value.specs.declared.object.Property.{Property}
 use Rattle.spa_value.specs.View.{view}
 use Rattle.spa_value.specs.Views.{property_views, property_view}
@@ -11,13 +12,13 @@ use Rattle.spa_negotiate.specs.declared.negotiation.Settled.{Settled}
 use Rattle.spa_keyed_objects.specs.Keys.{HoldsAtKeys}
 use Rattle.spa_keyed_objects.specs.PropertyLists.{HasKeys, IsAdded, offered_in, offered_by}
 use Rattle.spa_keyed_objects.proofs.Holding.{HoldsAtKeys-seen, HoldsAtKeys-first, HoldsAtKeys-other}
-use Rattle.spa_keyed_objects.proofs.KeySets.{join_properties-assoc, there, absent, more_keys}
+use Rattle.spa_keyed_objects.proofs.KeySets.{there, absent, more_keys}
 use Rattle.spa_negotiate.specs.Admits.{IsPlain, plain_of}
 use Rattle.spa_negotiate.specs.Meeting.{IsMetAt}
 use Rattle.spa_negotiate.specs.PropertyLists.{AreSettled, IsSettled}
 use Rattle.spa_negotiate.specs.Refusals.{IsKeyRefusal, IsRefusal}
-use Rattle.spa_negotiate.proofs.Agreeing.{IsPlain-plain_of}
 use Rattle.spa_negotiate.proofs.Settlements.{IsRefusal-first}
+use Rattle.spa_filter.proofs.FixedObjects.{IsPlain-plain_of}
 
 -- the first side's properties up to the i-th
 abbrev pub firsts : (ours : List Property) → ℕ → Properties

@@ -8,32 +8,16 @@ use Rattle.spa_format.specs.Pod.{AreProperties, IsBody, IsPod, IsWhole}
 use Rattle.spa_format.specs.Encoding.{encoding_of, encoded_pod, property_encodings}
 use Rattle.spa_format.specs.Writable.{IsTooLarge}
 use Rattle.spa_format.proofs.Back.{whole_frame}
-use Rattle.spa_format.proofs.Encodings.{key_words, property_encoding, whole_properties}
+use Rattle.spa_format.proofs.Encodings.{whole_properties, property_encodings-join, length-behind_two, two_words_length}
 use Rattle.spa_format.proofs.Sequences.{props_joined}
 use Rattle.spa_format.proofs.WordLemmas.{length-word_bytes, word_inside}
 use Rattle.spa_object_view.specs.Written.{AreBehind, AreWritten, open_header}
 use Rattle.spa_keyed_objects.specs.CanonicalPods.{IsCanonicalPod}
 
-pub join_properties-none : (ps : Properties) → join_properties ps no_properties ≡ ps
-join_properties-none no_properties = refl
-join_properties-none (property k f v ps) = ap (property k f v) (join_properties-none ps)
-
-pub join_properties-assoc : (ps qs rs : Properties) → join_properties (join_properties ps qs) rs ≡ join_properties ps (join_properties qs rs)
-join_properties-assoc no_properties qs rs = refl
-join_properties-assoc (property k f v ps) qs rs = ap (property k f v) (join_properties-assoc ps qs rs)
-
-encodings_joined : (ps qs : Properties) → property_encodings (join_properties ps qs) ≡ property_encodings ps ++ property_encodings qs
-encodings_joined no_properties qs = refl
-encodings_joined (property k f v ps) qs =
-    property_encoding k f v (join_properties ps qs)
-    ∙ ap (λ l. (key_words k f ++ encoding_of v) ++ l) (encodings_joined ps qs)
-    ∙ sym (append_assoc (key_words k f ++ encoding_of v) (property_encodings ps) (property_encodings qs))
-    ∙ ap (λ l. l ++ property_encodings qs) (sym (property_encoding k f v ps))
-
 pub written_joined : (ps qs : Properties) (b c : List ℕ) → AreWritten ps b → AreWritten qs c → AreWritten (join_properties ps qs) (b ++ c)
 written_joined ps qs b c h k = record {
   properties = props_joined ps qs b c h.properties k.properties;
-  same = ap (λ x. x ++ c) h.same ∙ ap (λ x. property_encodings ps ++ x) k.same ∙ sym (encodings_joined ps qs);
+  same = ap (λ x. x ++ c) h.same ∙ ap (λ x. property_encodings ps ++ x) k.same ∙ sym (property_encodings-join ps qs);
 }
 
 -- one property
@@ -41,11 +25,9 @@ pub written_one : (k f : ℕ) (x : Tree) (pod : List ℕ) → k < 2 ^ 32 → f <
 written_one k f x pod l m w =
     let head = word_bytes k ++ word_bytes f in
     let b = head ++ pod in
-    let e0 = length-append (word_bytes k) (word_bytes f) in
     let e1 = length-word_bytes k in
-    let e2 = length-word_bytes f in
-    let two : length head ≡ 8 = omega arith in
-    let e3 = length-append head pod in
+    let two : length head ≡ 8 = two_words_length k f in
+    let e2 = length-append head pod in
     let parts : b ≡ word_bytes k ++ (word_bytes f ++ pod) = append_assoc (word_bytes k) (word_bytes f) pod in
     let w0 : word_at b 0 ≡ k = ap (λ y. word_at y 0) parts ∙ word_inside [] (word_bytes f ++ pod) k 0 refl l in
     let w4 : word_at b 4 ≡ f = ap (λ y. word_at y 4) parts ∙ word_inside (word_bytes k) pod f 4 e1 m in
@@ -72,14 +54,8 @@ behind_on k f x met pod head old new l m w p h =
 
 header_long : (t i : ℕ) → length (open_header t i) ≡ 16
 header_long t i =
-    let e0 = length-append (word_bytes 0 ++ word_bytes 15) (word_bytes t ++ word_bytes i) in
-    let e1 = length-append (word_bytes 0) (word_bytes 15) in
-    let e2 = length-append (word_bytes t) (word_bytes i) in
-    let e3 = length-word_bytes 0 in
-    let e4 = length-word_bytes 15 in
-    let e5 = length-word_bytes t in
-    let e6 = length-word_bytes i in
-    omega arith
+    let e = length-append (word_bytes 0 ++ word_bytes 15) (word_bytes t ++ word_bytes i) in
+    omega (arith, e, two_words_length 0 15, two_words_length t i)
 
 -- an object behind its header is as it is written
 pub record IsWrittenObject (t i : ℕ) (met : Properties) (b : List ℕ) : Type 0 where
@@ -94,18 +70,16 @@ object_written t i met out b ft fi h f e =
     let w = h.written in
     let body = word_bytes t ++ (word_bytes i ++ property_encodings met) in
     let head = word_bytes t ++ word_bytes i in
-    let e0 = length-append (word_bytes t) (word_bytes i ++ property_encodings met) in
-    let e1 = length-append (word_bytes i) (property_encodings met) in
-    let e2 = length-word_bytes t in
-    let e3 = length-word_bytes i in
-    let e4 = length-append (open_header t i) bytes in
-    let e5 = header_long t i in
-    let e6 = ap length o in
-    let e7 = ap length w.same in
-    let e8 = whole_properties met in
+    let e0 = length-behind_two t i (property_encodings met) in
+    let e1 = length-word_bytes t in
+    let e2 = length-append (open_header t i) bytes in
+    let e3 = header_long t i in
+    let e4 = ap length o in
+    let e5 = ap length w.same in
+    let e6 = whole_properties met in
     let size : length out - 8 ≡ length body = omega arith in
     let none : padded_size (length body) - length body ≡ 0 = omega arith in
-    let two : length head ≡ 8 = length-append (word_bytes t) (word_bytes i) ∙ omega arith in
+    let two : length head ≡ 8 = two_words_length t i in
     let joined : head ++ property_encodings met ≡ body = append_assoc (word_bytes t) (word_bytes i) (property_encodings met) in
     let inside : drop 8 body ≡ property_encodings met = ap (drop 8) (sym joined) ∙ drop_at head (property_encodings met) 8 two in
     let front : open_header t i ++ bytes ≡ word_bytes 0 ++ (word_bytes 15 ++ (head ++ bytes)) =
@@ -117,7 +91,7 @@ object_written t i met out b ft fi h f e =
     let encoding : b ≡ encoded_pod 15 body =
     e ∙ ap (λ y. word_bytes (length out - 8) ++ y) (behind ∙ ap (λ y. word_bytes 15 ++ y) whole) ∙ ap (λ m. word_bytes m ++ (word_bytes 15 ++ (body ++ padding (length body)))) size in
     let w0 : word_at body 0 ≡ t = word_inside [] (word_bytes i ++ property_encodings met) t 0 refl ft in
-    let w4 : word_at body 4 ≡ i = word_inside (word_bytes t) (property_encodings met) i 4 e2 fi in
+    let w4 : word_at body 4 ≡ i = word_inside (word_bytes t) (property_encodings met) i 4 e1 fi in
     let long : 8 ≤ length body = omega arith in
     let fits : length body < 2 ^ 32 = omega arith in
     let list : AreProperties met (drop 8 body) = subst (AreProperties met) (w.same ∙ sym inside) w.properties in
@@ -132,14 +106,11 @@ pub object_large : (t i : ℕ) (met : Properties) (out : List ℕ) → AreBehind
     IsTooLarge (object t i met)
 object_large t i met out h l =
     let body = word_bytes t ++ (word_bytes i ++ property_encodings met) in
-    let e0 = length-append (word_bytes t) (word_bytes i ++ property_encodings met) in
-    let e1 = length-append (word_bytes i) (property_encodings met) in
-    let e2 = length-word_bytes t in
-    let e3 = length-word_bytes i in
-    let e4 = header_long t i in
-    let e5 = length-append (open_header t i) h.bytes in
-    let e6 = ap length h.parts in
-    let e7 = ap length h.written.same in
+    let e0 = length-behind_two t i (property_encodings met) in
+    let e1 = header_long t i in
+    let e2 = length-append (open_header t i) h.bytes in
+    let e3 = ap length h.parts in
+    let e4 = ap length h.written.same in
     let long : 16 ≤ length out = omega arith in
     let past = l long in
     let large : size_limit ≤ length body = omega arith in

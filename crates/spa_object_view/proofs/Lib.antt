@@ -1,4 +1,3 @@
-pub mod Passing
 pub mod Listed
 pub mod KeyOrders
 pub mod Passed

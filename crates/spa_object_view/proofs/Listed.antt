@@ -1,6 +1,7 @@
 -- Borrowed properties, one after another.
-use Rattle.std.proofs.Common.{◌≡◌, ◌≢◌, ℕ, ◌≤◌, List, [], ◌++◌, ◌==◌, length, drop, refl, sym, ap, ◌∙◌, subst, arith, append_assoc, length-append, Bool, true, false, if◌then◌else◌, Some, None}
+use Rattle.std.proofs.Common.{◌≡◌, ◌≢◌, ℕ, ◌≤◌, List, [], ◌++◌, ◌==◌, length, drop, refl, sym, ap, ◌∙◌, subst, arith, append_assoc, Bool, true, false, if◌then◌else◌, Some, None}
 use Rattle.std.proofs.lemmas.List.{drop_at}
+use Rattle.std.proofs.lemmas.Bool.{eqb-true}
 use Rattle.spa_format.specs.Words.{word_at, word_bytes, extent, header_size}
 use Rattle.spa_format.specs.Tree.{Tree, type_of, Properties, no_properties, property}
 use Rattle.spa_format.specs.Pod.{AreProperties, IsBody, IsPod, IsWhole}
@@ -10,7 +11,8 @@ use Rattle.spa_format.specs.Typed.{IsBytes}
 use Rattle.spa_format.proofs.Back.{body_fits, type_fits, whole_frame}
 use Rattle.spa_format.proofs.Fronts.{front_of_whole}
 use Rattle.spa_format.proofs.Origin.{writable}
-use Rattle.spa_format.proofs.WordLemmas.{IsBytes-drop, IsBytes-take, length-word_bytes}
+use Rattle.spa_format.proofs.WordLemmas.{IsBytes-drop, IsBytes-take}
+use Rattle.spa_format.proofs.Encodings.{two_words_length}
 use Rattle.spa_object_view.specs.Written.{AreApart, AreApartAtFirst, AreWritten, HasFirst, IsFound}
 use Rattle.spa_object_view.specs.KeyOrder.{length_behind}
 use Rattle.spa_keyed_objects.specs.Keys.{Offered, offered_at, has_key}
@@ -42,12 +44,8 @@ listed (property key flags v ps) b h m s =
     let w : IsWhole frame (type_of v) (λ c. c ≡ encoded_body v) =
     whole_frame (type_of v) (encoded_body v) (λ c. c ≡ encoded_body v) (type_fits v)
     (body_fits v (writable (front_of behind) v (IsBytes-take (extent (word_at behind 0)) behind bytes) pod).fits) refl in
-    let e0 = length-append (word_bytes key) (word_bytes flags) in
-    let e1 = length-word_bytes key in
-    let e2 = length-word_bytes flags in
-    let two : length (word_bytes key ++ word_bytes flags) ≡ 8 = omega arith in
     let s' : behind ≡ more =
-    ap (drop 8) (s ∙ sym (append_assoc (word_bytes key) (word_bytes flags) more)) ∙ drop_at (word_bytes key ++ word_bytes flags) more 8 two in
+    ap (drop 8) (s ∙ sym (append_assoc (word_bytes key) (word_bytes flags) more)) ∙ drop_at (word_bytes key ++ word_bytes flags) more 8 (two_words_length key flags) in
     let g = front_of_whole behind frame (property_encodings ps) (type_of v) (λ c. c ≡ encoded_body v) s' w in (
       record { header = m.0; key = m.1; flags = m.2; there = f.0; written = record { its_pod = pod; same = sym g.1 } },
       listed ps (rest_of behind) (IsBytes-drop (extent (word_at behind 0)) behind bytes) (subst (AreProperties ps) f.2 m.7) (sym g.2),
@@ -83,12 +81,9 @@ apart_at_first ps qs key flags other_flags pod other f g a = record {
   apart = a f.value g.value f.written g.written;
 }
 
-test-true : (m n : ℕ) → (m == n) ≡ true → m ≡ n
-test-true m n = (unsigned_Decides m n).0
-
 other_key_by : (j key f : ℕ) (v : Tree) (ps : Properties) (b : Bool) → (j == key) ≡ b → j ≢ key →
     (if b then Some (record { flags = f; value = v }) else offered_at key ps) ≡ offered_at key ps
-other_key_by j key f v ps true e n = absurd (n (test-true j key e))
+other_key_by j key f v ps true e n = absurd (n (eqb-true j key e))
 other_key_by j key f v ps false e n = refl
 
 -- what is under another key than the first one
@@ -100,7 +95,7 @@ first_key key f v ps = ap (λ b. if b then Some (record { flags = f; value = v }
 
 other_behind_by : (j key : ℕ) (ps : Properties) (b : List ℕ) (t : Bool) → (j == key) ≡ t → j ≢ key →
     (if t then length (rest_of (drop header_size b)) else length_behind key ps (rest_of (drop header_size b))) ≡ length_behind key ps (rest_of (drop header_size b))
-other_behind_by j key ps b true e n = absurd (n (test-true j key e))
+other_behind_by j key ps b true e n = absurd (n (eqb-true j key e))
 other_behind_by j key ps b false e n = refl
 
 -- what stands behind it, the same

@@ -4,6 +4,7 @@ use Rattle.std.specs.Prelude.{MatchBool}
 use Rattle.spa_format.specs.Words.{size_limit}
 use Rattle.spa_format.specs.Tree.{Tree, object, Properties, no_properties, property, join_properties}
 use Rattle.spa_format.specs.Writable.{IsTooLarge, SomeValueTooLarge}
+use Rattle.spa_format.proofs.Sequences.{join_properties-assoc}
 use Rattle.spa_keyed_objects.specs.Keys.{Offered, offered, offered_at, has_key}
 use Rattle.spa_keyed_objects.proofs.Holding.{HoldsAtKeys-new, HoldsAtKeys-none, HoldsAtKeys-seen, first_lacks, second_offers}
 use Rattle.spa_keyed_objects.proofs.Lookups.{offered_at-absent, offered_at-joined}
@@ -16,7 +17,7 @@ use Rattle.spa_object_view.specs.declared.rule.Stop.{Stop}
 use Rattle.spa_object_view.specs.declared.rule.Stop.TheVariants.{Unread, NotObject, OutOfMemory}
 use Rattle.spa_keyed_objects.specs.declared.side.Side.TheVariants.{First, Second}
 use Rattle.spa_object_view.proofs.Both.{begin_both}
-use Rattle.spa_object_view.proofs.Joined.{behind_none, behind_on, join_properties-assoc, object_large, object_written}
+use Rattle.spa_object_view.proofs.Joined.{behind_none, behind_on, object_large, object_written}
 use Rattle.spa_object_view.proofs.Sides.{IsNext}
 
 -- what was too large stays so behind others, and before them

@@ -1,13 +1,12 @@
 -- The pods of objects at the fronts of inputs.
-use Rattle.std.proofs.Common.{inl, inr, ◌≡◌, ◌≢◌, ℕ, List, refl, sym, ap, ◌∙◌, subst, arith}
-use Rattle.std.proofs.lemmas.List.{take_all}
-use Rattle.spa_format.specs.Words.{word_at, extent}
+use Rattle.std.proofs.Common.{inl, inr, ◌≡◌, ◌≢◌, ℕ, List, refl, sym, ap, ◌∙◌, subst}
+use Rattle.spa_format.specs.Words.{word_at}
 use Rattle.spa_format.specs.Tree.{Tree, object, object_type, type_of}
 use Rattle.spa_format.specs.Pod.{IsPod}
 use Rattle.spa_format.specs.Encoding.{encoding_of}
-use Rattle.spa_format.specs.Front.{Begins, HasFront, IsRefused, front_of, rest_of}
+use Rattle.spa_format.specs.Front.{Begins, IsRefused, front_of, rest_of}
 use Rattle.spa_format.specs.Typed.{IsBytes}
-use Rattle.spa_format.proofs.Fronts.{type_of_front}
+use Rattle.spa_format.proofs.Fronts.{type_of_front, own_front, pod_begins}
 use Rattle.spa_format.proofs.Shapes.{object_only}
 use Rattle.spa_format.proofs.Unique.{one_value}
 use Rattle.spa_bytes.specs.Opening.{Opens}
@@ -34,7 +33,7 @@ use Rattle.spa_object_view.proofs.Opening.{begins_view}
 pub begun_type : (input : List ℕ) (v : Tree) → Begins input v → type_of v ≡ word_at input 4
 begun_type input v b = sym b.pod.its_type ∙ type_of_front input
 
-no_object : (v : Tree) → type_of v ≢ object_type → ¬ (IsObject v)
+pub no_object : (v : Tree) → type_of v ≢ object_type → ¬ (IsObject v)
 no_object (object t i ps) n h = n refl
 no_object _ n h = h
 
@@ -55,18 +54,14 @@ rewritten_object input out r t =
       written = record { its_pod = subst (IsPod out) i.3 r.again; same = r.written ∙ ap encoding_of i.3 };
     }
 
--- a pod is at its own front
-pub pod_there : (pod : List ℕ) (v : Tree) → IsPod pod v → HasFront pod
-pod_there pod v p = let w = p.whole in record { header = omega arith; whole = omega arith }
-
 -- the view of an object's pod, opened
 pub view_inside : (input pod body behind : List ℕ) (type : ℕ) (view : ObjectView) → IsBytes pod → Opens pod type body behind → IsObjectBody body view →
     BeginsObjectIn input pod → BeginsView input view
 view_inside input pod body behind type view h o i b =
     let v = object b.type b.id b.values in
     let p = b.written.its_pod in
-    let whole : front_of pod ≡ pod = take_all (extent (word_at pod 0)) pod (omega (arith, p.whole)) in
-    let begins : Begins pod v = record { there = pod_there pod v p; pod = subst (λ c. IsPod c v) (sym whole) p } in
+    let whole : front_of pod ≡ pod = own_front pod p.whole in
+    let begins : Begins pod v = pod_begins pod v p in
     let canonical : BeginsCanonical pod (rest_of pod) =
     record { value = v; begins = record { begins = begins; follows = refl }; same = whole ∙ b.written.same } in
     let opened = subst (λ n. Opens pod n body behind) (o.its_type ∙ p.its_type) o in

@@ -1,5 +1,5 @@
 -- An object at the front of an input.
-use Rattle.std.proofs.Common.{◌≡◌, ℕ, List, ◌++◌, length, drop, refl, sym, ap, ◌∙◌, subst, arith, append_assoc, length-append}
+use Rattle.std.proofs.Common.{◌≡◌, ℕ, List, ◌++◌, drop, refl, sym, ap, ◌∙◌, subst, append_assoc}
 use Rattle.std.proofs.lemmas.List.{drop_at}
 use Rattle.spa_format.specs.Words.{word_at, word_bytes}
 use Rattle.spa_format.specs.Tree.{object, object_type}
@@ -8,7 +8,7 @@ use Rattle.spa_format.specs.Encoding.{encoded_body, property_encodings}
 use Rattle.spa_format.specs.Front.{Begins}
 use Rattle.spa_format.specs.Typed.{IsBytes}
 use Rattle.spa_format.proofs.Shapes.{object_only}
-use Rattle.spa_format.proofs.WordLemmas.{length-word_bytes}
+use Rattle.spa_format.proofs.Encodings.{two_words_length}
 use Rattle.spa_bytes.specs.Opening.{Opens}
 use Rattle.spa_bodies.proofs.Steps.{pod_read}
 use Rattle.spa_canonical.specs.Canonical.{AreCanonicalProperties, BeginsCanonical}
@@ -26,13 +26,9 @@ begins_written input rest body behind properties type h k o t d =
     let c = m.canonical in
     let i = object_only c.value (c.its_type ∙ t) in
     let b = subst (λ x. IsBody x body) i.3 c.its_body in
-    let e0 = length-append (word_bytes i.0) (word_bytes i.1) in
-    let e1 = length-word_bytes i.0 in
-    let e2 = length-word_bytes i.1 in
-    let two : length (word_bytes i.0 ++ word_bytes i.1) ≡ 8 = omega arith in
     let same : drop 8 body ≡ property_encodings i.2 =
     ap (drop 8) (c.same ∙ ap encoded_body i.3 ∙ sym (append_assoc (word_bytes i.0) (word_bytes i.1) (property_encodings i.2)))
-    ∙ drop_at (word_bytes i.0 ++ word_bytes i.1) (property_encodings i.2) 8 two in
+    ∙ drop_at (word_bytes i.0 ++ word_bytes i.1) (property_encodings i.2) 8 (two_words_length i.0 i.1) in
     let its : k.value ≡ object (word_at body 0) (word_at body 4) i.2 =
     sym m.value ∙ i.3 ∙ ap (λ n. object n i.1 i.2) b.1 ∙ ap (λ n. object (word_at body 0) n i.2) b.2 in
     record {

@@ -4,9 +4,9 @@ use Rattle.spa_format.specs.Words.{header_size}
 use Rattle.spa_format.specs.Tree.{Tree, Properties, no_properties, property, join_properties}
 use Rattle.spa_format.specs.Front.{HasFront, rest_of}
 use Rattle.spa_format.specs.Typed.{IsBytes}
+use Rattle.spa_format.proofs.Sequences.{join_properties-none, join_properties-assoc}
 use Rattle.spa_object_view.specs.Written.{AreWritten, HasFirst}
 use Rattle.spa_object_view.specs.KeyOrder.{AreBelow, ArePassed}
-use Rattle.spa_object_view.proofs.Joined.{join_properties-assoc, join_properties-none}
 use Rattle.spa_object_view.proofs.Listed.{AreListed, listed}
 use Rattle.spa_object_view.proofs.Passed.{below_on, passed_on}
 use Rattle.spa_keyed_objects.specs.CanonicalPods.{IsCanonicalPod}

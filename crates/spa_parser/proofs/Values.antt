@@ -1,5 +1,6 @@
 -- Properties of accepted objects, found by their keys.
 use Rattle.std.proofs.Common.{◌≡◌, ℕ, List, Some, None, drop, sym, ◌∙◌, subst}
+use Rattle.std.proofs.lemmas.Option.{same_Some}
 use Rattle.std.specs.Prelude.{IsSomeAnd}
 use Rattle.spa_format.specs.Words.{header_size}
 use Rattle.spa_format.specs.Tree.{Tree, Properties, object}
@@ -8,9 +9,6 @@ use Rattle.spa_view.specs.Found.{first_value, property_at}
 use Rattle.spa_view.proofs.FoundValues.{finds_value, lacks_value}
 use Rattle.spa_parser.specs.State.{ParserState, start_of}
 use Rattle.spa_parser.specs.Steps.{IsValueOf}
-
-some_same : (p q : List ℕ) → Some p ≡ Some q → p ≡ q
-some_same p q e = cc
 
 some_none : (p : List ℕ) → Some p ≡ None → ⊥
 some_none p e = absurd (cc)
@@ -25,7 +23,7 @@ pub value_is : (key : ℕ) (b p : List ℕ) (type id : ℕ) (ps : Properties) (v
     IsPod (drop header_size p) v
 value_is key b p type id ps v e h g =
     let f = finds_value key b type id ps v h g in
-    let i : f.0 ≡ p = some_same f.0 p (sym f.1 ∙ e) in
+    let i : f.0 ≡ p = same_Some f.0 p (sym f.1 ∙ e) in
     subst (λ q. IsPod (drop header_size q) v) i f.2
 
 pub no_value : (key : ℕ) (b : List ℕ) (type id : ℕ) (ps : Properties) (v : Tree) →

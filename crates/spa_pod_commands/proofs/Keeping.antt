@@ -1,10 +1,11 @@
 -- Known bytes that stay, and then stay or grow.
 use Rattle.std.specs.Io.KnownBytes.{Appends, Keeps}
-use Rattle.std.proofs.Common.{◌≡◌, ◌≤◌, ℕ, ◌+◌, length-append, length-drop, drop, List, [], Option, Some, None, refl, sym, inl, inr, append-nil, arith, take, length, ◌∙◌, ap, subst}
+use Rattle.std.proofs.Common.{◌≡◌, ◌≤◌, ℕ, ◌+◌, length-append, length-drop, drop, List, Option, refl, sym, inl, inr, arith, take, length, ◌∙◌, ap, subst}
 use Rattle.std.specs.Borrow.{Bor}
 use Rattle.std.specs.Prelude.{Result, Ok, Err, OnOk, IfErr, OnErr}
 use Rattle.std.proofs.lemmas.Bool.{cases_lt}
 use Rattle.std.proofs.lemmas.List.{nil_from_length, take_all}
+use Rattle.std.proofs.KnownBytes.{Keeps-refl, Keeps-trans, Appends-kept}
 use Rattle.spa_format.specs.Tree.{Trees}
 use Rattle.spa_format.specs.Pod.{AreMembers}
 use Rattle.spa_bodies.specs.Reading.{OnFault}
@@ -17,26 +18,6 @@ use Rattle.spa_pod_commands.specs.Answers.{Answers, BeginsToWrite, FailsFor, IsC
 use Rattle.spa_pod_commands.specs.declared.answer.Answer.{Answer}
 use Rattle.spa_pod_commands.specs.declared.answer.Failure.{Failure}
 use Rattle.spa_pod_commands.specs.declared.answer.Failure.TheVariants.{Pod, OutOfMemory, ReadFailed, WriteFailed}
-
-pub keeps_first : (a : Option (List ℕ)) → Keeps a a
-keeps_first None = tt
-keeps_first (Some a) = refl
-
-pub keeps_keeps : (a b c : Option (List ℕ)) → Keeps a b → Keeps b c → Keeps a c
-keeps_keeps None b c k l = tt
-keeps_keeps (Some a) None c k l = absurd k
-keeps_keeps (Some a) (Some b) None k l = absurd l
-keeps_keeps (Some a) (Some b) (Some c) k l = l ∙ k
-
-pub appends_keeps : (a b c : Option (List ℕ)) (xs : List ℕ) → Appends a b xs → Keeps b c → Appends a c xs
-appends_keeps None b c xs k l = tt
-appends_keeps (Some a) None c xs k l = absurd k
-appends_keeps (Some a) (Some b) None xs k l = absurd l
-appends_keeps (Some a) (Some b) (Some c) xs k l = l ∙ k
-
-pub appends_nothing : (a : Option (List ℕ)) → Appends a a []
-appends_nothing None = tt
-appends_nothing (Some a) = sym (append-nil a)
 
 -- so many first bytes are followed by something
 pub some_left : (input : List ℕ) (place : ℕ) → IsLeft input (drop place input) → place + length (drop place input) ≡ length input
@@ -102,9 +83,9 @@ unmade_undone Makes remaining old input (Pod place kind) all u = (
     front = u.front;
     its_kind = u.its_kind;
   },
-  keeps_first old,
+  Keeps-refl old,
 )
-unmade_undone Makes remaining old input OutOfMemory all u = keeps_first old
+unmade_undone Makes remaining old input OutOfMemory all u = Keeps-refl old
 unmade_undone Makes remaining old input ReadFailed all u = absurd u
 unmade_undone Makes remaining old input WriteFailed all u = absurd u
 
@@ -116,7 +97,7 @@ writes_kept Makes remaining old mid new w k = record {
   read = w.read;
   out = w.out;
   made = w.made;
-  written = appends_keeps old mid new w.out w.written k;
+  written = Appends-kept old mid new w.out w.written k;
 }
 
 -- and where the output fails then, all that had to be written is there
@@ -128,21 +109,21 @@ writes_begun Makes remaining old mid new w k = record {
   out = w.out;
   made = w.made;
   count = length w.out;
-  written = subst (Appends old new) (sym (take_all (length w.out) w.out (omega arith))) (appends_keeps old mid new w.out w.written k);
+  written = subst (Appends old new) (sym (take_all (length w.out) w.out (omega arith))) (Appends-kept old mid new w.out w.written k);
 }
 
 pub undone_kept : (Makes : List ℕ → List ℕ → Type 0) (remaining old mid new : Option (List ℕ)) (why : Failure) →
     IsUndone Makes remaining old mid why → Keeps mid new → IsUndone Makes remaining old new why
-undone_kept Makes remaining old mid new (Pod p kind) u k = (u.0, keeps_keeps old mid new u.1 k)
-undone_kept Makes remaining old mid new OutOfMemory u k = keeps_keeps old mid new u k
-undone_kept Makes remaining old mid new ReadFailed u k = keeps_keeps old mid new u k
+undone_kept Makes remaining old mid new (Pod p kind) u k = (u.0, Keeps-trans old mid new u.1 k)
+undone_kept Makes remaining old mid new OutOfMemory u k = Keeps-trans old mid new u k
+undone_kept Makes remaining old mid new ReadFailed u k = Keeps-trans old mid new u k
 undone_kept Makes remaining old mid new WriteFailed u k = record {
   input = u.input;
   read = u.read;
   out = u.out;
   made = u.made;
   count = u.count;
-  written = appends_keeps old mid new (take u.count u.out) u.written k;
+  written = Appends-kept old mid new (take u.count u.out) u.written k;
 }
 
 -- the work's answer, once the output is flushed
@@ -157,9 +138,9 @@ answered Makes remaining old mid new (Err why) answer k e w u =
     subst (λ a. OnAnswer a (Writes Makes remaining old new) (IsUndone Makes remaining old new)) (sym e) (undone_kept Makes remaining old mid new why u k)
 
 list_kept : (remaining old mid new : Option (List ℕ)) (why : Failure) → IsNotListed remaining old mid why → Keeps mid new → IsNotListed remaining old new why
-list_kept remaining old mid new (Pod p kind) u k = (u.0, keeps_keeps old mid new u.1 k)
+list_kept remaining old mid new (Pod p kind) u k = (u.0, Keeps-trans old mid new u.1 k)
 list_kept remaining old mid new OutOfMemory u k = tt
-list_kept remaining old mid new ReadFailed u k = keeps_keeps old mid new u k
+list_kept remaining old mid new ReadFailed u k = Keeps-trans old mid new u k
 list_kept remaining old mid new WriteFailed u k = tt
 
 pub answered_list : {T : Type 0} (Makes : List ℕ → List ℕ → Type 0) (remaining old mid new : Option (List ℕ)) (done : Result T Failure) (answer : Answer) →

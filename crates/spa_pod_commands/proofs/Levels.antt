@@ -3,6 +3,7 @@ use Rattle.std.proofs.Common.{◌≡◌, ◌≤◌, ◌<◌, ℕ, suc, zero, ◌
 use Rattle.std.specs.Prelude.{if◌then◌else◌, IfNone}
 use Rattle.std.proofs.lemmas.Bool.Decides.{leb_tells}
 use Rattle.std.proofs.lemmas.List.{length-take-le}
+use Rattle.std.proofs.KnownBytes.{Appends-nil}
 use Rattle.spa_device.specs.CountingLaws.{known_more}
 use Rattle.spa_format.specs.Words.{body_of, extent, word_at}
 use Rattle.spa_format.specs.Walk.{extent_behind, walk, walk_at_most, walk_behind, property_walk, properties_of}
@@ -10,7 +11,6 @@ use Rattle.spa_format.specs.Fixation.{walk_size}
 use Rattle.spa_format.proofs.WalkLemmas.{walk-end}
 use Rattle.spa_pod_commands.specs.Lines.{AreLines, Inside, Says, level_pods, line_of_pod, values_of, no_pods, pod}
 use Rattle.spa_pod_commands.specs.declared.listing.Level.{Level}
-use Rattle.spa_pod_commands.proofs.Keeping.{appends_nothing}
 
 -- what a walk finds takes no more bytes than there are
 walked_bound : (n k : ℕ) (b : List ℕ) → walk_size (walk_at_most n k b) ≤ length b
@@ -68,7 +68,7 @@ when_none None p = p
 
 -- nothing is said, and what is said in two steps
 pub says_nothing : (old : Option (List ℕ)) (waited : List ℕ) → Says old waited old waited []
-says_nothing old waited = record { part = []; written = appends_nothing old; all = append-nil waited }
+says_nothing old waited = record { part = []; written = Appends-nil old; all = append-nil waited }
 
 pub says_more : (a b c : Option (List ℕ)) (l m n x y : List ℕ) → Says a l b m x → Says b m c n y → Says a l c n (x ++ y)
 says_more a b c l m n x y s t = record {

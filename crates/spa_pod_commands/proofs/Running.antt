@@ -3,12 +3,12 @@ use Rattle.std.specs.Io.KnownBytes.{Appends, Keeps}
 use Rattle.std.proofs.Common.{◌≡◌, ℕ, ◌+◌, drop, List, [], Option, refl, sym, append-nil, arith, take, length, ◌∙◌, ◌++◌, ap, subst, take-add, drop-drop}
 use Rattle.std.specs.Prelude.{Result, Ok, Err, OnOk, OnErr}
 use Rattle.std.proofs.lemmas.List.{nil_from_length, take_all, take-append-drop}
+use Rattle.std.proofs.KnownBytes.{Appends-kept, Appends-nil}
 use Rattle.spa_device.specs.CountingLaws.{known_more}
 use Rattle.spa_pod_commands.specs.Answers.{line_of, status_of}
 use Rattle.spa_pod_commands.specs.Runs.{EndsBy}
 use Rattle.spa_pod_commands.specs.declared.answer.Answer.{Answer}
 use Rattle.spa_pod_commands.specs.declared.answer.Failure.{Failure}
-use Rattle.spa_pod_commands.proofs.Keeping.{appends_keeps, appends_nothing}
 
 -- so many first bytes were written, and what is left of them
 pub record HasBegun (old new : Option (List ℕ)) (bytes left : List ℕ) : Type 0 where
@@ -17,10 +17,10 @@ pub record HasBegun (old new : Option (List ℕ)) (bytes left : List ℕ) : Type
   pub written : Appends old new (take count bytes)
 
 pub begins_nothing : (a : Option (List ℕ)) (bytes : List ℕ) → (n : ℕ) × Appends a a (take n bytes)
-begins_nothing a bytes = (0, appends_nothing a)
+begins_nothing a bytes = (0, Appends-nil a)
 
 pub begun_first : (a : Option (List ℕ)) (bytes : List ℕ) → HasBegun a a bytes bytes
-begun_first a bytes = record { count = 0; rest = refl; written = appends_nothing a }
+begun_first a bytes = record { count = 0; rest = refl; written = Appends-nil a }
 
 pub begun_more : (a b c : Option (List ℕ)) (bytes left : List ℕ) (n : ℕ) → HasBegun a b bytes left → Appends b c (take n left) →
     HasBegun a c bytes (drop n left)
@@ -36,7 +36,7 @@ pub begun_kept : (a b c : Option (List ℕ)) (bytes left : List ℕ) → HasBegu
 begun_kept a b c bytes left h k = record {
   count = h.count;
   rest = h.rest;
-  written = appends_keeps a b c (take h.count bytes) h.written k;
+  written = Appends-kept a b c (take h.count bytes) h.written k;
 }
 
 pub begun_all : (a b : Option (List ℕ)) (bytes left : List ℕ) → length left ≡ 0 → HasBegun a b bytes left → Appends a b bytes

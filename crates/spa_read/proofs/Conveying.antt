@@ -17,9 +17,9 @@ use Rattle.spa_format.proofs.Shapes.{choice_only, object_only, string_only, stru
 use Rattle.spa_format.proofs.WordLemmas.{word_at-append}
 use Rattle.std.specs.Borrow.{Bor}
 use Rattle.spa_fixed_sized.specs.declared.fault.Refusal.{Refusal}
-use Rattle.spa_fixed_sized.specs.declared.fault.Refusal.TheVariants as refusal
-use Rattle.spa_bodies.specs.Reading.{IsShortAt, MayLackMemory, Names, OnFault, OnMemory}
+use Rattle.spa_bodies.specs.Reading.{MayLackMemory}
 use Rattle.spa_bodies.specs.Refusing.{StandsInBody, error_of}
+use Rattle.spa_bodies.proofs.Refusals.{said_so, said_memory, said_short, said_fault}
 use Rattle.spa_read.specs.Reading.{ConveysAtFront, ConveysNothing, ConveysWith, IsBodyIn, OpensLeniently, RefusesInput, RefusesLeniently, StandsLeniently, no_front, in_body, in_member, in_key, in_property}
 use Rattle.spa_read.proofs.Replaced.{ConveysAs, as_conveyed, conveyed_as}
 
@@ -220,21 +220,6 @@ conveys_nothing k place _ (in_property b c ps first left f r l e m n s) = λ v h
 
 -- The public refusal that is made of one at a place.
 
-said_nothing : (input : List ℕ) (place : Bor (List ℕ)) (why : Refusal) → RefusesLeniently input place.now why →
-    OnFault (ConveysNothing input) (error_of place why)
-said_nothing input place refusal.Short s = conveys_nothing Short place.now input s
-said_nothing input place refusal.Text s = conveys_nothing Text place.now input s
-said_nothing input place refusal.InvalidType s = conveys_nothing InvalidType place.now input s
-said_nothing input place refusal.InvalidChoiceType s = conveys_nothing InvalidChoiceType place.now input s
-said_nothing input place refusal.MissingChoiceValues s = conveys_nothing MissingChoiceValues place.now input s
-said_nothing input place refusal.WrongSize s = conveys_nothing WrongSize place.now input s
-said_nothing input place refusal.OutOfMemory s = tt
-
-said_memory : (input : List ℕ) (place : Bor (List ℕ)) (why : Refusal) → RefusesLeniently input place.now why →
-    OnMemory (MayLackMemory input) (error_of place why)
-said_memory input place refusal.OutOfMemory s = s
-said_memory input place _ s = tt
-
 -- where the front isn't there, no fault stands but that it is short
 only_short : (k : Fault) (place input : List ℕ) → StandsLeniently k place input → ¬ (HasFront input) → (k ≡ Short) × (place ≡ input)
 only_short k place _ (no_front b e f n) m = (f, e)
@@ -243,28 +228,14 @@ only_short k place _ (in_member b c vs first left f r e n d s) m = absurd (m f)
 only_short k place _ (in_key b c ps first f r l e n d short g) m = absurd (m f)
 only_short k place _ (in_property b c ps first left f r l e n d s) m = absurd (m f)
 
-said_short : (input : List ℕ) (place : Bor (List ℕ)) (why : Refusal) → RefusesLeniently input place.now why → ¬ (HasFront input) →
-    IsShortAt input (error_of place why)
-said_short input place refusal.Short s n = (refl, (only_short Short place.now input s n).1)
-said_short input place refusal.Text s n = cc ((only_short Text place.now input s n).0)
-said_short input place refusal.InvalidType s n = cc ((only_short InvalidType place.now input s n).0)
-said_short input place refusal.InvalidChoiceType s n = cc ((only_short InvalidChoiceType place.now input s n).0)
-said_short input place refusal.MissingChoiceValues s n = cc ((only_short MissingChoiceValues place.now input s n).0)
-said_short input place refusal.WrongSize s n = cc ((only_short WrongSize place.now input s n).0)
-said_short input place refusal.OutOfMemory s n = absurd (n s.0)
-
-said_fault : (input : List ℕ) (place : Bor (List ℕ)) (why : Refusal) → RefusesLeniently input place.now why →
-    Names (λ k at. StandsLeniently k at input) (error_of place why)
-said_fault input place refusal.Short s = s
-said_fault input place refusal.Text s = s
-said_fault input place refusal.OutOfMemory s = tt
-said_fault input place _ s = (place.now, s)
-
 pub refused_as : (input : List ℕ) (place : Bor (List ℕ)) (why : Refusal) → RefusesLeniently input place.now why →
     RefusesInput input (error_of place why)
-refused_as input place why s = record {
-  refused = said_nothing input place why s;
-  memory = said_memory input place why s;
-  short_first = said_short input place why s;
-  named = said_fault input place why s;
-}
+refused_as input place why s =
+    let stands : Fault → List ℕ → Type 0 = λ k at. StandsLeniently k at input in
+    let lacks = MayLackMemory input in
+    record {
+      refused = said_so stands lacks place (ConveysNothing input) (λ k. conveys_nothing k place.now input) why s;
+      memory = said_memory stands lacks place why s;
+      short_first = λ n. said_short stands lacks place input (λ k h. only_short k place.now input h n) (λ h. n h.0) why s;
+      named = said_fault stands lacks place why s;
+    }

@@ -9,7 +9,7 @@ use Rattle.spa_format.specs.Front.{HasFront, rest_of}
 use Rattle.spa_format.specs.Tree.{object_type, struct_type}
 use Rattle.spa_format.specs.Walk.{extent_behind, walk, walk_at_most, walk_behind}
 use Rattle.spa_format.specs.Words.{extent, padded_size, padding, word_at, word_bytes}
-use Rattle.spa_format.proofs.Short.{length-padding}
+use Rattle.spa_format.proofs.Encodings.{length-padding}
 use Rattle.spa_format.proofs.WalkLemmas.{walk-end, walk-there, walk_behind-end, walk_behind-there}
 use Rattle.spa_format.proofs.WordLemmas.{length-word_bytes, word_at-append, word_at-take, word_at-word_bytes}
 use Rattle.spa_recordings.specs.Cut.{IsEnded, behind_whole, cut_inside, innermost, outer, sized}

@@ -3,9 +3,8 @@ use Rattle.std.proofs.Common.{◌≡◌, ◌≢◌, ◌∙◌, ◌+◌, ◌-◌,
 use Rattle.std.specs.Prelude.{Decides, if◌then◌else◌, max, nat_lt}
 use Rattle.std.proofs.lemmas.List.{nil_from_length, take_at}
 use Rattle.spa_fixed_sized.specs.declared.fault.Refusal.{Refusal}
-use Rattle.spa_fixed_sized.specs.declared.fault.Refusal.TheVariants as refusal
-use Rattle.spa_bodies.specs.Refusing.{Says}
-use Rattle.spa_format.specs.Faults.{Fault, Short, Text, InvalidType, InvalidChoiceType, MissingChoiceValues, WrongSize}
+use Rattle.spa_bodies.proofs.Refusals.{said}
+use Rattle.spa_format.specs.Faults.{Fault}
 use Rattle.spa_format.specs.Front.{IsRefused, front_of}
 use Rattle.spa_format.specs.Pod.{AreMembers, IsBody, IsPod}
 use Rattle.spa_format.specs.Tree.{Trees, member, no_trees, struct, struct_type, type_of}
@@ -37,7 +36,7 @@ before_unread Lenient input left kind h = (h.0.1, h.0.2, h.0.4)
 -- ---- Where a refused pod is malformed
 
 -- what is left behind pods that these bytes begin with is all of them, if they begin with none
-none_before : (vs : Trees) (input first left : List ℕ) → input ≡ first ++ left → AreMembers vs first → IsRefused input → left ≡ input
+pub none_before : (vs : Trees) (input first left : List ℕ) → input ≡ first ++ left → AreMembers vs first → IsRefused input → left ≡ input
 none_before no_trees input first left e m r = sym (e ∙ ap (λ z. z ++ left) m)
 none_before (member v vs) input first left e m r =
     let f = front_of_whole input m.0 (m.1 ++ left) (type_of v) (IsBody v) (e ∙ ap (λ z. z ++ left) m.2 ∙ append_assoc m.0 m.1 left) m.3 in
@@ -47,21 +46,13 @@ none_before (member v vs) input first left e m r =
 pub not_members : (input kind : List ℕ) → BeginsWithNone Exact input kind → ¬ ((vs : Trees) × AreMembers vs input)
 not_members input kind h m = h.0 (sym (none_before m.0 input input [] (sym (append-nil input)) m.1 h.1.0))
 
-said : (stands : Fault → Type 0) (why : Refusal) → Says stands ⊥ why → (fault : Fault) × stands fault
-said stands refusal.Short s = (Short, s)
-said stands refusal.Text s = (Text, s)
-said stands refusal.InvalidType s = (InvalidType, s)
-said stands refusal.InvalidChoiceType s = (InvalidChoiceType, s)
-said stands refusal.MissingChoiceValues s = (MissingChoiceValues, s)
-said stands refusal.WrongSize s = (WrongSize, s)
-said stands refusal.OutOfMemory s = absurd s
-
 -- the fault that is found behind pods is the first one's
 pub found_at : (input kind left place : List ℕ) (at : ℕ) (why : Refusal) → BeginsWithNone Exact input kind → IsLeft input left →
     IsFaultAt left place at why → IsReadTo Exact input at × (at ≤ length input)
 found_at input kind left place at why h l f =
     let same = none_before l.0 input l.1 left l.2 l.3 h.1.0 in
-    let s = said (λ k. StandsAt k from_pod at left) why f.offset in
+    let stands : Fault → Type 0 = λ k. StandsAt k from_pod at left in
+    let s = said stands ⊥ ((k : Fault) × stands k) (λ k h. (k, h)) (λ n. absurd n) why f.offset in
     subst (λ z. IsReadTo Exact z at × (at ≤ length z)) same (to_fault left at s.0 s.1, f.within)
 
 -- a struct that isn't read leniently has a member that isn't

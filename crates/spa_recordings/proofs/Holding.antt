@@ -1,5 +1,5 @@
 -- Bytes that are read, held and passed.
-use Rattle.std.proofs.Common.{◌≡◌, ◌≢◌, ◌∙◌, ◌+◌, ◌-◌, ◌<◌, ◌≤◌, ◌*◌, ℕ, suc, List, [], ◌∷◌, ◌++◌, Option, Some, None, append_assoc, ap, ap₂, arith, drop, length, length-append, length-drop, length-take, refl, subst, sym, take, take-add}
+use Rattle.std.proofs.Common.{◌≡◌, ◌≢◌, ◌∙◌, ◌+◌, ◌-◌, ◌≤◌, ◌*◌, ℕ, suc, List, [], ◌∷◌, ◌++◌, Option, Some, None, append_assoc, ap, ap₂, arith, drop, length, length-append, length-drop, length-take, refl, subst, sym, take, take-add}
 use Rattle.std.proofs.lemmas.List.{drop-append-le, drop-take, nil_from_length, take-append-le, take_all}
 use Rattle.std.proofs.lemmas.List.Edits.{take-paste}
 use Rattle.std.proofs.Math.Seq.{paste}
@@ -28,16 +28,6 @@ use Rattle.spa_recordings.specs.declared.reading.Reading.{Reading}
 use Rattle.spa_recordings.specs.declared.reading.Reading.TheVariants.{Exact, Lenient}
 
 -- ---- What a reader gives
-
-pub consumes_nothing : (a : Option (List ℕ)) → Consumes a a []
-consumes_nothing None = tt
-consumes_nothing (Some xs) = refl
-
-pub consumes_more : (a b c : Option (List ℕ)) (xs ys : List ℕ) → Consumes a b xs → Consumes b c ys → Consumes a c (xs ++ ys)
-consumes_more None b c xs ys h k = tt
-consumes_more (Some a) None c xs ys h k = absurd h
-consumes_more (Some a) (Some b) None xs ys h k = absurd k
-consumes_more (Some a) (Some b) (Some c) xs ys h k = h ∙ ap (λ l. xs ++ l) k ∙ sym (append_assoc xs ys c)
 
 -- what a reader has left, where that is known, and nothing else
 pub unread_of : Option (List ℕ) → List ℕ
@@ -189,13 +179,6 @@ walk_few bytes left count so =
     let e = ap length so.parts in
     let l = length-append so.before left in
     omega (arith, c, f, e, l)
-
-pub rest_is_shorter : (left rest : List ℕ) → HasFront left → rest ≡ rest_of left → length rest < length left
-rest_is_shorter left rest f r =
-    let l = ap length r in
-    let d = length-drop (extent (word_at left 0)) left in
-    let h = f.header in
-    omega (arith, l, d, h)
 
 pub walk_counts_all : (bytes left : List ℕ) (count : ℕ) → WholeSoFar bytes left count → ¬ (HasFront left) → count ≡ length (walk bytes)
 walk_counts_all bytes left count so none =

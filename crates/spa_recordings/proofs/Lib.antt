@@ -3,5 +3,5 @@ pub mod Going
 pub mod Holding
 mod Likely
 mod Passed
-mod Streamed
+pub mod Streamed
 mod Unreading

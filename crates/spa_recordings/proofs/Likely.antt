@@ -1,22 +1,18 @@
 -- Where pods plausibly begin.
 use Rattle.std.proofs.Common.{◌≡◌, ◌≢◌, ◌∙◌, ◌+◌, ◌%◌, ◌<◌, ◌≤◌, suc, zero, ℕ, Bool, true, false, true≢false, List, [], ◌∷◌, ap, arith, drop, inl, inr, length, length-drop, length-take, refl, subst, sym, take}
 use Rattle.std.specs.Prelude.{Decides, if◌then◌else◌}
-use Rattle.std.proofs.lemmas.Bool.{cases_lt, le-leb}
+use Rattle.std.proofs.lemmas.Bool.{cases_lt}
 use Rattle.std.proofs.lemmas.Bool.Decides.{leb_tells}
 use Rattle.std.proofs.lemmas.List.{length-take-le}
 use Rattle.spa_format.specs.Fixation.{walk_size}
 use Rattle.spa_format.specs.Tree.{object_type, struct_type}
 use Rattle.spa_format.specs.Walk.{HasObject, extent_behind, properties_of, walk_at_most}
 use Rattle.spa_format.specs.Words.{header_size, word_at}
+use Rattle.spa_format.proofs.WalkLemmas.{walk_at_most-there}
 use Rattle.spa_bytes.specs.Opening.{Opens}
 use Rattle.spa_recordings.specs.Plausible.{AreWholeFirst, IsNextPlausible, IsNoneBehind, IsNoneBetween, IsParameter, IsPlausible, a_struct, an_object, looked_at}
 
 -- ---- The first pods inside one
-
-walk_one : (n k : ℕ) (b : List ℕ) → extent_behind k b ≤ length b →
-    walk_at_most (suc n) k b ≡ take (extent_behind k b) b ∷ walk_at_most n k (drop (extent_behind k b) b)
-walk_one n k b h =
-    ap (λ t. if t then take (extent_behind k b) b ∷ walk_at_most n k (drop (extent_behind k b) b) else []) (le-leb (extent_behind k b) (length b) h)
 
 walk_none : (n k : ℕ) (b : List ℕ) → length b < extent_behind k b → walk_at_most (suc n) k b ≡ []
 walk_none n k b h =
@@ -45,7 +41,7 @@ pub whole_one : (n k : ℕ) (b : List ℕ) → extent_behind k b ≤ length b �
 whole_one n k b there h =
     let d = length-drop (extent_behind k b) b in
     let t = length-take-le (extent_behind k b) b there in
-    let w = walk_one n k b there in
+    let w = walk_at_most-there n k b there in
     elim h [
       | inl e ↦ inl (ap walk_size w ∙ (let s : length (take (extent_behind k b) b) + walk_size (walk_at_most n k (drop (extent_behind k b) b)) ≡ length b = omega (arith, d, t, e, there) in s))
       | inr e ↦ inr (ap length w ∙ ap suc e)
@@ -55,7 +51,7 @@ pub whole_rest : (n k : ℕ) (b : List ℕ) → extent_behind k b ≤ length b �
 whole_rest n k b there h =
     let d = length-drop (extent_behind k b) b in
     let t = length-take-le (extent_behind k b) b there in
-    let w = walk_one n k b there in
+    let w = walk_at_most-there n k b there in
     elim h [
       | inl e ↦ inl (let s = sym (ap walk_size w) ∙ e in omega (arith, d, t, s, there))
       | inr e ↦ inr (let s = sym (ap length w) ∙ e in omega (arith, s))

@@ -1,16 +1,16 @@
 -- How far the work on an input is that no refused pod ends.
 use Rattle.std.proofs.Common.{◌≡◌, ◌∙◌, ◌+◌, ◌*◌, ◌≤◌, ◌⊎◌, ℕ, List, [], ◌++◌, Option, append_assoc, append-nil, ap, arith, drop, inl, inr, length, length-append, length-take, refl, subst, sym, take, take-append-drop}
+use Rattle.std.proofs.KnownBytes.{Appends-kept, Appends-nil, Consumes-nil, Consumes-trans}
 use Rattle.std.specs.Prelude.{IfErr, OnOk, Result, Ok, Err, ⊤}
 use Rattle.std.specs.Io.KnownBytes.{Appends, Consumes, IsAtEnd, Keeps}
 use Rattle.spa_device.specs.CountingLaws.{known_more}
 use Rattle.spa_device.specs.Whole.{IsAllOf}
 use Rattle.spa_format.specs.Walk.{walk}
-use Rattle.spa_pod_commands.proofs.Keeping.{appends_keeps, appends_nothing}
 use Rattle.spa_recordings.specs.Blocks.{AreWhole, IsReadFailure, ReadsOn, no_pods}
 use Rattle.spa_recordings.specs.Passing.{AreBlocks, IsWrittenTill, StopsAtBlock, StopsWork, WorksThrough, nothing, one_more}
 use Rattle.spa_recordings.specs.declared.streaming.Stop.{Stop}
 use Rattle.spa_recordings.specs.declared.streaming.Stop.TheVariants.{Pod, OutOfMemory, ReadFailed, WriteFailed}
-use Rattle.spa_recordings.proofs.Holding.{all_of, consumes_more, consumes_nothing, count_joined, few_whole, none_counted, none_unread, unread_of, whole_joined}
+use Rattle.spa_recordings.proofs.Holding.{all_of, count_joined, few_whole, none_counted, none_unread, unread_of, whole_joined}
 use Rattle.spa_recordings.proofs.Streamed.{begun_behind}
 
 module _ (State : Type 0) (Works : State → State → (count place : ℕ) → (block out : List ℕ) → Type 0) (start : State) where
@@ -33,8 +33,8 @@ module _ (State : Type 0) (Works : State → State → (count place : ℕ) → (
     whole = no_pods;
     its_count = sym none_counted;
     its_place = refl;
-    written = appends_nothing old;
-    read = subst (Consumes remaining remaining) (sym none) (consumes_nothing remaining);
+    written = Appends-nil old;
+    read = subst (Consumes remaining remaining) (sym none) (Consumes-nil remaining);
   }
 
   -- more was read
@@ -50,7 +50,7 @@ module _ (State : Type 0) (Works : State → State → (count place : ℕ) → (
     written = so.written;
     read =
         subst (Consumes remaining after) (append_assoc so.passed held r.0 ∙ ap (λ l. so.passed ++ l) (sym r.2))
-        (consumes_more remaining now after (so.passed ++ held) r.0 so.read r.1);
+        (Consumes-trans remaining now after (so.passed ++ held) r.0 so.read r.1);
   }
 
   -- there are fewer pods than bytes
@@ -138,7 +138,7 @@ module _ (State : Type 0) (Works : State → State → (count place : ℕ) → (
     whole = so.whole;
     its_count = so.its_count;
     its_place = so.its_place;
-    written = appends_keeps old mid new so.out so.written k;
+    written = Appends-kept old mid new so.out so.written k;
     read = so.read;
   }
 

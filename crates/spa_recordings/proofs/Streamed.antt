@@ -1,6 +1,8 @@
 -- How far the work on an input is that is written block by block.
-use Rattle.std.proofs.Common.{◌≡◌, ◌≢◌, ◌∙◌, ◌+◌, ◌*◌, ◌-◌, ◌<◌, ◌≤◌, ℕ, List, [], ◌∷◌, ◌++◌, Option, Bool, true, false, ◌&&◌, append_assoc, append-nil, ap, arith, drop, inl, inr, length, length-append, length-take, refl, subst, suc, sym, take, take-append-drop, true≢false}
+use Rattle.std.proofs.Common.{◌≡◌, ◌≢◌, ◌∙◌, ◌+◌, ◌*◌, ◌-◌, ◌<◌, ◌≤◌, ℕ, List, [], ◌∷◌, ◌++◌, Option, Bool, true, false, ◌&&◌, append_assoc, append-nil, ap, arith, drop, inl, inr, length, length-append, length-take, refl, subst, sym, take, take-append-drop, true≢false}
 use Rattle.std.proofs.lemmas.List.{nil_from_length, take_all, take_at}
+use Rattle.std.proofs.Math.Seq.{take-append-add}
+use Rattle.std.proofs.KnownBytes.{Appends-kept, Appends-nil, Consumes-nil, Consumes-trans}
 use Rattle.std.specs.Prelude.{Decides, IfErr, IfOk, Result, Ok, Err}
 use Rattle.std.specs.Io.KnownBytes.{Appends, Consumes, IsAtEnd, Keeps}
 use Rattle.spa_device.specs.CountingLaws.{known_more}
@@ -8,7 +10,6 @@ use Rattle.spa_device.specs.Whole.{IsAllOf}
 use Rattle.spa_format.specs.Front.{HasFront}
 use Rattle.spa_format.specs.Typed.{IsBytes}
 use Rattle.spa_format.specs.Walk.{walk}
-use Rattle.spa_pod_commands.proofs.Keeping.{appends_keeps, appends_nothing}
 use Rattle.spa_recordings.specs.Blocks.{AreWhole, IsReadFailure, ReadsOn, no_pods}
 use Rattle.spa_recordings.specs.Reading.{IsAccepted, IsLeftOf, IsNoPod, IsNothing, IsUnreadAt, ReadsAs}
 use Rattle.spa_recordings.specs.Streaming.{AreRead, BeginsBlock, BeginsMade, IsEnded, IsFound, IsRefusedAhead, MakesAs, MakesFirst, Stops, StopsAtPod, StopsInBlock, Streams, WritesMade, WritesRead}
@@ -20,7 +21,7 @@ use Rattle.spa_recordings.specs.declared.streaming.Made.{Made}
 use Rattle.spa_recordings.specs.declared.streaming.Written.{Written}
 use Rattle.spa_recordings.specs.declared.streaming.Stop.{Stop}
 use Rattle.spa_recordings.specs.declared.streaming.Stop.TheVariants.{Pod, OutOfMemory, ReadFailed, WriteFailed}
-use Rattle.spa_recordings.proofs.Holding.{all_of, consumes_more, consumes_nothing, count_joined, few_whole, none_counted, none_unread, nothing_longer, nothing_read, pods_walked, reads_joined, unread_of, values_conveyed, whole_behind, whole_front, whole_joined}
+use Rattle.spa_recordings.proofs.Holding.{all_of, count_joined, few_whole, none_counted, none_unread, nothing_longer, nothing_read, pods_walked, reads_joined, unread_of, values_conveyed, whole_behind, whole_front, whole_joined}
 
 -- ---- A block
 
@@ -123,19 +124,13 @@ begins_at Makes block part n old new is s = (
   s.5,
 )
 
-some_joined : (xs ys : List ℕ) → xs ≢ [] → xs ++ ys ≢ []
+pub some_joined : (xs ys : List ℕ) → xs ≢ [] → xs ++ ys ≢ []
 some_joined [] ys n e = n refl
 some_joined (x ∷ xs) ys n e = let l = ap length e in omega (arith, l)
 
-some_behind : (xs ys : List ℕ) → ys ≢ [] → xs ++ ys ≢ []
+pub some_behind : (xs ys : List ℕ) → ys ≢ [] → xs ++ ys ≢ []
 some_behind [] ys n e = n e
 some_behind (x ∷ xs) ys n e = let l = ap length e in omega (arith, l)
-
-take_behind : (xs ys : List ℕ) (n : ℕ) → take (length xs + n) (xs ++ ys) ≡ xs ++ take n ys
-take_behind [] ys n = ap (λ m. take m ys) (let e : 0 + n ≡ n = omega arith in e)
-take_behind (x ∷ xs) ys n =
-    ap (λ m. take m (x ∷ (xs ++ ys))) (let e : suc (length xs) + n ≡ suc (length xs + n) = omega arith in e)
-    ∙ ap (λ l. x ∷ l) (take_behind xs ys n)
 
 -- what was begun to be written behind what was written
 pub begun_behind : (old mid new : Option (List ℕ)) (out made : List ℕ) (n : ℕ) → Appends old mid out → made ≢ [] → Appends mid new (take n made) →
@@ -143,7 +138,7 @@ pub begun_behind : (old mid new : Option (List ℕ)) (out made : List ℕ) (n : 
 begun_behind old mid new out made n w some b = (
   some_behind out made some,
   length out + n,
-  subst (Appends old new) (sym (take_behind out made n)) (known_more old mid new out (take n made) w b),
+  subst (Appends old new) (sym (take-append-add out made n)) (known_more old mid new out (take n made) w b),
 )
 
 -- what is made of a block was written, and couldn't be flushed
@@ -152,7 +147,7 @@ pub all_begun : (made : List ℕ) (old mid new : Option (List ℕ)) → made ≢
 all_begun made old mid new some w k = (
   some,
   length made,
-  subst (Appends old new) (sym (take_all (length made) made (omega arith))) (appends_keeps old mid new made w k),
+  subst (Appends old new) (sym (take_all (length made) made (omega arith))) (Appends-kept old mid new made w k),
 )
 
 -- nothing is made
@@ -210,8 +205,8 @@ module _ (reading : Reading) (Refuses : Type 0) (Makes : ℕ → ℕ → List �
     its_made = m;
     within = omega arith;
     few = omega arith;
-    written = appends_nothing old;
-    read = subst (Consumes remaining remaining) (sym none) (consumes_nothing remaining);
+    written = Appends-nil old;
+    read = subst (Consumes remaining remaining) (sym none) (Consumes-nil remaining);
   }
 
   -- more was read
@@ -235,7 +230,7 @@ module _ (reading : Reading) (Refuses : Type 0) (Makes : ℕ → ℕ → List �
     written = so.written;
     read =
         subst (Consumes remaining after) (append_assoc so.passed held r.0 ∙ ap (λ l. so.passed ++ l) (sym r.2))
-        (consumes_more remaining now after (so.passed ++ held) r.0 so.read r.1);
+        (Consumes-trans remaining now after (so.passed ++ held) r.0 so.read r.1);
   }
 
   -- there are fewer pods than bytes, and of them fewer are refused; those as which they are read take no more
@@ -493,7 +488,7 @@ module _ (reading : Reading) (Refuses : Type 0) (Makes : ℕ → ℕ → List �
         within = so.within;
         nothing = so.nothing;
         few = so.few;
-        written = appends_keeps old mid new so.out so.written k;
+        written = Appends-kept old mid new so.out so.written k;
         read = so.read;
       }
   stops remaining now held before its len old mid new ReadFailed joins whole s so = absurd s

@@ -6,7 +6,7 @@ use Rattle.spa_fixed_sized.specs.declared.fault.Refusal.TheVariants as refusal
 use Rattle.std.specs.Borrow.{Bor}
 use Rattle.spa_bodies.specs.Reading.{MayLackMemory}
 use Rattle.spa_bodies.specs.Refusing.{Says, StandsInMembers, StandsInProperties, error_of}
-use Rattle.spa_bodies.proofs.Refusals.{refused_as, says_through}
+use Rattle.spa_bodies.proofs.Refusals.{refused_as, says_through, said}
 use Rattle.spa_bytes.specs.Opening.{Opens}
 use Rattle.spa_events.specs.Inside.{IsInside}
 use Rattle.spa_canonical.specs.Look.{IsFaultAt, Scope, StandsAt, at_key, at_pod, first_member, first_value, from_members, from_pod, from_properties, in_object, in_struct, next_member, next_property}
@@ -23,6 +23,7 @@ use Rattle.spa_format.proofs.Refused as format
 use Rattle.spa_format.proofs.Sequences.{props_joined}
 use Rattle.spa_refusals.proofs.Passing.{begins, goes_on}
 use Rattle.spa_recordings.specs.declared.reading.Reading.TheVariants.{Exact}
+use Rattle.spa_recordings.proofs.Going.{none_before}
 use Rattle.spa_refusals.specs.Refusals.{IsUnreadFor}
 use Rattle.spa_refusals.specs.Paths.{IsBehind, IsFaultIn, IsWithin, StandsIn}
 
@@ -80,13 +81,6 @@ front_place j k place _ a (in_key b ps first f t l e m n short is) = absurd (let
 front_place j k place _ a (in_property b ps first left f t l e m n s) = absurd (let c = (no_container j b f a).1 t in omega (arith, c, l))
 
 -- ---- A fault inside
-
--- what is left behind some first members, or properties, is all, where the first one is refused
-pub none_before : (vs : Trees) (b first left : List ℕ) → b ≡ first ++ left → AreMembers vs first → IsRefused b → left ≡ b
-none_before no_trees b first left e m r = sym (e ∙ ap (λ z. z ++ left) m)
-none_before (member v vs) b first left e m r =
-    let f = front_of_whole b m.0 (m.1 ++ left) (type_of v) (IsBody v) (e ∙ ap (λ z. z ++ left) m.2 ∙ append_assoc m.0 m.1 left) m.3 in
-    absurd (r v (record { there = f.0; pod = subst (λ z. IsPod z v) f.1 m.3 }))
 
 property_front : (v : Tree) (b c d first left : List ℕ) → b ≡ first ++ left → 8 ≤ length first → drop 8 first ≡ c ++ d → IsPod c v →
     Begins (drop 8 b) v × (d ++ left ≡ rest_of (drop 8 b))
@@ -420,16 +414,6 @@ past_property k _ m place _ rest long i far s (next_property n b v l begun a) =
       ),
     )
 
--- the refusal names a fault
-fact : (stands : Fault → Type 0) (fact : Type 0) → ((k : Fault) → stands k → fact) → (why : Refusal) → Says stands ⊥ why → fact
-fact stands _ f refusal.Short s = f Short s
-fact stands _ f refusal.Text s = f Text s
-fact stands _ f refusal.InvalidType s = f InvalidType s
-fact stands _ f refusal.InvalidChoiceType s = f InvalidChoiceType s
-fact stands _ f refusal.MissingChoiceValues s = f MissingChoiceValues s
-fact stands _ f refusal.WrongSize s = f WrongSize s
-fact stands _ f refusal.OutOfMemory s = absurd s
-
 names : (A B : Fault → Type 0) → ((k : Fault) → A k → B k) → (why : Refusal) → Says A ⊥ why → Says B ⊥ why
 names A B f why s = says_through A B ⊥ ⊥ f (λ x. x) why s
 
@@ -440,7 +424,7 @@ module _ (place : List ℕ) (why : Refusal) where
   in_struct_body n pod body rest inside type true o i is s = absurd (let z : true ≡ false = is in cc)
   in_struct_body n pod body rest inside type false o i is s =
       let t : word_at pod 4 ≡ struct_type = sym o.its_type ∙ i.0 in (
-        fact (Both from_pod pod place n) (8 ≤ n) (λ k x. (into_struct k n place pod o.there t x.0 x.1).0) why s,
+        said (Both from_pod pod place n) ⊥ (8 ≤ n) (λ k x. (into_struct k n place pod o.there t x.0 x.1).0) (λ x. absurd x) why s,
         subst (λ z. IsFaultIn from_members z place (n - 8) why) (sym (i.1 ∙ o.its_body))
             (names (Both from_pod pod place n) (Both from_members (body_of pod) place (n - 8)) (λ k x. (into_struct k n place pod o.there t x.0 x.1).1) why s),
       )
@@ -452,7 +436,7 @@ module _ (place : List ℕ) (why : Refusal) where
       let t : word_at pod 4 ≡ object_type = sym o.its_type ∙ i.0 in
       let long : header_size ≤ length (body_of pod) = subst (λ z. header_size ≤ length z) o.its_body i.1 in
       let same : inside ≡ drop header_size (body_of pod) = i.2 ∙ ap (drop header_size) o.its_body in (
-        fact (Both from_pod pod place n) (16 ≤ n) (λ k x. (into_object k n place pod o.there t long x.0 x.1).0) why s,
+        said (Both from_pod pod place n) ⊥ (16 ≤ n) (λ k x. (into_object k n place pod o.there t long x.0 x.1).0) (λ x. absurd x) why s,
         subst (λ z. IsFaultIn from_properties z place (n - 16) why) (sym same)
             (names (Both from_pod pod place n) (Both from_properties (drop header_size (body_of pod)) place (n - 16))
             (λ k x. (into_object k n place pod o.there t long x.0 x.1).1) why s),
@@ -467,12 +451,12 @@ module _ (place : List ℕ) (why : Refusal) where
   pub behind_member : (n m : ℕ) (members rest : List ℕ) → IsBehind members place n rest m → IsFaultIn from_members members place n why →
       ((v : Tree) × Begins members v) × IsFaultIn from_members rest place m why
   behind_member n m members rest i s = (
-    fact (Both from_members members place n) ((v : Tree) × Begins members v) (λ k x. (past_member k n m place members rest i x.0 x.1).0) why s,
+    said (Both from_members members place n) ⊥ ((v : Tree) × Begins members v) (λ k x. (past_member k n m place members rest i x.0 x.1).0) (λ x. absurd x) why s,
     names (Both from_members members place n) (Both from_members rest place m) (λ k x. (past_member k n m place members rest i x.0 x.1).1) why s,
   )
 
   pub some_members : (n : ℕ) (members : List ℕ) → IsFaultIn from_members members place n why → members ≢ []
-  some_members n members s = fact (Both from_members members place n) (members ≢ []) (λ k x. some k n members x.1) why s
+  some_members n members s = said (Both from_members members place n) ⊥ (members ≢ []) (λ k x. some k n members x.1) (λ x. absurd x) why s
     where
       some : (k : Fault) (n : ℕ) (b : List ℕ) → StandsAt k from_members n b → b ≢ []
       some k _ _ (first_member m b n s) = n
@@ -480,7 +464,7 @@ module _ (place : List ℕ) (why : Refusal) where
 
   -- into the value of the first property, or past it
   pub behind_words : (n : ℕ) (properties : List ℕ) → header_size ≤ length properties → IsFaultIn from_properties properties place n why → 8 ≤ n
-  behind_words n properties long s = fact (Both from_properties properties place n) (8 ≤ n) (λ k x. behind_key k n properties long x.1) why s
+  behind_words n properties long s = said (Both from_properties properties place n) ⊥ (8 ≤ n) (λ k x. behind_key k n properties long x.1) (λ x. absurd x) why s
 
   pub in_first_value : (n : ℕ) (properties value : List ℕ) → header_size ≤ length properties → value ≡ drop 8 properties → IsWithin value place (n - 8) →
       IsFaultIn from_properties properties place n why → IsFaultIn from_pod value place (n - 8) why
@@ -498,7 +482,7 @@ module _ (place : List ℕ) (why : Refusal) where
       let b = subst (λ z. IsBehind z place (n - 8) rest m) is i in
       let P = Both from_properties properties place n in (
         subst (λ z. (v : Tree) × Begins z v) (sym is)
-            (fact P ((v : Tree) × Begins (drop header_size properties) v) (λ k x. (past_property k n m place properties rest long b far x.0 x.1).0) why s),
+            (said P ⊥ ((v : Tree) × Begins (drop header_size properties) v) (λ k x. (past_property k n m place properties rest long b far x.0 x.1).0) (λ x. absurd x) why s),
         names P (Both from_properties rest place m) (λ k x. (past_property k n m place properties rest long b far x.0 x.1).1) why s,
       )
 

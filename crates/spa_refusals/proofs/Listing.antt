@@ -1,6 +1,5 @@
 -- How far the work on several refused pods is.
-use Rattle.std.proofs.Common.{◌≡◌, ◌+◌, ◌-◌, ◌<◌, ◌≤◌, ◌∙◌, ℕ, List, [], ◌∷◌, ◌++◌, add-one, append_assoc, append-nil, ap, arith, drop, drop-cons, get_or, length, length-drop, refl, subst, sym}
-use Rattle.std.proofs.lemmas.List.{nil_from_length}
+use Rattle.std.proofs.Common.{◌≡◌, ◌+◌, ◌-◌, ◌<◌, ◌≤◌, ◌∙◌, ℕ, List, [], ◌∷◌, ◌++◌, append_assoc, append-nil, ap, arith, drop, length, refl, subst, sym}
 use Rattle.spa_recordings.specs.Reading.{IsNothing}
 use Rattle.spa_recordings.specs.declared.going_on.RefusedPod.{RefusedPod}
 use Rattle.spa_recordings.specs.declared.reading.Reading.{Reading}
@@ -69,10 +68,3 @@ module _ (reading : Reading) (before : ℕ) (input : List ℕ) where
         within = omega (arith, b, w);
         refusal = subst (λ z. IsRefusalOf reading z its.refusal) e h;
       }
-
--- the next one of a list, and those behind it
-pub next_left : {X : Type 0} (xs : List X) (i : ℕ) (d : X) → i < length xs → drop i xs ≡ get_or xs i d ∷ drop (i + 1) xs
-next_left xs i d h = rw (add-one, drop-cons xs i d) refl
-
-pub none_left : {X : Type 0} (xs : List X) (i : ℕ) → length xs ≤ i → drop i xs ≡ []
-none_left xs i h = let l = length-drop i xs in nil_from_length (drop i xs) (omega (arith, l, h))

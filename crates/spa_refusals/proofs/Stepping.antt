@@ -1,14 +1,12 @@
 -- Steps into a pod.
-use Rattle.std.proofs.Common.{◌≡◌, ◌≢◌, ◌≤◌, ◌<◌, ◌∙◌, Bool, true, false, ℕ, List, [], ◌++◌, length, take, drop, ap, arith, eqb, refl, subst, sym}
-use Rattle.std.proofs.lemmas.Bool.{eqb-false, eqb-true}
+use Rattle.std.proofs.Common.{◌≡◌, ◌≤◌, ◌∙◌, Bool, true, false, ℕ, List, [], ◌++◌, length, take, drop, ap, arith, subst, sym}
 use Rattle.std.specs.Prelude.{Option, Some, None, Result, Ok, Err, IfNone, IfOk, IfSome}
 use Rattle.spa_bytes.specs.Opening.{Opens}
 use Rattle.spa_events.specs.Inside.{IsInside}
-use Rattle.spa_format.specs.Tree.{object_type, struct_type}
-use Rattle.spa_format.specs.Words.{header_size, word_at}
+use Rattle.spa_format.specs.Words.{word_at}
 use Rattle.spa_format.proofs.WordLemmas.{word_at-take}
 use Rattle.spa_refusals.proofs.Passing.{Passed}
-use Rattle.spa_refusals.specs.Paths.{HaveRead, HoldsMember, HoldsProperty, HoldsValue, IsInnermost, LeadsTo, StepsTo, holds_none, itself, key_step, member, properties_read, property, short_object}
+use Rattle.spa_refusals.specs.Paths.{HaveRead, HoldsProperty, IsInnermost, LeadsTo, itself, key_step, properties_read}
 
 -- the value of a property is refused
 pub value_found : (type key : ℕ) (properties left words value inner path now new : List ℕ) → Passed properties left → now ≡ path → 8 ≤ length left →

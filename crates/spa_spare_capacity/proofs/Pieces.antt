@@ -1,5 +1,4 @@
 -- Pieces of lists of bytes.
-use Rattle.spa_format.specs.Words.{word_bytes}
 use Rattle.std.proofs.Common.{◌≡◌, ℕ, ◌+◌, ◌≤◌, List, [], ◌∷◌, ◌++◌, length, take, drop, refl, sym, ap, suc, ◌∙◌, arith, append_assoc, length-append, length-take, length-drop}
 use Rattle.std.proofs.lemmas.List.{drop-append-le, length-take-le, take_at, take-append-drop, take-append-le}
 
@@ -45,8 +44,3 @@ length-over xs ys zs at k z e h =
     let l2 = length-append ys zs in
     let l3 = ap length z ∙ length-drop k xs in
     omega arith
-
--- two words
-pub length-two : (a b : ℕ) → length (word_bytes a ++ word_bytes b) ≡ 8
-unfolding word_bytes
-length-two a b = refl

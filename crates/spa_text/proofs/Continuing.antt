@@ -2,7 +2,7 @@
 use Rattle.std.proofs.Common.{◌≡◌, ◌≢◌, ℕ, zero, suc, length, ◌<◌, ◌^◌, List, [], ◌∷◌, ◌++◌, Bool, true, false, refl, sym, ap, subst, ◌∙◌, append-nil, append_assoc}
 use Rattle.std.specs.Prelude.{Some, None, codes, decimal, if◌then◌else◌, reverse}
 use Rattle.std.specs.Str.{bytes_eq}
-use Rattle.std.proofs.lemmas.List.{reverse-append}
+use Rattle.std.proofs.lemmas.List.{reverse-append, nil_from_length, append_cancel_left}
 use Rattle.json.specs.Token.{Token}
 use Rattle.spa_format.specs.Tree.{Tree, Trees, Properties, property, fixed, string, bytes, bitmap, array, choice, pointer, struct, object}
 use Rattle.spa_value.specs.declared.value.Value.{Value, roll-Value, roll-out-Value}
@@ -24,7 +24,7 @@ use Rattle.spa_text.specs.Left.{AreAround, Continues, IsLeft, IsWithin, PrintsOr
 use Rattle.spa_text.specs.Written.{BeginsProperty, Opens, Prints, PutsKey, PutsName, closing}
 use Rattle.spa_text.specs.declared.printing.Begun.{Begun}
 use Rattle.spa_text.proofs.Appending.{append_on}
-use Rattle.spa_text.proofs.Exactly.{cancel, empty, leaf_whole}
+use Rattle.spa_text.proofs.Exactly.{leaf_whole}
 use Rattle.spa_text.proofs.Listed.{not_ended}
 use Rattle.spa_text.proofs.Numbers.{unsigned_number-decimal}
 
@@ -110,7 +110,7 @@ pub members_ended : (m : List Value) (o n : List Token) → length m ≡ 0 → n
 members_ended m o n e d = record {
   ts = Token.end_array ∷ [];
   appended = d;
-  continued = λ us rest s. subst (λ l. AreMembers (views l) (Token.end_array ∷ us) rest) (sym (empty m e)) (ap Some s);
+  continued = λ us rest s. subst (λ l. AreMembers (views l) (Token.end_array ∷ us) rest) (sym (nil_from_length m e)) (ap Some s);
 }
 
 pub member_printed : (m : List Value) (v : Value) (vs : List Value) (o n : List Token) → m ≡ v ∷ vs →
@@ -157,7 +157,7 @@ properties_ended t m o p q e d f = record {
   ts = Token.end_object ∷ Token.end_object ∷ [];
   appended = append_on o (Token.end_object ∷ []) (Token.end_object ∷ []) d f;
   continued = λ us rest s.
-      (Token.end_object ∷ us, subst (λ l. AreProperties t (property_views l) (Token.end_object ∷ Token.end_object ∷ us) (Token.end_object ∷ us)) (sym (empty m e)) refl, ap Some s);
+      (Token.end_object ∷ us, subst (λ l. AreProperties t (property_views l) (Token.end_object ∷ Token.end_object ∷ us) (Token.end_object ∷ us)) (sym (nil_from_length m e)) refl, ap Some s);
 }
 
 -- a property at the front, by what is read of its value
@@ -286,7 +286,7 @@ first_printed v o n w = record {
   ts = w.0.ts;
   appended = w.0.appended;
   reads = λ rest. w.0.continued rest rest refl;
-  exact = λ h. cancel o w.0.ts (tokens_of nothing v) (sym w.0.appended ∙ sym (append-nil n) ∙ (w.1 h).1);
+  exact = λ h. append_cancel_left o w.0.ts (tokens_of nothing v) (sym w.0.appended ∙ sym (append-nil n) ∙ (w.1 h).1);
 }
 
 -- the whole text
@@ -315,7 +315,7 @@ pub last_ended : (v : Tree) (b : Begun) (outer : List Begun) (o m n : List Token
 last_ended v b outer o m n e a w x = record {
   ts = a.ts ++ w.ts;
   appended = append_on o a.ts w.ts a.appended w.appended;
-  exact = λ h. cancel o (a.ts ++ w.ts) (tokens_of nothing v) (sym (append_on o a.ts w.ts a.appended w.appended) ∙ x h);
+  exact = λ h. append_cancel_left o (a.ts ++ w.ts) (tokens_of nothing v) (sym (append_on o a.ts w.ts a.appended w.appended) ∙ x h);
   reads = λ rest.
       subst (λ z. ReadsAs nothing v z rest) (sym (append_assoc a.ts w.ts rest))
       (a.continued (w.ts ++ rest) rest

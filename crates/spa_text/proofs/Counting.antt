@@ -1,7 +1,7 @@
 -- How many pods a value is.
-use Rattle.std.proofs.Common.{◌≡◌, Vec, Global, ℕ, ◌+◌, ◌*◌, ◌≤◌, List, length, arith, ap}
+use Rattle.std.proofs.Common.{◌≡◌, Vec, Global, ℕ, ◌+◌, ◌*◌, List, length, ap}
 use Rattle.std.specs.List.{sum_by}
-use Rattle.spa_format.specs.Tree.{Tree, node_count, member_node_count, property_node_count, fixed, bytes, bitmap, array, choice, pointer, struct, object}
+use Rattle.spa_format.specs.Tree.{node_count, member_node_count, property_node_count}
 use Rattle.spa_value.specs.declared.object.Object.{Object, out-Object}
 use Rattle.spa_value.specs.declared.value.Value.{Value}
 use Rattle.spa_value.specs.declared.value.Value.TheVariants as V
@@ -10,18 +10,7 @@ use Rattle.spa_value.specs.View.{object_view, view}
 use Rattle.spa_value.specs.Views.{property_views, views}
 use Rattle.spa_text.specs.Left.{left_count}
 use Rattle.spa_text.specs.declared.printing.Begun.{Begun}
-
--- a value is one pod at least
-pub some_node : (v : Tree) → 1 ≤ node_count v
-some_node (fixed x) = omega arith
-some_node (Tree.string s) = omega arith
-some_node (bytes s) = omega arith
-some_node (bitmap s) = omega arith
-some_node (array k xs) = omega arith
-some_node (choice s f k x xs) = omega arith
-some_node (pointer t a) = omega arith
-some_node (struct vs) = omega arith
-some_node (object t i ps) = omega arith
+pub use Rattle.spa_format.proofs.Shapes.{some_node}
 
 -- how many pods an object is, and a struct
 pub object_nodes : (o : Object) → node_count (object_view o) ≡ 1 + property_node_count (property_views (out-Object o).properties.items)

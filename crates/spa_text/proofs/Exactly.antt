@@ -1,7 +1,7 @@
 -- What is printed, with what is left behind it, is all that is printed of a value.
-use Rattle.std.proofs.Common.{◌≡◌, ℕ, length, List, [], ◌∷◌, ◌++◌, Bool, false, refl, sym, ap, subst, ◌∙◌, append-nil, append_assoc, arith}
+use Rattle.std.proofs.Common.{◌≡◌, ℕ, length, List, [], ◌∷◌, ◌++◌, Bool, false, refl, sym, ap, subst, ◌∙◌, append-nil, append_assoc}
 use Rattle.std.specs.Prelude.{⊤, reverse}
-use Rattle.std.proofs.lemmas.List.{reverse-append}
+use Rattle.std.proofs.lemmas.List.{reverse-append, nil_from_length}
 use Rattle.json.specs.Token.{Token}
 use Rattle.spa_format.specs.Tree.{Tree, Trees, Properties, struct, object}
 use Rattle.spa_value.specs.declared.value.Value.{Value}
@@ -18,18 +18,6 @@ use Rattle.spa_text.specs.Written.{BeginsProperty, Opens, Prints, closing}
 use Rattle.spa_text.specs.declared.printing.Begun.{Begun}
 use Rattle.spa_text.proofs.Appending.{append_on}
 
-pub empty : {A : Type 0} (m : List A) → length m ≡ 0 → m ≡ []
-empty [] e = refl
-empty (x ∷ m) e = absurd (omega (arith, e))
-
--- what stands behind the same is the same
-pub cancel : {A : Type 0} (o a b : List A) → o ++ a ≡ o ++ b → a ≡ b
-cancel [] a b e = e
-cancel (x ∷ o) a b e = cancel o a b (tail e)
-  where
-    tail : x ∷ (o ++ a) ≡ x ∷ (o ++ b) → o ++ a ≡ o ++ b
-    tail d = cc
-
 -- more behind both
 behind_both : {A : Type 0} (n l o t r : List A) → n ++ l ≡ o ++ t → n ++ (l ++ r) ≡ o ++ (t ++ r)
 behind_both n l o t r e = sym (append_assoc n l r) ∙ ap (λ x. x ++ r) e ∙ append_assoc o t r
@@ -45,7 +33,7 @@ leaf_whole c v o n w h = (tt, append-nil n ∙ w.appended ∙ ap (λ l. o ++ l) 
 
 pub members_done : (m : List Value) (o n : List Token) → length m ≡ 0 → n ≡ o ++ Token.end_array ∷ [] →
     Leaves (HaveNoFloat (views m)) (member_tokens (views m)) ⊤ [] o n
-members_done m o n e d h = (tt, append-nil n ∙ d ∙ ap (λ l. o ++ member_tokens (views l)) (sym (empty m e)))
+members_done m o n e d h = (tt, append-nil n ∙ d ∙ ap (λ l. o ++ member_tokens (views l)) (sym (nil_from_length m e)))
 
 pub member_done : (m : List Value) (v : Value) (vs : List Value) (o n : List Token) → m ≡ v ∷ vs →
     Leaves (HasNoFloat (view v)) (tokens_of nothing (view v)) ⊤ [] o n →
@@ -83,7 +71,7 @@ pub properties_done : (t : Table) (m : List Property) (o p q : List Token) → l
 properties_done t m o p q e d f h = (
   tt,
   append-nil q ∙ append_on o (Token.end_object ∷ []) (Token.end_object ∷ []) d f
-      ∙ ap (λ l. o ++ property_tokens t (property_views l)) (sym (empty m e)),
+      ∙ ap (λ l. o ++ property_tokens t (property_views l)) (sym (nil_from_length m e)),
 )
 
 begun_so : (b : Bool) (t : Table) (k f : ℕ) (o q : List Token) → BeginsProperty b t k f o q → q ≡ o ++ (Token.key (key_text t k) ∷ flags_front f)

@@ -1,11 +1,12 @@
 -- Values without members, read from what is printed of them.
 use Rattle.std.proofs.Common.{◌≡◌, ◌≢◌, ◌⊎◌, inl, inr, ℕ, ◌<◌, ◌^◌, List, [], ◌∷◌, ◌++◌, Bool, true, false, ◌||◌, ◌==◌, refl, sym, ap, subst, ◌∙◌, arith, append-nil}
-use Rattle.std.specs.Prelude.{ℤ, Option, Some, None, OnOk, Result, Ok, Err, codes, decimal, if◌then◌else◌, option_map}
+use Rattle.std.specs.Prelude.{ℤ, Option, Some, None, codes, decimal, if◌then◌else◌, option_map}
 use Rattle.std.specs.Fmt.{signed_decimal}
 use Rattle.std.specs.Int.{w32, w64, to_be_bytes}
 use Rattle.std.specs.Int.Signed.{mag}
 use mir.Val.{SFits, of_z, to_z}
 use Rattle.std.proofs.lemmas.Int.{to_z-of_z}
+use Rattle.std.proofs.lemmas.Option.{none-some}
 use Rattle.hex.specs.Hex.{IsBytes, encode_lower}
 use Rattle.json.specs.Token.{Token}
 use Rattle.spa_format.specs.Kind.{Fixed, id, int, long, float, double, rectangle, fraction, fd, none, bool}
@@ -24,14 +25,6 @@ use Rattle.spa_text_read.specs.declared.tag.Scalar.TheVariants as scalar
 use Rattle.spa_text_read.specs.declared.tag.Tag.TheVariants as tag
 use Rattle.spa_text.proofs.Appending.{append_on}
 use Rattle.spa_text.proofs.Numbers.{hex-bytes, signed_number-decimal, unsigned_number-decimal, wide_bits-text}
-
--- what follows from a success
-pub on_ok : {A E : Type 0} {P Q : Type 0} (r : Result A E) → (P → Q) → OnOk r P → OnOk r Q
-on_ok (Ok x) f p = f p
-on_ok (Err e) f p = tt
-
-some≢none : {A : Type 0} (x : A) → None ≡ Some x → ⊥
-some≢none x e = cc
 
 -- ---- Numbers
 
@@ -58,20 +51,20 @@ unfolding is_text
 text_number scalar.Id t s f e = refl
 text_number scalar.Float t s f e = refl
 text_number scalar.Double t s f e = refl
-text_number scalar.Int t s f e = absurd (some≢none f e)
-text_number scalar.Long t s f e = absurd (some≢none f e)
-text_number scalar.Fd t s f e = absurd (some≢none f e)
+text_number scalar.Int t s f e = absurd (none-some f e)
+text_number scalar.Long t s f e = absurd (none-some f e)
+text_number scalar.Fd t s f e = absurd (none-some f e)
 
 number_or_text : (k : Scalar) (t : Table) (x : Token) (f : Fixed) → scalar_of k t x ≡ Some f →
     ((s : List ℕ) × (x ≡ Token.number s)) ⊎ ((s : List ℕ) × (x ≡ Token.string s))
 number_or_text k t (Token.number s) f e = inl (s, refl)
 number_or_text k t (Token.string s) f e = inr (s, refl)
-number_or_text scalar.Id t _ f e = absurd (some≢none f e)
-number_or_text scalar.Int t _ f e = absurd (some≢none f e)
-number_or_text scalar.Long t _ f e = absurd (some≢none f e)
-number_or_text scalar.Fd t _ f e = absurd (some≢none f e)
-number_or_text scalar.Float t _ f e = absurd (some≢none f e)
-number_or_text scalar.Double t _ f e = absurd (some≢none f e)
+number_or_text scalar.Id t _ f e = absurd (none-some f e)
+number_or_text scalar.Int t _ f e = absurd (none-some f e)
+number_or_text scalar.Long t _ f e = absurd (none-some f e)
+number_or_text scalar.Fd t _ f e = absurd (none-some f e)
+number_or_text scalar.Float t _ f e = absurd (none-some f e)
+number_or_text scalar.Double t _ f e = absurd (none-some f e)
 
 -- a bare number
 bare_number : (c : Expected) (k : Scalar) (f : Fixed) (x : Token) (rest : List Token) → bare c.type_.0 ≡ k → scalar_of k c.ids x ≡ Some f →

@@ -1,7 +1,7 @@
 -- Arrays and choices, read from what is printed of them.
 use Rattle.std.proofs.Common.{◌≡◌, ◌≢◌, ◌==◌, inl, inr, ℕ, zero, suc, ◌+◌, ◌<◌, length, take, get_or, ◌^◌, List, [], ◌∷◌, ◌++◌, true, false, refl, sym, ap, subst, ◌∙◌, append-nil, append_assoc, arith}
 use Rattle.std.specs.Prelude.{Some, None, codes, decimal, map, if◌then◌else◌}
-use Rattle.std.proofs.lemmas.Bool.{eqb-true}
+use Rattle.std.proofs.lemmas.Bool.{eqb-true, eq-eqb}
 use Rattle.std.proofs.lemmas.List.{map-append, take_more}
 use Rattle.json.specs.Token.{Token}
 use Rattle.json.specs.Json.{after_end_array}
@@ -211,12 +211,8 @@ shape_read step_choice = refl
 shape_read enum_choice = refl
 shape_read flags_choice = refl
 
--- the type is printed where it isn't expected
-eqb-same : (m n : ℕ) → m ≡ n → (m == n) ≡ true
-eqb-same m n e = grind (arith, e)
-
 type_silent : (e t : ℕ) → e ≡ t → type_tokens e t ≡ []
-type_silent e t s = choose (e == t) [] (Token.key (codes "of") ∷ name_token Types t ∷ []) (eqb-same e t s)
+type_silent e t s = choose (e == t) [] (Token.key (codes "of") ∷ name_token Types t ∷ []) (eq-eqb e t s)
 
 type_tokens-named : (e t : ℕ) → e ≢ t → type_tokens e t ≡ Token.key (codes "of") ∷ name_token Types t ∷ []
 type_tokens-named e t d = refuse (e == t) [] (Token.key (codes "of") ∷ name_token Types t ∷ []) (λ s. d (eqb-true e t s))

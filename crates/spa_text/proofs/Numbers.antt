@@ -7,7 +7,6 @@ use Rattle.std.specs.Int.Signed.{mag}
 use Rattle.std.specs.Int.RustNames.{from_bits, is_nan, to_bits}
 use Rattle.std.specs.Float.{Float, Format, binary32, binary64, float_is_finite, nan, inf, fin}
 use Rattle.std.specs.Float.Parse.{parse_float}
-use Rattle.std.specs.List.{HoldsAt}
 use Rattle.std.specs.Str.Parse.{IsNumeral, digits_value, signed_digits_value, starts_with_minus, without_leading_plus, without_leading_sign}
 use Rattle.std.proofs.lemmas.Fmt.{decimal_is_IsNumeral}
 use Rattle.std.proofs.lemmas.Nat.{from_be_bytes-to_be_bytes_4, from_be_bytes-to_be_bytes_8}
@@ -16,20 +15,13 @@ use lib.Ieee.Bits.{to_bits-of_bits}
 use Rattle.hex.specs.Hex.{IsBytes, decode_of, encode_lower, lower_digits}
 use Rattle.hex.proofs.HexLemmas.{decode_of-encode_lower, decode_sized-twice, length-encode_with}
 use Rattle.spa_text_read.specs.Numerals.{behind_0x, double_digits, finite_bits, float_digits, ok_of, signed_number, digit_bytes, unsigned_number, wide_bits, word_bits}
-use Rattle.spa_text_read.proofs.Digits.{signed_some, unsigned_none, unsigned_some}
+use Rattle.spa_text_read.proofs.Digits.{signed_some, unsigned_some}
 
 first_is : (ds : List ℕ) → IsNumeral 10 ds → (get_or ds 0 0 ≢ 43) × (get_or ds 0 0 ≢ 45)
 first_is [] h = absurd (omega (arith, h.0))
 first_is (c ∷ cs) h = let d = digit_from_value c h.1.0 in (λ e. omega (arith, d), λ e. omega (arith, d))
 
 -- ---- Digits
-
--- a text is no number that begins with a byte above the digits
-pub none_above : (s : List ℕ) (first : ℕ) → 57 < first → 0 < length s → HoldsAt (λ c. first ≡ c) s 0 → unsigned_number s ≡ None
-none_above [] first above some is = absurd (omega (arith, some))
-none_above (c ∷ cs) first above some is =
-    let same = without_leading_plus_none (c ∷ cs) (λ e. omega (arith, e, above, is 0)) in
-    unsigned_none (c ∷ cs) (λ h _. let d = digit_from_value c (subst (IsNumeral 10) same h).1.0 in omega (arith, d, above, is 0))
 
 pub unsigned_number-decimal : (n : ℕ) → n < 2 ^ 32 → unsigned_number (decimal n) ≡ Some n
 unsigned_number-decimal n h =

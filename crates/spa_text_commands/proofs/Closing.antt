@@ -1,5 +1,6 @@
 -- The brackets of a text that is read are closed: by its tokens.
 use Rattle.std.proofs.Common.{◌≡◌, ℕ, ◌+◌, ◌-◌, Bool, true, false, List, [], ◌∷◌, refl, sym, ap, subst, arith}
+use Rattle.std.proofs.lemmas.Option.{same_Some, none-some}
 use Rattle.std.specs.Prelude.{⊤, Option, Some, None, option_map, if◌then◌else◌, codes}
 use Rattle.std.specs.Str.{bytes_eq}
 use Rattle.json.specs.Token.{Token}
@@ -18,7 +19,7 @@ use Rattle.spa_text_read.specs.declared.tag.Tag.{Tag}
 use Rattle.spa_text_read.specs.declared.tag.Tag.TheVariants as tag
 use Rattle.spa_text_read.specs.declared.tag.Scalar.{Scalar}
 use Rattle.spa_text_read.specs.declared.tag.Scalar.TheVariants as scalar
-use Rattle.spa_text_read.proofs.Soundness.{some≢none, the_same, bound, mapped}
+use Rattle.spa_text_read.proofs.Soundness.{bound, mapped}
 
 -- no token is bad, and behind these no bracket is open, of so many before them
 abbrev pub Ends : ℕ → List Token → Type 0
@@ -48,57 +49,57 @@ less : (n : ℕ) (ts : List Token) → Ends n ts → Ends (n + 1 - 1) ts
 less n ts h = subst (λ k. Ends k ts) (omega arith) h
 
 kept : (ts us : List Token) → Some ts ≡ Some us → Keeps ts us
-kept ts us e = λ n h. subst (Ends n) (sym (the_same ts us e)) h
+kept ts us e = λ n h. subst (Ends n) (sym (same_Some ts us e)) h
 
 -- ---- What stands at the front
 
 pub closed_array : (ts us : List Token) → after_end_array ts ≡ Some us → Closes ts us
 closed_array (Token.end_array ∷ ts) us e = λ n h. less n ts (kept ts us e n h)
-closed_array _ us e = absurd (some≢none us (sym e))
+closed_array _ us e = absurd (none-some us e)
 
 closed_object : (ts us : List Token) → after_end_object ts ≡ Some us → Closes ts us
 closed_object (Token.end_object ∷ ts) us e = λ n h. less n ts (kept ts us e n h)
-closed_object _ us e = absurd (some≢none us (sym e))
+closed_object _ us e = absurd (none-some us e)
 
 begun_array : (ts us : List Token) → after_begin_array ts ≡ Some us → Begins ts us
 begun_array (Token.begin_array ∷ ts) us e = λ n h. kept ts us e (n + 1) h
-begun_array _ us e = absurd (some≢none us (sym e))
+begun_array _ us e = absurd (none-some us e)
 
 begun_object : (ts us : List Token) → after_begin_object ts ≡ Some us → Begins ts us
 begun_object (Token.begin_object ∷ ts) us e = λ n h. kept ts us e (n + 1) h
-begun_object _ us e = absurd (some≢none us (sym e))
+begun_object _ us e = absurd (none-some us e)
 
 pair : {A : Type 0} (x y : A) (ts us : List Token) → and_then ts (Some x) ≡ Some (y, us) → Keeps ts us
-pair x y ts us e = λ n h. subst (Ends n) (sym (ap (λ p. p.1) (the_same (x, ts) (y, us) e))) h
+pair x y ts us e = λ n h. subst (Ends n) (sym (ap (λ p. p.1) (same_Some (x, ts) (y, us) e))) h
 
 key_read : (s : List ℕ) (ts us : List Token) → any_key ts ≡ Some (s, us) → Keeps ts us
 key_read s (Token.key k ∷ ts) us e = pair k s ts us e
-key_read s _ us e = absurd (some≢none _ (sym e))
+key_read s _ us e = absurd (none-some _ e)
 
 text_read : (s : List ℕ) (ts us : List Token) → any_text ts ≡ Some (s, us) → Keeps ts us
 text_read s (Token.string k ∷ ts) us e = pair k s ts us e
-text_read s _ us e = absurd (some≢none _ (sym e))
+text_read s _ us e = absurd (none-some _ e)
 
 chosen : (b : Bool) (ts us : List Token) → (if b then Some ts else None) ≡ Some us → Keeps ts us
 chosen true ts us e = kept ts us e
-chosen false ts us e = absurd (some≢none us (sym e))
+chosen false ts us e = absurd (none-some us e)
 
 named_read : (name : List ℕ) (ts us : List Token) → after_key name ts ≡ Some us → Keeps ts us
 named_read name (Token.key s ∷ ts) us e = chosen (bytes_eq s name) ts us e
-named_read name _ us e = absurd (some≢none us (sym e))
+named_read name _ us e = absurd (none-some us e)
 
 and_read : {A : Type 0} (o : Option A) (x : A) (ts us : List Token) → and_then ts o ≡ Some (x, us) → Keeps ts us
-and_read None x ts us e = absurd (some≢none _ (sym e))
+and_read None x ts us e = absurd (none-some _ e)
 and_read (Some y) x ts us e = pair y x ts us e
 
 word_read : (n : ℕ) (ts us : List Token) → word ts ≡ Some (n, us) → Keeps ts us
 word_read n (Token.number s ∷ ts) us e = and_read _ n ts us e
-word_read n _ us e = absurd (some≢none _ (sym e))
+word_read n _ us e = absurd (none-some _ e)
 
 name_read : (t : Table) (n : ℕ) (ts us : List Token) → name_or_word t ts ≡ Some (n, us) → Keeps ts us
 name_read t n (Token.string s ∷ ts) us e = and_read (number_by_name t (Token.string s)) n ts us e
 name_read t n (Token.number s ∷ ts) us e = and_read (number_by_name t (Token.number s)) n ts us e
-name_read t n _ us e = absurd (some≢none _ (sym e))
+name_read t n _ us e = absurd (none-some _ e)
 
 -- the first token of a value: a key stands behind a brace
 abbrev Heads : Token → (ts us : List Token) → Type 0
@@ -111,17 +112,17 @@ Heads Token.null ts us = Keeps ts us
 Heads _ ts us = ⊥
 
 first_heads : (h : Token) (ts us : List Token) → first_key ts ≡ Some (h, us) → Heads h (Token.begin_object ∷ ts) us
-first_heads h (Token.key s ∷ ts) us e = subst (λ p. Heads p.0 (Token.begin_object ∷ Token.key s ∷ ts) p.1) (the_same _ _ e) (λ n x. x)
-first_heads h _ us e = absurd (some≢none _ (sym e))
+first_heads h (Token.key s ∷ ts) us e = subst (λ p. Heads p.0 (Token.begin_object ∷ Token.key s ∷ ts) p.1) (same_Some _ _ e) (λ n x. x)
+first_heads h _ us e = absurd (none-some _ e)
 
 heads : (h : Token) (ts us : List Token) → head ts ≡ Some (h, us) → Heads h ts us
 heads h (Token.begin_object ∷ ts) us e = first_heads h ts us e
-heads h (Token.begin_array ∷ ts) us e = subst (λ p. Heads p.0 (Token.begin_array ∷ ts) p.1) (the_same _ _ e) (λ n x. x)
-heads h (Token.string s ∷ ts) us e = subst (λ p. Heads p.0 (Token.string s ∷ ts) p.1) (the_same _ _ e) (λ n x. x)
-heads h (Token.number s ∷ ts) us e = subst (λ p. Heads p.0 (Token.number s ∷ ts) p.1) (the_same _ _ e) (λ n x. x)
-heads h (Token.boolean b ∷ ts) us e = subst (λ p. Heads p.0 (Token.boolean b ∷ ts) p.1) (the_same _ _ e) (λ n x. x)
-heads h (Token.null ∷ ts) us e = subst (λ p. Heads p.0 (Token.null ∷ ts) p.1) (the_same _ _ e) (λ n x. x)
-heads h _ us e = absurd (some≢none _ (sym e))
+heads h (Token.begin_array ∷ ts) us e = subst (λ p. Heads p.0 (Token.begin_array ∷ ts) p.1) (same_Some _ _ e) (λ n x. x)
+heads h (Token.string s ∷ ts) us e = subst (λ p. Heads p.0 (Token.string s ∷ ts) p.1) (same_Some _ _ e) (λ n x. x)
+heads h (Token.number s ∷ ts) us e = subst (λ p. Heads p.0 (Token.number s ∷ ts) p.1) (same_Some _ _ e) (λ n x. x)
+heads h (Token.boolean b ∷ ts) us e = subst (λ p. Heads p.0 (Token.boolean b ∷ ts) p.1) (same_Some _ _ e) (λ n x. x)
+heads h (Token.null ∷ ts) us e = subst (λ p. Heads p.0 (Token.null ∷ ts) p.1) (same_Some _ _ e) (λ n x. x)
+heads h _ us e = absurd (none-some _ e)
 
 -- ---- Values without members
 
@@ -134,12 +135,12 @@ Plain _ = ⊥
 scalar_plain : (k : Scalar) (t : Table) (h : Token) (x : Fixed) → scalar_of k t h ≡ Some x → Plain h
 scalar_plain k t (Token.string s) x e = tt
 scalar_plain k t (Token.number s) x e = tt
-scalar_plain scalar.Id t _ x e = absurd (some≢none x (sym e))
-scalar_plain scalar.Int t _ x e = absurd (some≢none x (sym e))
-scalar_plain scalar.Long t _ x e = absurd (some≢none x (sym e))
-scalar_plain scalar.Fd t _ x e = absurd (some≢none x (sym e))
-scalar_plain scalar.Float t _ x e = absurd (some≢none x (sym e))
-scalar_plain scalar.Double t _ x e = absurd (some≢none x (sym e))
+scalar_plain scalar.Id t _ x e = absurd (none-some x e)
+scalar_plain scalar.Int t _ x e = absurd (none-some x e)
+scalar_plain scalar.Long t _ x e = absurd (none-some x e)
+scalar_plain scalar.Fd t _ x e = absurd (none-some x e)
+scalar_plain scalar.Float t _ x e = absurd (none-some x e)
+scalar_plain scalar.Double t _ x e = absurd (none-some x e)
 
 plain_kept : (h : Token) (ts us : List Token) → Plain h → Keeps ts us → Keeps (h ∷ ts) us
 plain_kept (Token.string s) ts us p k = k
@@ -147,11 +148,11 @@ plain_kept (Token.number s) ts us p k = k
 plain_kept _ ts us p k = absurd p
 
 scalar_read : (k : Scalar) (t : Table) (x : Fixed) (ts us : List Token) → tagged_scalar k t ts ≡ Some (x, us) → Keeps ts us
-scalar_read k t x [] us e = absurd (some≢none _ (sym e))
+scalar_read k t x [] us e = absurd (none-some _ e)
 scalar_read k t x (h ∷ ts) us e = by (scalar_of k t h) refl e
   where
     by : (o : Option Fixed) → scalar_of k t h ≡ o → and_then ts o ≡ Some (x, us) → Keeps (h ∷ ts) us
-    by None d e = absurd (some≢none _ (sym e))
+    by None d e = absurd (none-some _ e)
     by (Some y) d e = plain_kept h ts us (scalar_plain k t h y d) (pair y x ts us e)
 
 hex_read : (x : List ℕ) (ts us : List Token) → hex_bytes ts ≡ Some (x, us) → Keeps ts us
@@ -190,11 +191,11 @@ field_read name f other x p q reads e = by (bytes_eq p.0 name) e
         let a = bound (f p.1) _ (x, q) e in
         let b = mapped (any_key a.0.1) _ (x, q) a.2 in
         λ n h. reads a.0.0 a.0.1 a.1 n (key_read b.0.0 a.0.1 b.0.1 b.1 n (subst (Ends n) (sym (ap (λ r. r.1.1) b.2)) h))
-    by false e = λ n h. subst (Ends n) (sym (ap (λ r. r.1.1) (the_same (other, p) (x, q) e))) h
+    by false e = λ n h. subst (Ends n) (sym (ap (λ r. r.1.1) (same_Some (other, p) (x, q) e))) h
 
 begun_if : (b : Bool) (ts us : List Token) → (if b then after_begin_array ts else None) ≡ Some us → Begins ts us
 begun_if true ts us e = begun_array ts us e
-begun_if false ts us e = absurd (some≢none us (sym e))
+begun_if false ts us e = absurd (none-some us e)
 
 -- what begins behind the first key of an object, whose brace is open: of a value with others in it a bracket more
 abbrev Tagged : Opened → (ts us : List Token) → Type 0
@@ -221,7 +222,7 @@ choice_tagged c o ts us e =
     let t = bound (choice_type c.type_.0 f.0.1) _ (o, us) f.2 in
     let g = bound (type_kind t.0.0) _ (o, us) t.2 in
     let v = bound (if bytes_eq t.0.1.0 (codes "values") then after_begin_array t.0.1.1 else None) _ (o, us) g.2 in
-    subst (λ q. Tagged (begun q.0) ts q.1) (the_same _ (o, us) v.2)
+    subst (λ q. Tagged (begun q.0) ts q.1) (same_Some _ (o, us) v.2)
     (λ n h.
     text_read a.0.0 ts a.0.1 a.1 n
     (key_read k.0.0 a.0.1 k.0.1 k.1 n
@@ -235,7 +236,7 @@ array_tagged c o ts us e =
     let k = bound (type_kind a.0.0) _ (o, us) a.2 in
     let b = bound (after_key (codes "values") a.0.1) _ (o, us) k.2 in
     let v = bound (after_begin_array b.0) _ (o, us) b.2 in
-    subst (λ q. Tagged (begun q.0) ts q.1) (the_same _ (o, us) v.2)
+    subst (λ q. Tagged (begun q.0) ts q.1) (same_Some _ (o, us) v.2)
     (λ n h. name_read Types a.0.0 ts a.0.1 a.1 n (named_read (codes "values") a.0.1 b.0 b.1 n (begun_array b.0 v.0 v.1 n h)))
 
 object_tagged : (o : Opening) (ts us : List Token) → object_at ts ≡ Some (o, us) → Tagged (begun o) ts us
@@ -245,7 +246,7 @@ object_tagged o ts us e =
     let i = bound (name_or_word (ids_of a.0.0) b.0) _ (o, us) b.2 in
     let k = bound (after_key (codes "props") i.0.1) _ (o, us) i.2 in
     let v = bound (after_begin_object k.0) _ (o, us) k.2 in
-    subst (λ q. Tagged (begun q.0) ts q.1) (the_same _ (o, us) v.2)
+    subst (λ q. Tagged (begun q.0) ts q.1) (same_Some _ (o, us) v.2)
     (λ n h.
     name_read Types a.0.0 ts a.0.1 a.1 n
     (named_read (codes "id") a.0.1 b.0 b.1 n
@@ -270,7 +271,7 @@ tagged c tag.Struct o ts us e =
 tagged c tag.Array o ts us e = started _ o ts us (λ p vs r. array_tagged c p ts vs r) e
 tagged c tag.Choice o ts us e = started _ o ts us (λ p vs r. choice_tagged c p ts vs r) e
 tagged c tag.Object o ts us e = started _ o ts us (λ p vs r. object_tagged p ts vs r) e
-tagged c tag.Other o ts us e = absurd (some≢none _ (sym e))
+tagged c tag.Other o ts us e = absurd (none-some _ e)
 
 -- a whole value, or one that is begun: with a tag two brackets are open
 abbrev Opens : Opened → (ts us : List Token) → Type 0
@@ -290,11 +291,11 @@ behind_key (begun (a_choice s f q k)) all ts us b t = λ n h. b n (t (n + 1) h)
 behind_key (begun (an_object q i)) all ts us b t = λ n h. b n (t (n + 1) h)
 
 one_token : (q o : Opened) (all ts us : List Token) → Opens q all ts → and_then ts (Some q) ≡ Some (o, us) → Opens o all us
-one_token q o all ts us k e = subst (λ p. Opens p.0 all p.1) (the_same (q, ts) (o, us) e) k
+one_token q o all ts us k e = subst (λ p. Opens p.0 all p.1) (same_Some (q, ts) (o, us) e) k
 
 one_number : (x : Option Fixed) (o : Opened) (all ts us : List Token) → Keeps all ts →
     and_then ts (option_map (λ y. leaf (a_number y)) x) ≡ Some (o, us) → Opens o all us
-one_number None o all ts us k e = absurd (some≢none _ (sym e))
+one_number None o all ts us k e = absurd (none-some _ e)
 one_number (Some y) o all ts us k e = one_token (leaf (a_number y)) o all ts us k e
 
 one_string : (b : Bool) (x : Option Fixed) (s : List ℕ) (o : Opened) (all ts us : List Token) → Keeps all ts →
@@ -316,13 +317,13 @@ opened c _ o all ts us k e = absurd k
 
 pub last_key : (ts us : List Token) → read_key ts ≡ Some (None, us) → Closes ts us
 last_key (Token.end_object ∷ ts) us e = λ n h. less n ts (pair None None ts us e n h)
-last_key (Token.key s ∷ ts) us e = absurd (some≢none s (ap (λ p. p.0) (the_same (Some s, ts) (None, us) e)))
-last_key _ us e = absurd (some≢none _ (sym e))
+last_key (Token.key s ∷ ts) us e = absurd (none-some s (sym (ap (λ p. p.0) (same_Some (Some s, ts) (None, us) e))))
+last_key _ us e = absurd (none-some _ e)
 
 pub one_key : (s : List ℕ) (ts us : List Token) → read_key ts ≡ Some (Some s, us) → Keeps ts us
 one_key s (Token.key k ∷ ts) us e = pair (Some k) (Some s) ts us e
-one_key s (Token.end_object ∷ ts) us e = absurd (some≢none s (sym (ap (λ p. p.0) (the_same (None, ts) (Some s, us) e))))
-one_key s _ us e = absurd (some≢none _ (sym e))
+one_key s (Token.end_object ∷ ts) us e = absurd (none-some s (ap (λ p. p.0) (same_Some (None, ts) (Some s, us) e)))
+one_key s _ us e = absurd (none-some _ e)
 
 -- a brace follows a value that stands in one
 abbrev Within : Bool → (ts us : List Token) → Type 0
@@ -347,7 +348,7 @@ flagged s f b h all ts us k e =
     let w = bound (word ts) _ ((f, (b, h)), us) e in
     let v = bound (after_key (codes "value") w.0.1) _ ((f, (b, h)), us) w.2 in
     let d = bound (head v.0) _ ((f, (b, h)), us) v.2 in
-    let q = the_same ((w.0.0, (true, d.0.0)), d.0.1) ((f, (b, h)), us) d.2 in
+    let q = same_Some ((w.0.0, (true, d.0.0)), d.0.1) ((f, (b, h)), us) d.2 in
     subst (λ p. (mid : List Token) × Within p.0.1.0 all mid × Heads p.0.1.1 mid p.1) q
     (v.0, (λ n z. k n (word_read w.0.0 ts w.0.1 w.1 (n + 1) (named_read (codes "value") w.0.1 v.0 v.1 (n + 1) z))), heads d.0.0 v.0 d.0.1 d.1)
 
@@ -361,7 +362,7 @@ property_headed f b h ts us e = let a = bound (head ts) _ ((f, (b, h)), us) e in
     bare : (t : Token) (vs : List Token) → Heads t ts vs → flags_or false t vs ≡ Some ((f, (b, h)), us) →
         (mid : List Token) × Within b ts mid × Heads h mid us
     bare t vs k e =
-        subst (λ p. (mid : List Token) × Within p.0.1.0 ts mid × Heads p.0.1.1 mid p.1) (the_same ((0, (false, t)), vs) ((f, (b, h)), us) e)
+        subst (λ p. (mid : List Token) × Within p.0.1.0 ts mid × Heads p.0.1.1 mid p.1) (same_Some ((0, (false, t)), vs) ((f, (b, h)), us) e)
         (ts, (λ n z. z), k)
 
     named : (test : Bool) (s : List ℕ) (vs : List Token) → Heads (Token.key s) ts vs →

@@ -1,22 +1,16 @@
 -- Where texts end, and the lines and columns of their bytes.
 use Rattle.std.proofs.Common.{◌≡◌, ◌≢◌, ◌≤◌, ◌<◌, ℕ, ◌+◌, ◌-◌, List, [], ◌∷◌, ◌++◌, refl, sym, arith, length, take, ◌∙◌, ap, subst, length-append, append_assoc, append-nil}
 use Rattle.std.proofs.lemmas.Bool.Decides.{nat_tests}
+use Rattle.std.proofs.lemmas.List.{nil_from_length}
+use Rattle.std.proofs.lemmas.Bool.{and_parts, ne_eqb}
 use Rattle.std.specs.Prelude.{Bool, true, false, ◌==◌, ◌&&◌, ◌||◌, if◌then◌else◌}
 use Rattle.json.specs.Ascii.{open_brace, close_brace, open_bracket, close_bracket}
 use Rattle.spa_text_commands.specs.Extent.{BeginsText, Place, outside, within, escaped, behind_text, column_behind, first_text, line_behind, open_behind, place_behind}
-use Rattle.spa_text_commands.proofs.PrintedPods.{empty}
 
 -- ---- Tests of a byte
 
-both_true : (a b : Bool) → (a && b) ≡ true → a ≡ true
-both_true true b e = refl
-both_true false b e = e
-
 feed : (x n : ℕ) → (x == 10 && n == 0) ≡ true → x ≡ 10
-feed x n e = let h = both_true (x == 10) (n == 0) e in grind (arith, nat_tests)
-
-other : (x : ℕ) → x ≢ 10 → (x == 10) ≡ false
-other x h = grind (arith, nat_tests)
+feed x n e = let h = (and_parts (x == 10) (n == 0) e).0 in grind (arith, nat_tests)
 
 -- ---- Steps over a byte
 
@@ -83,7 +77,7 @@ few_open bytes left p n so = so.few
 
 pub all_passed : (bytes left : List ℕ) (p : Place) (n : ℕ) → Passed bytes left p n → length left ≡ 0 → bytes ≢ [] → BeginsText bytes bytes left
 all_passed bytes left p n so e some =
-    let none : left ≡ [] = empty left e in
+    let none : left ≡ [] = nil_from_length left e in
     record {
       some = some;
       is_first = so.whole ∙ ap (λ l. so.passed ++ l) none ∙ sym (so.text ∙ ap (λ l. so.passed ++ first_text p n l) none);
@@ -195,7 +189,7 @@ byte_placed bytes left behind first line column next x so e t n =
     let l = ap length e in
     let r = so.line_room in
     let k = so.column_room in
-    let o = other x t in
+    let o = ne_eqb x 10 t in
     record {
       lines_left =
           so.lines_left ∙ ap (λ l. line_behind line l) e ∙ ap (λ b. line_behind (if b then line + 1 else line) behind) o;
@@ -210,11 +204,11 @@ byte_placed bytes left behind first line column next x so e t n =
 
 pub line_placed : (bytes left : List ℕ) (first line column : ℕ) → Placed bytes left first line column → length left ≡ 0 →
     line ≡ line_behind first bytes
-line_placed bytes left first line column so e = sym (so.lines_left ∙ ap (λ l. line_behind line l) (empty left e))
+line_placed bytes left first line column so e = sym (so.lines_left ∙ ap (λ l. line_behind line l) (nil_from_length left e))
 
 pub column_placed : (bytes left : List ℕ) (first line column : ℕ) → Placed bytes left first line column → length left ≡ 0 →
     column ≡ column_behind 1 bytes
-column_placed bytes left first line column so e = sym (so.columns_left ∙ ap (λ l. column_behind column l) (empty left e))
+column_placed bytes left first line column so e = sym (so.columns_left ∙ ap (λ l. column_behind column l) (nil_from_length left e))
 
 pub line_fits : (bytes left : List ℕ) (first line column : ℕ) → Placed bytes left first line column → line + length left ≤ first + length bytes
 line_fits bytes left first line column so = so.line_room

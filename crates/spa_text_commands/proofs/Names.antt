@@ -1,45 +1,23 @@
 -- Which types, ids and keys have a name.
-use Rattle.std.proofs.Common.{◌≡◌, ◌≢◌, ◌∙◌, ◌<◌, ◌≤◌, ◌^◌, ◌+◌, ◌==◌, ◌&&◌, ◌||◌, ◌⊎◌, suc, ℕ, Bool, true, false, true≢false, List, [], ◌∷◌, Option, Some, None, inl, inr, option_map, cond, is_some, refl, sym, ap, subst, nat_lt, arith}
+use Rattle.std.proofs.Common.{◌≡◌, ◌≢◌, ◌∙◌, ◌<◌, ◌≤◌, ◌^◌, ◌+◌, ◌==◌, ◌&&◌, ◌||◌, suc, ℕ, Bool, true, false, true≢false, List, [], ◌∷◌, Option, Some, None, inl, inr, option_map, refl, sym, ap, subst, nat_lt, arith}
 use Rattle.std.specs.Prelude.{nat_le, Result, Ok, Err}
 use Rattle.std.specs.Fmt.{decimal}
 use Rattle.std.specs.List.{find, list_all}
 use Rattle.std.specs.Option.{option_map_or}
 use Rattle.std.specs.Str.{bytes_eq}
 use Rattle.std.proofs.lemmas.Slice.Eq.{bytes_eq-Decides}
-use Rattle.std.proofs.lemmas.Bool.{cases_eq, eqb-true, leb-true}
+use Rattle.std.proofs.lemmas.Bool.{cases_eq, eqb-true, leb-true, and_parts, or_cases}
+use Rattle.std.proofs.lemmas.Option.{none-some, same_Some}
 use Rattle.spa_names.specs.Lookup.{ids_of, keys_of, object_at, path_of}
 use Rattle.spa_names.specs.Rows.{Row}
 use Rattle.spa_names.specs.Tables.{rows_of}
 use Rattle.spa_names.specs.declared.table.Table.{Table}
 use Rattle.spa_names.specs.declared.table.Table.TheVariants.{Nothing, BuffersKeys, CommandNode, CommandNodeKeys, DeviceEventId, DeviceKeys, FormatKeys, IOKeys, LatencyKeys, Node, NodeKeys, ParamId, ParamMetaKeys, PortConfigKeys, ProcessLatencyKeys, ProfileKeys, ProfilerKeys, PropInfoKeys, PropsKeys, RouteKeys, Types}
+use Rattle.spa_names.proofs.Coming.{found_passes}
 use Rattle.spa_text_commands.specs.Naming.{HasNone, IsName, is_counted, table_of}
 use Rattle.spa_text_commands.specs.Selection.{is_end_of, is_named}
 use Rattle.spa_text_commands.specs.declared.naming.Named.{Named}
 use Rattle.spa_text_commands.specs.declared.naming.Named.TheVariants as named
-
-some_none : {X : Type 0} (x : X) → None ≡ Some x → ⊥
-some_none x e = true≢false (sym (ap is_some e))
-
-value_or : {X : Type 0} → X → Option X → X
-value_or x None = x
-value_or x (Some y) = y
-
-both : (a b : Bool) → (a && b) ≡ true → (a ≡ true) × (b ≡ true)
-both true b e = (refl, e)
-both false b e = absurd (true≢false (sym e))
-
--- what a search finds passes its test, and what all elements pass
-found_in : {X : Type 0} (p q : X → Bool) (passes : Bool) (y : X) (ys : List X) (x : X) →
-    (find p ys ≡ Some x → list_all q ys ≡ true → (q x ≡ true) × (p x ≡ true)) → p y ≡ passes → cond passes (Some y) (find p ys) ≡ Some x →
-    (q y && list_all q ys) ≡ true → (q x ≡ true) × (p x ≡ true)
-unfolding value_or
-found_in p q true y ys x others is e all =
-    let same : y ≡ x = ap (value_or y) e in (subst (λ z. q z ≡ true) same (both (q y) (list_all q ys) all).0, subst (λ z. p z ≡ true) same is)
-found_in p q false y ys x others is e all = others e (both (q y) (list_all q ys) all).1
-
-found : {X : Type 0} (p q : X → Bool) (xs : List X) (x : X) → find p xs ≡ Some x → list_all q xs ≡ true → (q x ≡ true) × (p x ≡ true)
-found p q [] x e all = absurd (some_none x e)
-found p q (y ∷ ys) x e all = found_in p q (p y) y ys x (λ f a. found p q ys x f a) refl e all
 
 -- a type of objects that have ids or keys with names
 is_type : ℕ → Bool
@@ -53,10 +31,10 @@ are_counted table = list_all (λ row. is_counted row.0) (rows_of table)
 row_counted : (table : Table) (row : Option Row) (number : ℕ) (path : List ℕ) → find (λ r. r.0 == number) (rows_of table) ≡ row →
     are_counted table ≡ true → option_map (λ r. r.1) row ≡ Some path → is_counted number ≡ true
 unfolding are_counted
-row_counted table None number path e all is = absurd (some_none path is)
+row_counted table None number path e all is = absurd (none-some path is)
 row_counted table (Some row) number path e all is =
-    let its = found (λ r. r.0 == number) (λ r. is_counted r.0) (rows_of table) row e all in
-    let same : row.0 ≡ number = eqb-true row.0 number its.1 in subst (λ k. is_counted k ≡ true) same its.0
+    let its = found_passes (λ r. r.0 == number) (λ r. is_counted r.0) (rows_of table) all row e in
+    let same : row.0 ≡ number = eqb-true row.0 number its.0 in subst (λ k. is_counted k ≡ true) same its.1
 
 has_names : (object : ℕ × Table × Table) → Bool
 has_names object = is_type object.0 && (are_counted object.1 && are_counted object.2)
@@ -75,21 +53,21 @@ listed : (object : ℕ × Table × Table) (type : ℕ) → object_at type ≡ So
     (is_type type ≡ true) × (are_counted object.1 ≡ true) × (are_counted object.2 ≡ true)
 unfolding has_names is_type are_counted objects
 listed object type e =
-    let its = found (λ o. o.0 == type) has_names objects object e refl in
-    let same : object.0 ≡ type = eqb-true object.0 type its.1 in
-    let parts = both (is_type object.0) (are_counted object.1 && are_counted object.2) its.0 in
-    let tables = both (are_counted object.1) (are_counted object.2) parts.1 in
+    let its = found_passes (λ o. o.0 == type) has_names objects refl object e in
+    let same : object.0 ≡ type = eqb-true object.0 type its.0 in
+    let parts = and_parts (is_type object.0) (are_counted object.1 && are_counted object.2) its.1 in
+    let tables = and_parts (are_counted object.1) (are_counted object.2) parts.1 in
     (subst (λ t. is_type t ≡ true) same parts.0, tables.0, tables.1)
 
 keys_counted : (object : Option (ℕ × Table × Table)) (type key : ℕ) (path : List ℕ) → object_at type ≡ object →
     path_of (option_map_or (λ o. o.1) object Nothing) key ≡ Some path → (is_type type ≡ true) × (is_counted key ≡ true)
-keys_counted None type key path e is = absurd (some_none path is)
+keys_counted None type key path e is = absurd (none-some path is)
 keys_counted (Some object) type key path e is =
     let its = listed object type e in (its.0, row_counted object.1 _ key path refl its.1 is)
 
 ids_counted : (object : Option (ℕ × Table × Table)) (type id : ℕ) (path : List ℕ) → object_at type ≡ object →
     path_of (option_map_or (λ o. o.2) object Nothing) id ≡ Some path → (is_type type ≡ true) × (is_counted id ≡ true)
-ids_counted None type id path e is = absurd (some_none path is)
+ids_counted None type id path e is = absurd (none-some path is)
 ids_counted (Some object) type id path e is =
     let its = listed object type e in (its.0, row_counted object.2 _ id path refl its.2 is)
 
@@ -104,12 +82,8 @@ one_more P start at before is n low high = elim (cases_eq n at) [
   | inr other ↦ before n low (omega (arith, high, other))
 ]
 
-either : (a b : Bool) → (a || b) ≡ true → (a ≡ true) ⊎ (b ≡ true)
-either true b is = inl refl
-either false b is = inr is
-
 within : (low high n : ℕ) → (nat_le low n && nat_lt n high) ≡ true → (low ≤ n) × (n < high)
-within low high n is = let parts = both (nat_le low n) (nat_lt n high) is in (leb-true low n parts.0, leb-true (suc n) high parts.1)
+within low high n is = let parts = and_parts (nat_le low n) (nat_lt n high) is in (leb-true low n parts.0, leb-true (suc n) high parts.1)
 
 -- or else a number's path
 has_path : (path : Option (List ℕ)) (key : ℕ) (name : List ℕ) → decimal key ≢ name → (option_map_or (λ p. is_end_of p name) path false || bytes_eq (decimal key) name) ≡ true →
@@ -124,9 +98,9 @@ by_type : (what : Named) (type number : ℕ) (name : List ℕ) → is_type type 
 unfolding is_type
 by_type what type number name its listed has first second third =
     let unnamed : is_named (table_of what type) number name ≡ false → ⊥ = λ e. true≢false (sym has ∙ e) in
-    elim (either _ _ its) [
+    elim (or_cases _ _ its) [
       | inl t ↦ let at = within 131073 131075 type t in unnamed (first type number at.0 at.1 listed)
-      | inr others ↦ elim (either _ _ others) [
+      | inr others ↦ elim (or_cases _ _ others) [
         | inl t ↦ let at = within 196610 196611 type t in unnamed (second type number at.0 at.1 listed)
         | inr t ↦ let at = within 262145 262157 type t in unnamed (third type number at.0 at.1 listed)
       ]
@@ -155,11 +129,11 @@ number_in (Err e) = None
 -- the number that is parsed has these digits
 pub parsed : {E : Type 0} (r : Result ℕ E) (n key : ℕ) (name text : List ℕ) (is : Bool) → r ≡ Ok n → r ≡ Ok key → text ≡ decimal n →
     is ≡ bytes_eq text name → decimal key ≡ name → is ≡ false → ⊥
-unfolding number_in value_or
+unfolding number_in
 parsed r n key name text is first second written tested digits differs =
-    let same : n ≡ key = ap (value_or 0) (ap number_in (sym first ∙ second)) in
+    let same : n ≡ key = same_Some n key (ap number_in (sym first ∙ second)) in
     true≢false (sym ((bytes_eq-Decides text name).1 (written ∙ ap decimal same ∙ digits)) ∙ sym tested ∙ differs)
 
 pub not_parsed : {E : Type 0} (r : Result ℕ E) (e : E) (key : ℕ) → r ≡ Err e → r ≡ Ok key → ⊥
 unfolding number_in
-not_parsed r e key first second = some_none key (ap number_in (sym first ∙ second))
+not_parsed r e key first second = none-some key (ap number_in (sym first ∙ second))

@@ -2,7 +2,7 @@
 use Rattle.std.proofs.Common.{◌≡◌, ◌≢◌, ℕ, ◌+◌, ◌≤◌, Bool, true, false, List, [], ◌∷◌, ◌++◌, length, take, reverse, refl, sym, ap, ◌∙◌, subst, arith, append_assoc, append-nil, length-append}
 use Rattle.std.proofs.lemmas.List.{length-reverse, reverse-append}
 use Rattle.std.specs.Borrow.{Bor}
-use Rattle.std.specs.Prelude.{Some, None, codes}
+use Rattle.std.specs.Prelude.{Some, codes}
 use Rattle.std.proofs.Math.Seq.{take-append_seam}
 use Rattle.json.specs.Json.{after_end_array}
 use Rattle.json.specs.Lex.{tokens}
@@ -14,20 +14,22 @@ use Rattle.spa_format.specs.Encoding.{encoding_of, member_encodings}
 use Rattle.spa_format.specs.Tree.{Tree, struct, struct_type, Trees, no_trees, member, join_members}
 use Rattle.spa_format.specs.Words.{header_size, word_bytes}
 use Rattle.spa_format.proofs.Encodings.{two_words_length, whole_members}
-use Rattle.spa_text_read.specs.Fitting.{Admits, AllFit, Fits}
+use Rattle.spa_format.proofs.Sequences.{join_members-none}
+use Rattle.spa_text_read.specs.Fitting.{Admits}
 use Rattle.spa_text_read.specs.Grammar.{AreMembers, ReadsAs, a_struct, begun, close, nothing, opens, tag_named, tagged_at}
 use Rattle.spa_text_read.specs.Tokens.{after_end_object, first_key, head}
 use Rattle.spa_text_read.specs.declared.fitting.Strictness.{Strictness}
 use Rattle.spa_text_read.specs.declared.tag.Tag.TheVariants as tag
 use Rattle.spa_text_read.specs.declared.fitting.Strictness.TheVariants.{Plain, Strict}
-use Rattle.spa_text_read.proofs.Completeness.{join_none, join_one}
-use Rattle.spa_text_read.proofs.Soundness.{some≢none}
+use Rattle.spa_text_read.proofs.Completeness.{join_one}
+use Rattle.spa_text_read.proofs.Strictly.{all_one}
 use Rattle.spa_text_forms.specs.Forms.{IsTextAsItStands}
 use Rattle.spa_write.specs.Nesting.{closed_at}
 use Rattle.spa_write.proofs.Nesting.{closed_whole}
 use Rattle.spa_text_commands.specs.Structs.{AddsFront, BeginsStruct, EndsStruct, IsLonger}
 use Rattle.spa_text_commands.specs.declared.structs.Open.{Open}
 use Rattle.spa_text_commands.proofs.ReadTexts.{encodings_push}
+use Rattle.spa_text.proofs.Listed.{not_ended}
 
 -- ---- Tokens
 
@@ -71,27 +73,9 @@ abbrev pub IsBehind : Strictness → List Token → List ℕ → List Open → L
 IsBehind s all base [] ts out = AddsFront s all ts base out
 IsBehind s all base (o ∷ k) ts out = IsIn s all base (o ∷ k) ts out
 
--- a value's first token is no bracket that ends an array
-not_end : (ts : List Token) (p : Token × List Token) → head ts ≡ Some p → after_end_array ts ≡ None
-not_end [] p e = refl
-not_end (Token.begin_object ∷ ts) p e = refl
-not_end (Token.end_object ∷ ts) p e = refl
-not_end (Token.begin_array ∷ ts) p e = refl
-not_end (Token.end_array ∷ ts) p e = absurd (some≢none p (sym e))
-not_end (Token.key s ∷ ts) p e = refl
-not_end (Token.string s ∷ ts) p e = refl
-not_end (Token.number s ∷ ts) p e = refl
-not_end (Token.boolean b ∷ ts) p e = refl
-not_end (Token.null ∷ ts) p e = refl
-not_end (Token.bad ∷ ts) p e = refl
-
-all_more : (vs : Trees) (v : Tree) → AllFit vs → Fits v → AllFit (join_members vs (member v no_trees))
-all_more no_trees v a w = (w, tt)
-all_more (member u vs) v a w = (a.0, all_more vs v a.1 w)
-
 admits_more : (s : Strictness) (vs : Trees) (v : Tree) → Admits s (struct vs) → Admits s v → Admits s (struct (join_members vs (member v no_trees)))
 admits_more Plain vs v a w = tt
-admits_more Strict vs v a w = all_more vs v a w
+admits_more Strict vs v a w = all_one vs v a w
 
 admits_none : (s : Strictness) → Admits s (struct no_trees)
 admits_none Plain = tt
@@ -116,7 +100,7 @@ member_read s all ts us base out new o k so a = by_frames so.frames so.leads so.
     by_frames (vs ∷ fs) l m = record {
       frames = join_members vs (member a.0 no_trees) ∷ fs;
       leads = λ w rest ws ls xs ms c e.
-          l w rest (member a.0 ws) ls xs (a.1.0, a.1.1, us, not_end ts (a.1.0, a.1.1) a.1.2, a.1.2, a.1.3, ms) c
+          l w rest (member a.0 ws) ls xs (a.1.0, a.1.1, us, not_ended ts (a.1.0, a.1.1) a.1.2, a.1.2, a.1.3, ms) c
           (subst (λ x. Ends k fs (struct x) xs w rest) (join_one vs a.0 ws) e);
       made = (m.0, m.1, m.2, admits_more s vs a.0 m.3 a.2, made_more m.0 out new vs a.0 m.4 a.3);
     }
@@ -141,7 +125,7 @@ struct_begun s all ts us base out new o k so b start n = by_opens k so.frames so
       frames = no_trees ∷ vs ∷ fs;
       leads = λ v rest ws ls xs ms c e.
           l v rest (member (struct ws) e.0) e.1 e.2
-          (b.0, b.1, xs, not_end ts (b.0, b.1) b.2, b.2, (o.braced, us, ls, b.3, ms, c), e.3) e.4 e.5;
+          (b.0, b.1, xs, not_ended ts (b.0, b.1) b.2, b.2, (o.braced, us, ls, b.3, ms, c), e.3) e.4 e.5;
       made = (out, m, start, admits_none s, n ∙ ap (λ l. out ++ l) (sym (append-nil (word_bytes 0 ++ word_bytes struct_type))));
     }
 
@@ -159,7 +143,7 @@ struct_ended s all ts us base out new o k so b n = by_opens k so.frames so.leads
     by_opens k [] l m = absurd m
     by_opens [] (vs ∷ []) l m = (
       struct vs,
-      l (struct vs) us no_trees b.0 us b.1 b.2 (ap struct (join_none vs), refl),
+      l (struct vs) us no_trees b.0 us b.1 b.2 (ap struct (join_members-none vs), refl),
       m.3,
       closed vs m.0 m.2 m.4 ∙ ap (λ x. x ++ encoding_of (struct vs)) m.1,
     )
@@ -174,7 +158,7 @@ struct_ended s all ts us base out new o k so b n = by_opens k so.frames so.leads
             ys,
             ms,
             c,
-            subst (λ t. Ends k fs (struct (join_members ws (member (struct t) xs))) ys v rest) (sym (join_none vs))
+            subst (λ t. Ends k fs (struct (join_members ws (member (struct t) xs))) ys v rest) (sym (join_members-none vs))
                 (subst (λ t. Ends k fs (struct t) ys v rest) (join_one ws (struct vs) xs) e),
           );
       made = (

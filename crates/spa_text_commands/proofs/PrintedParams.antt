@@ -2,7 +2,7 @@
 use Rattle.std.proofs.Common.{◌≡◌, ◌<◌, ℕ, suc, Bool, true, Vec, List, [], ◌∷◌, ◌++◌, refl, sym, arith, length, ◌∙◌, ap, subst, append_assoc, append-nil}
 use Rattle.std.specs.Borrow.{Bor}
 use Rattle.std.specs.Prelude.{Result, Ok, Err, IfOk}
-use Rattle.std.proofs.lemmas.List.{length-append}
+use Rattle.std.proofs.lemmas.List.{length-append, nil_from_length}
 use Rattle.json.proofs.Numbered.{ArePrintableOrBad-tokens}
 use Rattle.json.proofs.Trees.{view-Array, view-Object}
 use Rattle.json.specs.Json.{array, no_members, object}
@@ -26,7 +26,7 @@ use Rattle.spa_text_commands.specs.declared.answer.Failure.TheVariants.{NoPods, 
 use Rattle.spa_text_commands.specs.declared.answer.Failure.{Failure}
 use Rattle.spa_text_commands.specs.declared.params.Unprinted.{Unprinted}
 use Rattle.spa_text_commands.proofs.Differing.{are_same}
-use Rattle.spa_text_commands.proofs.PrintedPods.{empty, front_passed, stops_whole}
+use Rattle.spa_text_commands.proofs.PrintedPods.{front_passed, stops_whole}
 
 -- how far the loop over pods is: some first ones are printed, and this is left
 pub record ParamsSoFar (start left out : List ℕ) : Type 0 where
@@ -63,7 +63,7 @@ goes_on start left rest out more v so b behind h = record {
 
 pub ends : (start left out : List ℕ) → ParamsSoFar start left out → length left ≡ 0 → PrintsParams start out
 ends start left out so e =
-    let all : start ≡ so.first = so.whole ∙ ap (λ l. so.first ++ l) (empty left e) ∙ append-nil so.first in
+    let all : start ≡ so.first = so.whole ∙ ap (λ l. so.first ++ l) (nil_from_length left e) ∙ append-nil so.first in
     (so.values, subst (AreMembers so.values) (sym all) so.members, so.params)
 
 pub stops : (start left out : List ℕ) → ParamsSoFar start left out → ¬ (length left ≡ 0) → IsNoFront left NoPods → HasRefused start

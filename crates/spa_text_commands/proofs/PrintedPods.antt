@@ -1,8 +1,7 @@
 -- What is printed, pod by pod.
 use Rattle.std.proofs.Common.{◌≡◌, ℕ, List, [], ◌∷◌, ◌++◌, refl, sym, arith, length, ◌∙◌, ap, subst, append_assoc, append-nil}
-use Rattle.std.specs.Prelude.{Result, Ok, Err, IfErr, Option, None, Some, codes}
-use Rattle.std.specs.Result.{IsErrAnd}
-use Rattle.std.proofs.lemmas.List.{take-append-drop}
+use Rattle.std.specs.Prelude.{Option, None, Some, codes}
+use Rattle.std.proofs.lemmas.List.{take-append-drop, nil_from_length}
 use Rattle.spa_format.specs.Words.{extent, word_at}
 use Rattle.spa_format.specs.Front.{Begins, front_of, rest_of}
 use Rattle.spa_format.specs.Pod.{AreMembers}
@@ -117,14 +116,10 @@ goes_on IsText start left rest old out more v so b behind t =
       made = t.1 ∙ ap (λ l. l ++ line) so.made ∙ append_assoc old so.lines line;
     }
 
-pub empty : (xs : List ℕ) → length xs ≡ 0 → xs ≡ []
-empty [] e = refl
-empty (x ∷ xs) e = absurd (omega (arith, e))
-
 pub ends : (IsText : Tree → List ℕ → Type 0) (start left old out : List ℕ) → PrintedSoFar IsText start left old out → length left ≡ 0 →
     AddsTexts IsText start old out
 ends IsText start left old out so e =
-    let all : start ≡ so.first = so.whole ∙ ap (λ l. so.first ++ l) (empty left e) ∙ append-nil so.first in
+    let all : start ≡ so.first = so.whole ∙ ap (λ l. so.first ++ l) (nil_from_length left e) ∙ append-nil so.first in
     (so.values, so.lines, subst (AreMembers so.values) (sym all) so.members, so.texts, so.made)
 
 pub stops : (IsText : Tree → List ℕ → Type 0) (start left old out : List ℕ) (why : Failure) → PrintedSoFar IsText start left old out →
@@ -136,11 +131,6 @@ stops IsText start left old out WriteFailed so some h = absurd h
 
 pub runs_out : (start : List ℕ) (why : Failure) → why ≡ OutOfMemory → IsStopped start why
 runs_out start why e = subst (IsStopped start) (sym e) tt
-
--- a refusal that is handed on
-pub err_by : {T : Type 0} (P : Failure → Type 0) (r : Result T Failure) (why : Failure) → IsErrAnd r (λ w. w ≡ why) → P why → IfErr r P
-err_by P (Ok x) why h p = absurd h
-err_by P (Err w) why h p = subst P (sym h) p
 
 -- behind first pods it stops in the whole
 pub stops_whole : (input first left : List ℕ) (vs : Trees) (why : Failure) → input ≡ first ++ left → AreMembers vs first → IsStopped left why →

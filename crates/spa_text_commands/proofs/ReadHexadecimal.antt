@@ -1,5 +1,6 @@
 -- Lines of digits, read byte by byte.
 use Rattle.std.proofs.Common.{◌≡◌, ◌≢◌, ◌≤◌, ◌<◌, ℕ, ◌+◌, ◌-◌, ◌*◌, List, [], ◌∷◌, ◌++◌, refl, sym, arith, length, drop, ◌∙◌, ap, subst, append_assoc, append-nil, length-drop}
+use Rattle.std.proofs.lemmas.List.{nil_from_length}
 use Rattle.std.specs.Prelude.{Bool, true, false, ◌==◌, ◌&&◌, if◌then◌else◌, Option, Some, None, is_none, is_some}
 use Rattle.hex.specs.Hex.{hex_digit_value}
 use Rattle.spa_text_commands.specs.Texts.{is_space}
@@ -8,7 +9,6 @@ use Rattle.spa_text_commands.specs.ReadingHexadecimal.{IsLineAt, IsNext, SaysMor
 use Rattle.spa_text_commands.specs.declared.answer.Failure.{Failure}
 use Rattle.spa_text_commands.specs.declared.answer.Failure.TheVariants.{NoPods, Line, OutOfMemory, WriteFailed}
 use Rattle.spa_text_commands.specs.declared.hexadecimal.Next.TheVariants.{End, Between, Byte, Other}
-use Rattle.spa_text_commands.proofs.PrintedPods.{empty}
 
 -- ---- The first line
 
@@ -40,7 +40,7 @@ space_ended text left behind x b so e t d =
     e ∙ sym (so ∙ ap behind_space e ∙ ap (λ c. if c then behind_space behind else x ∷ behind) (sym t ∙ d))
 
 pub space_all : (text left : List ℕ) → behind_space text ≡ behind_space left → length left ≡ 0 → left ≡ behind_space text
-space_all text left so e = let none = empty left e in none ∙ sym (so ∙ ap behind_space none)
+space_all text left so e = let none = nil_from_length left e in none ∙ sym (so ∙ ap behind_space none)
 
 is_digit-none : (v : Option ℕ) (b : Bool) → is_none v ≡ b → is_some v ≡ (if b then false else true)
 is_digit-none None b e = ap (λ c. if c then false else true) e
@@ -62,7 +62,7 @@ digit_ended text left behind x v so e t d =
     e ∙ sym (so ∙ ap behind_digits e ∙ ap (λ c. if c then behind_digits behind else x ∷ behind) (ap is_some (sym t) ∙ is_digit-none v true d))
 
 pub digits_all : (text left : List ℕ) → behind_digits text ≡ behind_digits left → length left ≡ 0 → left ≡ behind_digits text
-digits_all text left so e = let none = empty left e in none ∙ sym (so ∙ ap behind_digits none)
+digits_all text left so e = let none = nil_from_length left e in none ∙ sym (so ∙ ap behind_digits none)
 
 -- ---- The loop over a row
 
@@ -123,7 +123,7 @@ pub other_reached : (b : Bool) (row left behind old now : List ℕ) (x : ℕ) �
 other_reached b row left behind old now x so e n = says_more b row left old now left (length left) so (ap (said b) e ∙ n ∙ ap (λ l. ([], l)) (sym e)) refl
 
 pub end_reached : (b : Bool) (row left old now : List ℕ) → SaidSoFar b row left old now → length left ≡ 0 → SaysMore (said b row) old now 0
-end_reached b row left old now so e = says_more b row left old now [] 0 so (ap (said b) (empty left e)) refl
+end_reached b row left old now so e = says_more b row left old now [] 0 so (ap (said b) (nil_from_length left e)) refl
 
 -- ---- What stands next
 
@@ -185,11 +185,11 @@ no_low_next b t u x y xs ys high e l h i k f g =
 
 -- the last byte of a row
 pub last_ends : (b t : Bool) (x : ℕ) (xs : List ℕ) → length xs ≡ 0 → t ≡ ends_row x → t ≡ true → IsNext b x xs End
-last_ends b t x xs e l h = ap (λ r. said b (x ∷ r)) (empty xs e) ∙ ap (λ c. if c then ([], []) else ([], x ∷ [])) (sym l ∙ h)
+last_ends b t x xs e l h = ap (λ r. said b (x ∷ r)) (nil_from_length xs e) ∙ ap (λ c. if c then ([], []) else ([], x ∷ [])) (sym l ∙ h)
 
 pub last_other : (b t : Bool) (x : ℕ) (xs : List ℕ) → length xs ≡ 0 → t ≡ ends_row x → t ≡ false → IsNext b x xs Other
 last_other b t x xs e l h =
-    ap (λ r. said b (x ∷ r)) (empty xs e) ∙ ap (λ c. if c then ([], []) else ([], x ∷ [])) (sym l ∙ h) ∙ ap (λ r. ([], x ∷ r)) (sym (empty xs e))
+    ap (λ r. said b (x ∷ r)) (nil_from_length xs e) ∙ ap (λ c. if c then ([], []) else ([], x ∷ [])) (sym l ∙ h) ∙ ap (λ r. ([], x ∷ r)) (sym (nil_from_length xs e))
 
 -- ---- Where the bytes of a row begin
 
@@ -229,7 +229,7 @@ line_said input left behind bytes new line lines unread offsets so n e b o s z =
     let few = so.few in
     let l = fewer_behind left n in
     let f = ap length b in
-    let done : (said_in (first_has_offset input) (first_line left)).1 ≡ [] = empty _ (sym (ap (λ p. length p.1) same) ∙ sym s.1 ∙ z) in
+    let done : (said_in (first_has_offset input) (first_line left)).1 ≡ [] = nil_from_length _ (sym (ap (λ p. length p.1) same) ∙ sym s.1 ∙ z) in
     record {
       begin =
           subst (λ r. BeginLines (first_has_offset input) input (lines + 1) new r) (sym b)
@@ -239,7 +239,7 @@ line_said input left behind bytes new line lines unread offsets so n e b o s z =
     }
 
 pub all_said : (input left bytes : List ℕ) (lines : ℕ) → LinesSoFar input left bytes lines → length left ≡ 0 → ReadsHexadecimal input bytes
-all_said input left bytes lines so e = (lines, subst (BeginLines (first_has_offset input) input lines bytes) (empty left e) so.begin)
+all_said input left bytes lines so e = (lines, subst (BeginLines (first_has_offset input) input lines bytes) (nil_from_length left e) so.begin)
 
 some_left : (xs : List ℕ) → 0 < length xs → xs ≢ []
 some_left xs h = λ e. let l = ap length e in omega (arith, l, h)

@@ -5,8 +5,9 @@ use Rattle.std.specs.Str.{IsUtf8}
 use Rattle.spa_format.specs.Encoding.{encoding_of, member_encodings}
 use Rattle.spa_format.specs.Tree.{Tree, Trees, no_trees, member, join_members}
 use Rattle.spa_format.specs.Writable.{HasNul, IsTooLarge}
+use Rattle.spa_format.proofs.Encodings.{member_encodings-join}
 use Rattle.std.proofs.Math.Seq.{take-append_seam}
-use Rattle.std.proofs.lemmas.List.{length-take-le, take-append-drop}
+use Rattle.std.proofs.lemmas.List.{length-take-le, take-append-drop, nil_from_length}
 use Rattle.spa_text_commands.specs.Extent.{BeginsText, column_behind, line_behind}
 use Rattle.spa_text_forms.specs.Forms.{IsTextAs, IsTextAsItStands}
 use Rattle.spa_text_forms.specs.declared.form.Form.{Form}
@@ -25,7 +26,6 @@ use Rattle.spa_text_commands.specs.declared.reading.Unread.TheVariants as unread
 use Rattle.spa_text_read.specs.declared.cause.Cause.{Cause}
 use Rattle.spa_text_read.specs.declared.cause.Cause.TheVariants as cause
 use Rattle.spa_text_commands.proofs.Extents.{some_item, text_fits, whole_of}
-use Rattle.spa_text_commands.proofs.PrintedPods.{empty}
 use Rattle.spa_text_commands.proofs.WholeLines.{line_begins}
 
 -- ---- Values
@@ -41,17 +41,12 @@ pub record ReadSoFar (f : Form) (input left pods : List ℕ) : Type 0 where
 pub begins : (f : Form) (input pods : List ℕ) → pods ≡ [] → ReadSoFar f input input pods
 begins f input pods e = record { values = no_trees; before = []; whole = refl; texts = nothing_read; made = e }
 
-encodings_join : (vs ws : Trees) → member_encodings (join_members vs ws) ≡ member_encodings vs ++ member_encodings ws
-encodings_join no_trees ws = refl
-encodings_join (member v vs) ws =
-    ap (λ l. encoding_of v ++ l) (encodings_join vs ws) ∙ sym (append_assoc (encoding_of v) (member_encodings vs) (member_encodings ws))
-
 pub encodings_push : (vs : Trees) (v : Tree) → member_encodings (join_members vs (member v no_trees)) ≡ member_encodings vs ++ encoding_of v
-encodings_push vs v = encodings_join vs (member v no_trees) ∙ ap (λ l. member_encodings vs ++ l) (append-nil (encoding_of v))
+encodings_push vs v = member_encodings-join vs (member v no_trees) ∙ ap (λ l. member_encodings vs ++ l) (append-nil (encoding_of v))
 
 more_made : (vs ws : Trees) (pods more : List ℕ) → pods ≡ member_encodings vs → more ≡ pods ++ member_encodings ws →
     more ≡ member_encodings (join_members vs ws)
-more_made vs ws pods more e m = m ∙ ap (λ l. l ++ member_encodings ws) e ∙ sym (encodings_join vs ws)
+more_made vs ws pods more e m = m ∙ ap (λ l. l ++ member_encodings ws) e ∙ sym (member_encodings-join vs ws)
 
 -- what stands before what is left, with one text more
 passed : (input before left text behind : List ℕ) → input ≡ before ++ left → BeginsText left text behind → (more : List ℕ) × (input ≡ more ++ behind)
@@ -101,7 +96,7 @@ before_is f input left pods so =
     ap (λ k. take k input) n ∙ ap (λ l. take (length so.before) l) so.whole ∙ take-append_seam so.before left
 
 pub ends : (f : Form) (input left pods : List ℕ) → ReadSoFar f input left pods → length left ≡ 0 → ReadsTexts f input pods
-ends f input left pods so e = (so.values, subst (BeginTexts f input so.values) (empty left e) so.texts, so.made)
+ends f input left pods so e = (so.values, subst (BeginTexts f input so.values) (nil_from_length left e) so.texts, so.made)
 
 -- ---- Refusals
 

@@ -1,5 +1,6 @@
 -- What is added, line by line and pod by pod.
 use Rattle.std.specs.Io.KnownBytes.{Appends, Keeps}
+pub use Rattle.std.proofs.KnownBytes.{Appends-kept as appends_keeps, Keeps-refl as keeps_itself, Keeps-trans as keeps_keeps}
 use Rattle.std.proofs.Common.{◌≡◌, ◌≤◌, ◌<◌, ℕ, ◌+◌, ◌-◌, ◌^◌, List, [], ◌∷◌, ◌++◌, Option, Some, None, refl, sym, inl, inr, arith, take, length, ◌∙◌, ap, subst, length-drop, append_assoc, append-nil}
 use Rattle.std.specs.Prelude.{Result, Ok, Err, OnOk}
 use Rattle.std.proofs.lemmas.List.{length-take-le, take_all}
@@ -16,22 +17,6 @@ use Rattle.spa_text_commands.specs.declared.selection.Printout.{Printout}
 use Rattle.spa_text_commands.specs.declared.showing.Listed.{Listed}
 
 -- ---- Writers
-
-pub appends_keeps : (a b c : Option (List ℕ)) (xs : List ℕ) → Appends a b xs → Keeps b c → Appends a c xs
-appends_keeps None b c xs k l = tt
-appends_keeps (Some a) None c xs k l = absurd k
-appends_keeps (Some a) (Some b) None xs k l = absurd l
-appends_keeps (Some a) (Some b) (Some c) xs k l = l ∙ k
-
-pub keeps_itself : (a : Option (List ℕ)) → Keeps a a
-keeps_itself None = tt
-keeps_itself (Some a) = refl
-
-pub keeps_keeps : (a b c : Option (List ℕ)) → Keeps a b → Keeps b c → Keeps a c
-keeps_keeps None b c k l = tt
-keeps_keeps (Some a) None c k l = absurd k
-keeps_keeps (Some a) (Some b) None k l = absurd l
-keeps_keeps (Some a) (Some b) (Some c) k l = l ∙ k
 
 pub keeps_appends : (a b c : Option (List ℕ)) (xs : List ℕ) → Keeps a b → Appends b c xs → Appends a c xs
 keeps_appends None b c xs k l = tt
@@ -156,13 +141,6 @@ front_length b h =
     let l : length (front_of b) ≡ extent (word_at b 0) = length-take-le (extent (word_at b 0)) b w in
     let d : length (rest_of b) ≡ length b - extent (word_at b 0) = length-drop (extent (word_at b 0)) b in
     (omega (arith, l, d, w), omega (arith, l))
-
-pub shrinks : (b behind : List ℕ) → HasFront b → behind ≡ rest_of b → length behind < length b
-shrinks b behind h e =
-    let d = front_length b h in
-    let s = d.0 in
-    let t = d.1 in
-    let l = ap length e in omega (arith, s, t, l)
 
 pub one_passed : (start : ℕ) (bytes left behind pod : List ℕ) (count refused more : ℕ) → HasFront left → pod ≡ front_of left → behind ≡ rest_of left →
     more ≤ length pod → Passed start bytes left count refused → Passed start bytes behind (count + 1) (refused + more)

@@ -2,10 +2,10 @@
 use Rattle.std.proofs.Common.{◌≡◌, ◌≢◌, ◌≤◌, ◌<◌, ◌+◌, ◌∙◌, Bool, true, false, ℕ, suc, List, [], ◌∷◌, ◌++◌, ap, append_assoc, append-nil, arith, eqb, get_or, drop, inl, inr, length, length-append, length-drop, refl, subst, sym, take}
 use Rattle.std.proofs.Math.ListN.{get_or-append}
 use Rattle.std.proofs.Math.Seq.{get_or-append_seam}
-use Rattle.std.proofs.lemmas.Bool.{cases_lt, eqb-false, eqb-true}
+use Rattle.std.proofs.lemmas.Bool.{cases_lt, eqb-false, eqb-true, lt-ltb}
 use Rattle.std.proofs.lemmas.List.{nil_from_length, take_all}
 use Rattle.std.proofs.lemmas.List.Sums.{count_by_more_no, count_by_more_yes}
-use Rattle.std.specs.Prelude.{◌⊎◌, if◌then◌else◌, nat_eq, nat_lt}
+use Rattle.std.specs.Prelude.{◌⊎◌, if◌then◌else◌, nat_eq}
 use Rattle.spa_events.specs.declared.event.Event.{Event}
 use Rattle.spa_text_commands.specs.Numbers.{AreNumbers, IsCountedIn}
 use Rattle.spa_text_commands.specs.Paths.{count_in, event_at, path_to, step_in, step_to}
@@ -92,9 +92,6 @@ written_slice new old n l e =
 
 -- ---- Steps
 
-inside : (n m : ℕ) → n < m → nat_lt n m ≡ true
-inside n m h = grind (arith, h)
-
 -- a step behind those to the pod that this one is in
 behind_step : (limit less : ℕ) (events : List Event) (numbers pod old mid new : List ℕ) (number : ℕ) → AreNumbers events numbers → number < length events →
     (event_at events number).parent < length events → less + 1 ≡ limit → mid ≡ old ++ path_to less events pod (event_at events number).parent →
@@ -109,7 +106,7 @@ behind_step limit less events numbers pod old mid new number are there h l m e =
     e ∙ ap (λ n. mid ++ step_in pod holder event n) (are.counts number there h)
     ∙ ap (λ z. z ++ step_to events pod number) m ∙ append_assoc old before (step_to events pod number)
     ∙ sym (ap (λ n. old ++ path_to n events pod number) is
-    ∙ ap (λ b. old ++ (if b then before ++ step_to events pod number else [])) (inside parent (length events) h))
+    ∙ ap (λ b. old ++ (if b then before ++ step_to events pod number else [])) (lt-ltb parent (length events) h))
 
 pub next_step : (limit less : ℕ) (events : List Event) (numbers pod old mid new : List ℕ) (number count : ℕ) (holder event : Event) → AreNumbers events numbers →
     number < length events → event ≡ event_at events number → event.parent < length events → holder ≡ event_at events event.parent →

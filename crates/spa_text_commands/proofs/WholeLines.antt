@@ -1,9 +1,9 @@
 -- A line that is read is a text: no bracket is open behind it.
 use Rattle.std.proofs.Common.{◌≡◌, ◌≢◌, ℕ, ◌+◌, ◌-◌, Bool, true, false, List, [], ◌∷◌, ◌++◌, refl, sym, ap, ◌∙◌, subst, inl, inr, cond, arith, drop, take}
-use Rattle.std.proofs.lemmas.Bool.Decides.{nat_tests}
-use Rattle.std.proofs.lemmas.Bool.{true≢false, and_parts, eqb-true, or_cases}
+use Rattle.std.proofs.lemmas.Bool.{true≢false, and_parts, eqb-true, or_cases, ne_eqb}
 use Rattle.std.proofs.lemmas.List.{take-append-drop}
 use Rattle.std.proofs.lemmas.Slice.Eq.{bytes_eq-Decides}
+use Rattle.std.proofs.lemmas.Option.{same_Some, none-some}
 use Rattle.std.specs.Char.{is_ascii_digit}
 use Rattle.std.specs.Prelude.{⊤, ◌⊎◌, length, nat_eq, Option, Some, None, option_and_then, zero, suc, ◌==◌, ◌&&◌, ◌||◌, if◌then◌else◌}
 use Rattle.std.specs.List.{prefix_len, starts_with}
@@ -20,7 +20,7 @@ use Rattle.spa_text_forms.specs.Forms.{IsTextAs, IsTextInOrder}
 use Rattle.spa_text_forms.specs.declared.form.Form.{Form}
 use Rattle.spa_text_forms.specs.declared.form.Form.TheVariants.{Named, Dump}
 use Rattle.spa_text_read.specs.Options.{and_then}
-use Rattle.spa_text_read.proofs.Soundness.{some≢none, the_same, mapped}
+use Rattle.spa_text_read.proofs.Soundness.{mapped}
 use Rattle.spa_text_commands.specs.Extent.{BeginsText, Place, outside, within, escaped, behind_text, first_text, open_behind, place_behind}
 use Rattle.spa_text_commands.specs.Texts.{is_blank}
 use Rattle.spa_text_commands.specs.Hexadecimal.{behind_line, first_line}
@@ -29,7 +29,7 @@ use Rattle.spa_text_commands.proofs.Closing.{Closes, Ends, tokens_closed, Keeps,
 -- ---- JSON
 
 then_bound : {A B : Type 0} (o : Option A) (f : A → Option B) (y : B) → option_and_then f o ≡ Some y → (x : A) × (o ≡ Some x) × (f x ≡ Some y)
-then_bound None f y e = absurd (some≢none y (sym e))
+then_bound None f y e = absurd (none-some y e)
 then_bound (Some x) f y e = (x, refl, e)
 
 -- what a parser reads leaves as many brackets open, or one fewer
@@ -41,7 +41,7 @@ ClosesAll {A} f = (x : A) (ts us : List Token) → f ts ≡ Some (x, us) → Clo
 
 item_closed : (f : Parse Json) (g : Parse Items) (x : Items) (ts us : List Token) (o : Option (List Token)) → KeepsAll f → ClosesAll g →
     after_end_array ts ≡ o → items_step f g ts o ≡ Some (x, us) → Closes ts us
-item_closed f g x ts us (Some rest) k c d e = subst (Closes ts) (ap (λ p. p.1) (the_same (json.no_items, rest) (x, us) e)) (closed_array ts rest d)
+item_closed f g x ts us (Some rest) k c d e = subst (Closes ts) (ap (λ p. p.1) (same_Some (json.no_items, rest) (x, us) e)) (closed_array ts rest d)
 item_closed f g x ts us None k c d e =
     let a = then_bound (f ts) _ (x, us) e in
     let b = mapped (g a.0.1) _ (x, us) a.2 in
@@ -49,12 +49,12 @@ item_closed f g x ts us None k c d e =
 
 items_closed : (f : Parse Json) (n : ℕ) → KeepsAll f → ClosesAll (json.items f n)
 unfolding json.items
-items_closed f zero k = λ x ts us e. absurd (some≢none (x, us) (sym e))
+items_closed f zero k = λ x ts us e. absurd (none-some (x, us) e)
 items_closed f (suc n) k = λ x ts us e. item_closed f (json.items f n) x ts us (after_end_array ts) k (items_closed f n k) refl e
 
 member_closed : (f : Parse Json) (g : Parse Members) (x : Members) (o : Option (List ℕ)) (ts vs us : List Token) → KeepsAll f → ClosesAll g →
     read_key ts ≡ Some (o, vs) → members_step f g o vs ≡ Some (x, us) → Closes ts us
-member_closed f g x None ts vs us k c d e = subst (Closes ts) (ap (λ p. p.1) (the_same (json.no_members, vs) (x, us) e)) (last_key ts vs d)
+member_closed f g x None ts vs us k c d e = subst (Closes ts) (ap (λ p. p.1) (same_Some (json.no_members, vs) (x, us) e)) (last_key ts vs d)
 member_closed f g x (Some s) ts vs us k c d e =
     let a = then_bound (f vs) _ (x, us) e in
     let b = mapped (g a.0.1) _ (x, us) a.2 in
@@ -63,7 +63,7 @@ member_closed f g x (Some s) ts vs us k c d e =
 
 members_closed : (f : Parse Json) (n : ℕ) → KeepsAll f → ClosesAll (json.members f n)
 unfolding json.members
-members_closed f zero k = λ x ts us e. absurd (some≢none (x, us) (sym e))
+members_closed f zero k = λ x ts us e. absurd (none-some (x, us) e)
 members_closed f (suc n) k = λ x ts us e.
     let a = then_bound (read_key ts) _ (x, us) e in
     member_closed f (json.members f n) x a.0.0 ts a.0.1 us k (members_closed f n k) a.1 a.2
@@ -73,7 +73,7 @@ ended : {A : Type 0} (g : A → Json) (r : Option (A × List Token)) (j : Json) 
 ended g r j ts us k e = let a = mapped r _ (j, us) e in subst (Keeps ts) (ap (λ p. p.1) a.2) (k a.0.0 a.0.1 a.1)
 
 one : (i j : Json) (ts us : List Token) → and_then ts (Some i) ≡ Some (j, us) → Keeps ts us
-one i j ts us e = λ n h. subst (Ends n) (sym (ap (λ p. p.1) (the_same (i, ts) (j, us) e))) h
+one i j ts us e = λ n h. subst (Ends n) (sym (ap (λ p. p.1) (same_Some (i, ts) (j, us) e))) h
 
 value_with_kept : (a : Parse Items) (o : Parse Members) → ClosesAll a → ClosesAll o → KeepsAll (value_with a o)
 value_with_kept a o ca co j (Token.begin_object ∷ ts) us e = ended json.object (o ts) j (Token.begin_object ∷ ts) us (λ x vs r n h. co x ts vs r n h) e
@@ -82,18 +82,18 @@ value_with_kept a o ca co j (Token.string s ∷ ts) us e = one (json.string s) j
 value_with_kept a o ca co j (Token.number s ∷ ts) us e = one (json.number s) j ts us e
 value_with_kept a o ca co j (Token.boolean b ∷ ts) us e = one (json.boolean b) j ts us e
 value_with_kept a o ca co j (Token.null ∷ ts) us e = one json.null j ts us e
-value_with_kept a o ca co j _ us e = absurd (some≢none (j, us) (sym e))
+value_with_kept a o ca co j _ us e = absurd (none-some (j, us) e)
 
 value_kept : (depth : ℕ) → KeepsAll (json.value depth)
 unfolding json.value
-value_kept zero = value_with_kept _ _ (λ x ts us e. absurd (some≢none (x, us) (sym e))) (λ x ts us e. absurd (some≢none (x, us) (sym e)))
+value_kept zero = value_with_kept _ _ (λ x ts us e. absurd (none-some (x, us) e)) (λ x ts us e. absurd (none-some (x, us) e))
 value_kept (suc depth) =
     value_with_kept _ _ (λ x ts us e. items_closed (json.value depth) _ (value_kept depth) x ts us e)
     (λ x ts us e. members_closed (json.value depth) _ (value_kept depth) x ts us e)
 
 nothing_left : (i j : Json) (us : List Token) → if_last i us ≡ Some j → us ≡ []
 nothing_left i j [] e = refl
-nothing_left i j (t ∷ ts) e = absurd (some≢none j (sym e))
+nothing_left i j (t ∷ ts) e = absurd (none-some j e)
 
 -- a document leaves none open
 document_closed : (j : Json) (text : List ℕ) → document text ≡ Some j → Ends 0 (tokens text)
@@ -340,14 +340,11 @@ word_is t =
 
 -- ---- Bytes and lexemes
 
-is_none : (x y : ℕ) → x ≢ y → (x == y) ≡ false
-is_none x y h = grind (arith, nat_tests)
-
 stays : (x : ℕ) → x ≢ 34 → x ≢ 92 → x ≢ 10 → place_behind within x ≡ within
 stays x q s f =
-    ap (λ b. if b || x == 10 then outside else if x == 92 then escaped else within) (is_none x 34 q)
-    ∙ ap (λ b. if b then outside else if x == 92 then escaped else within) (is_none x 10 f)
-    ∙ ap (λ b. if b then escaped else within) (is_none x 92 s)
+    ap (λ b. if b || x == 10 then outside else if x == 92 then escaped else within) (ne_eqb x 34 q)
+    ∙ ap (λ b. if b then outside else if x == 92 then escaped else within) (ne_eqb x 10 f)
+    ∙ ap (λ b. if b then escaped else within) (ne_eqb x 92 s)
 
 -- no quote stands in the rest of a word
 abbrev Fits : Mode → List ℕ → Type 0
@@ -453,7 +450,7 @@ step in_string lexing.space x n xs e f fits go h =
 step in_string lexing.other x n xs e f fits go h =
     string_byte x n xs f (λ z. let p : lexing.quote ≡ lexing.other = sym (ap class z) ∙ e in cc)
     (λ z. let p : lexing.backslash ≡ lexing.other = sym (ap class z) ∙ e in cc) (go in_string n tt h)
-step in_escape c x n xs e f fits go h = subst (λ b. Closed (if b then outside else within) n xs) (sym (is_none x 10 f)) (go in_string n tt h)
+step in_escape c x n xs e f fits go h = subst (λ b. Closed (if b then outside else within) n xs) (sym (ne_eqb x 10 f)) (go in_string n tt h)
 
 read : (m : Mode) (n : ℕ) (xs : List ℕ) → HasNoEnd xs → Fits m xs → Leaves n (lex m xs) → Closed (at m) n xs
 unfolding lex

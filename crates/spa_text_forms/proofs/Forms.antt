@@ -1,5 +1,6 @@
 -- Texts as they stand and in order.
-use Rattle.std.proofs.Common.{◌≡◌, ℕ, List, [], Option, Some, None, ap, ◌∙◌, sym, subst, inl, inr, is_some, true≢false}
+use Rattle.std.proofs.Common.{◌≡◌, ℕ, List, [], Option, Some, None, ap, ◌∙◌, sym, subst, inl, inr}
+use Rattle.std.proofs.lemmas.Option.{none-some}
 use Rattle.json.specs.Json.{Json, document}
 use Rattle.json.specs.Lex.{tokens}
 use Rattle.spa_format.specs.Tree.{Tree}
@@ -37,11 +38,8 @@ none_in_order f text other given o e none v t =
     let same = one_json o.0 t.0 (document text) o.1 t.1 in
     none v (subst (λ ts. ReadsAs nothing v ts []) (ap (tokens_in f) same ∙ sym (ap tokens e ∙ o.2)) t.2) t.3
 
-none_some : (j : Json) → None ≡ Some j → ⊥
-none_some j e = true≢false (sym (ap is_some e))
-
 pub no_json : (f : Form) (text : List ℕ) → document text ≡ None → (v : Tree) → ¬ (IsTextInOrder f v text)
-no_json f text n v t = none_some t.0 (sym n ∙ t.1)
+no_json f text n v t = none-some t.0 (sym n ∙ t.1)
 
 pub place : (f : Form) (text path : List ℕ) → IsPlace (tokens text) path → IsPlaceFor f text path
 place f text path p = inl p

@@ -6,6 +6,7 @@ use Rattle.json.specs.Token.{Token}
 use Rattle.json.specs.Json.{after_end_array, read_key}
 use Rattle.spa_format.specs.Kind.{Kind, Fixed, kind_of}
 use Rattle.spa_format.specs.Tree.{Shape, Tree, fixed, array, choice, struct, object, bytes, bitmap, pointer, Trees, no_trees, member, Properties, no_properties, property, join_members, join_properties}
+use Rattle.spa_format.proofs.Sequences.{join_members-none, join_properties-none}
 use Rattle.spa_value.specs.Equality.{kind_eq}
 use Rattle.spa_names.specs.declared.entry.Expected.{Expected}
 use Rattle.spa_names.specs.declared.table.Table.{Table}
@@ -16,17 +17,9 @@ use Rattle.spa_text_read.specs.Grammar.{opens, close, element, nothing, property
 use Rattle.spa_text_read.specs.Steps.{Frame, in_struct, in_array, in_choice, in_object, Runs, stops, finishes, goes_on, Step, refused, done, goes, Follows, step, Next, ended, wants, expects, ends, value_of, next, next_item, next_property, give, give_ended, after_next, after_opening, after_put, put, started, ComesTo}
 
 -- one list of members behind another
-pub join_none : (vs : Trees) → join_members vs no_trees ≡ vs
-join_none no_trees = refl
-join_none (member v vs) = ap (member v) (join_none vs)
-
 pub join_one : (vs : Trees) (v : Tree) (ws : Trees) → join_members (join_members vs (member v no_trees)) ws ≡ join_members vs (member v ws)
 join_one no_trees v ws = refl
 join_one (member u vs) v ws = ap (member u) (join_one vs v ws)
-
-pub join_no_properties : (ps : Properties) → join_properties ps no_properties ≡ ps
-join_no_properties no_properties = refl
-join_no_properties (property k f v ps) = ap (property k f v) (join_no_properties ps)
 
 pub join_one_property : (ps : Properties) (k f : ℕ) (v : Tree) (qs : Properties) →
     join_properties (join_properties ps (property k f v no_properties)) qs ≡ join_properties ps (property k f v qs)
@@ -143,7 +136,7 @@ mutual
       let n = struct_next b before ts (Some ws) e ∙ ap (option_map (λ us. (ended, us))) c in
       from_step (give (struct before) k rest) (in_struct b before) k ts r
       (by_next (in_struct b before) k ts (Some (ended, rest)) n)
-      (subst (λ us. Follows (give (struct us) k rest) r) (join_none before) d)
+      (subst (λ us. Follows (give (struct us) k rest) r) (join_members-none before) d)
   members (member v vs) b before k ts ws rest r e c d =
       let f = in_struct b before in
       let n = struct_next b before ts None e.3 ∙ ap (option_map (λ p. (wants f nothing p.0, p.1))) e.4 in
@@ -159,7 +152,7 @@ mutual
       let f = in_object t i before key flags b in
       let n = object_next t i before key flags b ts (Some (None, ws)) e ∙ ap (option_map (λ us. (ended, us))) c in
       from_step (give (object t i before) k rest) f k ts r (by_next f k ts (Some (ended, rest)) n)
-      (subst (λ qs. Follows (give (object t i qs) k rest) r) (join_no_properties before) d)
+      (subst (λ qs. Follows (give (object t i qs) k rest) r) (join_properties-none before) d)
   properties (property q g v qs) t i before key flags b k ts ws rest r e c d =
       let f = in_object t i before key flags b in
       let to = in_object t i before q g e.2 in

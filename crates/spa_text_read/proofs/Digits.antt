@@ -6,6 +6,7 @@ use Rattle.std.specs.Str.{all_ascii_digits}
 use Rattle.std.specs.Str.Parse.{IsNumeral, digits_value, signed_digits_value, without_leading_plus, without_leading_sign}
 use Rattle.std.specs.Cmp.{first_so, second_so}
 use Rattle.std.proofs.lemmas.Str.Parse.{IsNumeralModel, numerals_by_value, tells_all_ascii_digits, without_leading_plus_none}
+use Rattle.std.proofs.lemmas.Bool.{ltb-true}
 use Rattle.spa_text_read.specs.Numerals.{are_digits, number_where, unsigned_number, signed_number}
 
 own : IsNumeralModel (λ ds. all_ascii_digits ds ≡ true) (digits_value 10)
@@ -15,12 +16,9 @@ abbrev where_not : {A : Type 0} (b : Bool) (n : A) → (b ≡ true → ⊥) → 
 where_not true n h = absurd (h refl)
 where_not false n h = refl
 
-below : (m n : ℕ) → nat_lt m n ≡ true → m < n
-below m n h = grind arith
-
 are_digits-numeral : (s : List ℕ) → are_digits s ≡ true → IsNumeral 10 s
 are_digits-numeral s h =
-    (below 0 (length s) (first_so (nat_lt 0 (length s)) (all_ascii_digits s) h), own.to s (second_so (nat_lt 0 (length s)) (all_ascii_digits s) h))
+    (ltb-true 0 (length s) (first_so (nat_lt 0 (length s)) (all_ascii_digits s) h), own.to s (second_so (nat_lt 0 (length s)) (all_ascii_digits s) h))
 
 numeral-are_digits : (s : List ℕ) → IsNumeral 10 s → are_digits s ≡ true
 numeral-are_digits s h =
@@ -38,7 +36,7 @@ unsigned_some s n h e l =
 pub unsigned_none : (s : List ℕ) → (IsNumeral 10 (without_leading_plus s) → digits_value 10 (without_leading_plus s) < 2 ^ 32 → ⊥) → unsigned_number s ≡ None
 unfolding unsigned_number
 unsigned_none s h =
-    where_not _ _ (λ b. h (are_digits-numeral _ (first_so _ _ b)) (below _ _ (second_so (are_digits (without_leading_plus s)) _ b)))
+    where_not _ _ (λ b. h (are_digits-numeral _ (first_so _ _ b)) (ltb-true _ _ (second_so (are_digits (without_leading_plus s)) _ b)))
 
 above_digits : (x : ℕ) (xs : List ℕ) → 57 < x → IsNumeral 10 (x ∷ xs) → ⊥
 above_digits x xs above h =
@@ -63,4 +61,4 @@ signed_some k s z h e l =
 pub signed_none : (k : ℕ) (s : List ℕ) → (IsNumeral 10 (without_leading_sign s) → mag (signed_digits_value 10 s) < 2 ^ k → ⊥) → signed_number k s ≡ None
 unfolding signed_number
 signed_none k s h =
-    where_not _ _ (λ b. h (are_digits-numeral _ (first_so _ _ b)) (below _ _ (second_so (are_digits (without_leading_sign s)) _ b)))
+    where_not _ _ (λ b. h (are_digits-numeral _ (first_so _ _ b)) (ltb-true _ _ (second_so (are_digits (without_leading_sign s)) _ b)))

@@ -6,4 +6,4 @@ pub mod ViewLaws
 pub mod Nesting
 pub mod Trailing
 mod Paths
-mod Strictly
+pub mod Strictly

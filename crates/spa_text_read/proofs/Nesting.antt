@@ -1,7 +1,7 @@
 -- Steps within the values that are begun.
 use Rattle.std.proofs.Common.{◌≡◌, ◌≢◌, List, [], ◌∷◌, ◌++◌, Bool, true, false, Result, refl, sym, ap, ◌∙◌, subst}
 use Rattle.std.specs.Prelude.{IfErr, IfOk, Ok, Err, Option, Some, None, map, reverse}
-use Rattle.std.proofs.lemmas.List.{reverse-append}
+use Rattle.std.proofs.lemmas.List.{reverse-append, map_push}
 use Rattle.json.specs.Token.{Token}
 use Rattle.spa_format.specs.Tree.{Tree}
 use Rattle.spa_names.specs.declared.entry.Expected.{Expected}
@@ -16,12 +16,11 @@ use Rattle.spa_text_read.specs.declared.cause.Cause.{Cause}
 use Rattle.spa_text_read.specs.declared.cause.Cause.TheVariants as cause
 use Rattle.spa_text_read.specs.declared.nest.Nest.{Nest}
 use Rattle.spa_text_read.specs.declared.inside.Inside.{Inside}
-use Rattle.spa_text_read.proofs.ViewLaws.{map_one}
 use Rattle.spa_text_read.proofs.Completeness.{comes_to, from_step, same_follows}
 
 -- one more around the innermost
 pub stack_one : (outer : List Inside) (i : Inside) → stack_of (outer ++ i ∷ []) ≡ frame_of i ∷ stack_of outer
-stack_one outer i = ap reverse (map_one frame_of outer i) ∙ reverse-append (map frame_of outer) (frame_of i ∷ [])
+stack_one outer i = ap reverse (map_push frame_of outer i) ∙ reverse-append (map frame_of outer) (frame_of i ∷ [])
 
 -- the innermost is put into the one around it
 pub end_put : (e : Frame) (v : Tree) (a g : Frame) (k : List Frame) (ts us : List Token) → value_of e ≡ Some v → put a v ts ≡ Some (g, us) →

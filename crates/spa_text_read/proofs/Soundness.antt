@@ -1,11 +1,13 @@
 -- What the steps come to is what the tokens read as.
 use Rattle.std.proofs.Common.{◌≡◌, ℕ, List, [], ◌∷◌, ◌++◌, Bool, true, false, refl, sym, ap, ◌∙◌, subst, append_assoc}
 use Rattle.std.proofs.lemmas.List.{append-nil}
+use Rattle.std.proofs.lemmas.Option.{same_Some, none-some}
 use Rattle.std.specs.Prelude.{Option, Some, None, option_map, if◌then◌else◌}
 use Rattle.json.specs.Token.{Token}
 use Rattle.json.specs.Json.{after_end_array, read_key}
 use Rattle.spa_format.specs.Kind.{Kind, none_kind, Fixed, kind_of}
 use Rattle.spa_format.specs.Tree.{Shape, none_choice, range_choice, step_choice, enum_choice, flags_choice, Tree, fixed, array, choice, struct, object, Trees, no_trees, member, Properties, no_properties, property, join_members, join_properties}
+use Rattle.spa_format.proofs.Sequences.{join_members-none, join_properties-none}
 use Rattle.spa_value.specs.Equality.{kind_eq}
 use Rattle.spa_names.specs.declared.entry.Expected.{Expected}
 use Rattle.spa_names.specs.declared.table.Table.{Table}
@@ -14,28 +16,22 @@ use Rattle.spa_text_read.specs.Options.{◌>>=◌, and_then}
 use Rattle.spa_text_read.specs.Tokens.{after_end_object, head}
 use Rattle.spa_text_read.specs.Grammar.{Leaf, a_number, a_text, some_bytes, a_bitmap, a_pointer, tree, Opening, Opened, opens, leaf, begun, an_array, a_choice, a_struct, an_object, close, choice_of, chosen, element, key_number, property_at, ReadsValue, ReadsAs, AreElements, AreMembers, AreProperties}
 use Rattle.spa_text_read.specs.Steps.{Frame, in_struct, in_array, in_choice, in_object, frame, Runs, stops, finishes, goes_on, Step, refused, done, goes, Follows, step, Next, ended, wants, expects, ends, value_of, element_of, next, next_item, next_property, give, give_ended, after_next, after_opening, after_put, put, started, ComesTo}
-use Rattle.spa_text_read.proofs.Completeness.{join_none, join_no_properties, join_one, join_one_property}
+use Rattle.spa_text_read.proofs.Completeness.{join_one, join_one_property}
 
 -- ---- Options
-
-pub some≢none : {A : Type 0} (x : A) → Some x ≡ None → ⊥
-some≢none x e = cc
 
 abbrev pub given : {A : Type 0} → A → Option A → A
 given d None = d
 given d (Some x) = x
 
-pub the_same : {A : Type 0} (x y : A) → Some x ≡ Some y → x ≡ y
-the_same x y e = ap (given x) e
-
 -- where the second of two steps gave something, so did the first
 pub bound : {A B : Type 0} (o : Option A) (f : A → Option B) (y : B) → (o >>= f) ≡ Some y → (x : A) × (o ≡ Some x) × (f x ≡ Some y)
-bound None f y e = absurd (some≢none y (sym e))
+bound None f y e = absurd (none-some y e)
 bound (Some x) f y e = (x, refl, e)
 
 pub mapped : {A B : Type 0} (o : Option A) (f : A → B) (y : B) → option_map f o ≡ Some y → (x : A) × (o ≡ Some x) × (f x ≡ y)
-mapped None f y e = absurd (some≢none y (sym e))
-mapped (Some x) f y e = (x, refl, the_same (f x) y e)
+mapped None f y e = absurd (none-some y e)
+mapped (Some x) f y e = (x, refl, same_Some (f x) y e)
 
 -- ---- Frames
 
@@ -74,12 +70,12 @@ given_reads v (f ∷ k) ts w rest h = put_reads (put f v ts) refl h
 
 chosen_is : (s : Shape) (f : ℕ) (q : Kind) (xs : List Fixed) (v : Tree) → chosen s f q xs ≡ Some v →
     (x : Fixed) × (ys : List Fixed) × (xs ≡ x ∷ ys) × (v ≡ choice s f q x ys)
-chosen_is none_choice f q (x ∷ []) v e = (x, [], refl, sym (the_same _ _ e))
-chosen_is range_choice f q (x ∷ a ∷ b ∷ []) v e = (x, a ∷ b ∷ [], refl, sym (the_same _ _ e))
-chosen_is step_choice f q (x ∷ a ∷ b ∷ c ∷ []) v e = (x, a ∷ b ∷ c ∷ [], refl, sym (the_same _ _ e))
-chosen_is enum_choice f q (x ∷ xs) v e = (x, xs, refl, sym (the_same _ _ e))
-chosen_is flags_choice f q (x ∷ xs) v e = (x, xs, refl, sym (the_same _ _ e))
-chosen_is _ f q _ v e = absurd (some≢none v (sym e))
+chosen_is none_choice f q (x ∷ []) v e = (x, [], refl, sym (same_Some _ _ e))
+chosen_is range_choice f q (x ∷ a ∷ b ∷ []) v e = (x, a ∷ b ∷ [], refl, sym (same_Some _ _ e))
+chosen_is step_choice f q (x ∷ a ∷ b ∷ c ∷ []) v e = (x, a ∷ b ∷ c ∷ [], refl, sym (same_Some _ _ e))
+chosen_is enum_choice f q (x ∷ xs) v e = (x, xs, refl, sym (same_Some _ _ e))
+chosen_is flags_choice f q (x ∷ xs) v e = (x, xs, refl, sym (same_Some _ _ e))
+chosen_is _ f q _ v e = absurd (none-some v e)
 
 pub choice_is : (s : Shape) (f : ℕ) (q : Kind) (xs : List Fixed) (v : Tree) → choice_of s f q xs ≡ Some v →
     (x : Fixed) × (ys : List Fixed) × (xs ≡ x ∷ ys) × (v ≡ choice s f q x ys)
@@ -87,7 +83,7 @@ choice_is s f q xs v e = tested (kind_eq q none_kind) e
   where
     tested : (b : Bool) → (if b then None else chosen s f q xs) ≡ Some v →
         (x : Fixed) × (ys : List Fixed) × (xs ≡ x ∷ ys) × (v ≡ choice s f q x ys)
-    tested true d = absurd (some≢none v (sym d))
+    tested true d = absurd (none-some v d)
     tested false d = chosen_is s f q xs v d
 
 -- what is opened reads as what is left of it makes of it
@@ -166,9 +162,9 @@ pub element_is : (q : Kind) (v : Tree) (x : Fixed) → element_of q v ≡ Some x
 element_is q (fixed y) x e = tested (kind_eq (kind_of y) q) refl e
   where
     tested : (b : Bool) → kind_eq (kind_of y) q ≡ b → (if b then Some y else None) ≡ Some x → (fixed y ≡ fixed x) × (kind_eq (kind_of x) q ≡ true)
-    tested true k d = let s = the_same y x d in (ap fixed s, subst (λ z. kind_eq (kind_of z) q ≡ true) s k)
-    tested false k d = absurd (some≢none x (sym d))
-element_is q _ x e = absurd (some≢none x (sym e))
+    tested true k d = let s = same_Some y x d in (ap fixed s, subst (λ z. kind_eq (kind_of z) q ≡ true) s k)
+    tested false k d = absurd (none-some x d)
+element_is q _ x e = absurd (none-some x e)
 
 -- ---- A step back: a value is read, and then the frame reads on
 
@@ -179,7 +175,7 @@ unfolding next
 struct_back b before ts us ws xs rest g to c h v x n r p e =
     let i = item_back (in_struct b before) ts (after_end_array ts) g c h us n in
     let grown = in_struct b (join_members before (member v no_trees)) in
-    let q = the_same (grown, ws) (to, xs) (subst (λ f. put f v ws ≡ Some (to, xs)) (sym i.same) p) in
+    let q = same_Some (grown, ws) (to, xs) (subst (λ f. put f v ws ≡ Some (to, xs)) (sym i.same) p) in
     let d = subst (λ y. FrameReads y.0 y.1 x rest) (sym q) e in
     let m : AreMembers (member v d.0) ts d.1 = (h, us, ws, i.none, i.first, subst (λ y. ReadsValue y v h us ws) (sym i.wanted) r, d.2) in
     (member v d.0, d.1, m, d.3, ap struct (sym (join_one before v d.0)) ∙ d.4)
@@ -199,7 +195,7 @@ array_back t k before ts us ws xs rest g to c h v x n r p e =
     (m.0 ∷ d.0, d.1, (h, us, ws, i.none, i.first, o, is.1, d.2), d.3, ap (array k) (sym (append_assoc before (m.0 ∷ []) d.0)) ∙ d.4)
   where
     put_in : (o : Option Frame) → and_then ws o ≡ Some (to, xs) → (o ≡ Some to) × (xs ≡ ws)
-    put_in None e = absurd (some≢none (to, xs) (sym e))
+    put_in None e = absurd (none-some (to, xs) e)
     put_in (Some f) e = (ap (λ (y : Option (Frame × List Token)). Some (given {A = Frame × List Token} (f, ws) y).0) e, sym (ap (λ (y : Option (Frame × List Token)). (given {A = Frame × List Token} (f, ws) y).1) e))
 
 choice_back : (s : Shape) (n : ℕ) (t : Table) (k : Kind) (before : List Fixed) (ts us ws xs rest : List Token) (g to : Frame) (c : Expected)
@@ -217,7 +213,7 @@ choice_back s n t k before ts us ws xs rest g to c h v x a r p e =
     (m.0 ∷ d.0, d.1, (h, us, ws, i.none, i.first, o, is.1, d.2), d.3, ap (choice_of s n k) (sym (append_assoc before (m.0 ∷ []) d.0)) ∙ d.4)
   where
     put_in : (o : Option Frame) → and_then ws o ≡ Some (to, xs) → (o ≡ Some to) × (xs ≡ ws)
-    put_in None e = absurd (some≢none (to, xs) (sym e))
+    put_in None e = absurd (none-some (to, xs) e)
     put_in (Some f) e = (ap (λ (y : Option (Frame × List Token)). Some (given {A = Frame × List Token} (f, ws) y).0) e, sym (ap (λ (y : Option (Frame × List Token)). (given {A = Frame × List Token} (f, ws) y).1) e))
 
 object_back : (t i : ℕ) (before : Properties) (k f : ℕ) (b : Bool) (ts us ws xs rest : List Token) (g to : Frame) (c : Expected)
@@ -237,7 +233,7 @@ object_back t i before k f b ts us ws xs rest g to c h v x n r p e =
         let l = bound (property_at ls) (λ p. Some (wants (in_object t i before m.0 p.0.0 p.0.1.0) (expected_under keys m.0) p.0.1.1, p.1)) (wants g c h, us) m.2 in
         let flags = l.0.0.0 in
         let braced = l.0.0.1.0 in
-        let w = the_same (wants (in_object t i before m.0 flags braced) (expected_under keys m.0) l.0.0.1.1, l.0.1) (wants g c h, us) l.2 in
+        let w = same_Some (wants (in_object t i before m.0 flags braced) (expected_under keys m.0) l.0.0.1.1, l.0.1) (wants g c h, us) l.2 in
         let same : in_object t i before m.0 flags braced ≡ g = ap (λ y. frame_in g y.0) w in
         let grown : List Token → Frame × List Token = λ zs. (in_object t i (join_properties before (property m.0 flags v no_properties)) m.0 flags braced, zs) in
         let z = mapped (close braced ws) grown (to, xs) (subst (λ y. put y v ws ≡ Some (to, xs)) (sym same) p) in
@@ -260,10 +256,10 @@ ended_reads : (f : Frame) (ts us : List Token) (v : Tree) → next f ts ≡ Some
 unfolding next
 ended_reads (in_struct b before) ts us v n e =
     let m = bracket_back (in_struct b before) ts (after_end_array ts) us n in
-    (no_trees, m.0, m.1, m.2, ap struct (join_none before) ∙ the_same (struct before) v e)
+    (no_trees, m.0, m.1, m.2, ap struct (join_members-none before) ∙ same_Some (struct before) v e)
 ended_reads (in_array t k before) ts us v n e =
     let m = bracket_back (in_array t k before) ts (after_end_array ts) us n in
-    ([], m.0, m.1, m.2, ap (array k) (append-nil before) ∙ the_same (array k before) v e)
+    ([], m.0, m.1, m.2, ap (array k) (append-nil before) ∙ same_Some (array k before) v e)
 ended_reads (in_choice s f t k before) ts us v n e =
     let m = bracket_back (in_choice s f t k before) ts (after_end_array ts) us n in
     ([], m.0, m.1, m.2, ap (choice_of s f k) (append-nil before) ∙ e)
@@ -274,12 +270,12 @@ ended_reads (in_object t i before k f b) ts us v n e =
         FrameReads (in_object t i before k f b) ts v us
     brace_back None ls a q =
         let m = mapped (after_end_object ls) (λ vs. (ended, vs)) (ended, us) q in
-        (no_properties, ls, a, m.1 ∙ ap (λ p. Some p.1) m.2, ap (object t i) (join_no_properties before) ∙ the_same (object t i before) v e)
+        (no_properties, ls, a, m.1 ∙ ap (λ p. Some p.1) m.2, ap (object t i) (join_properties-none before) ∙ same_Some (object t i before) v e)
     brace_back (Some name) ls a q =
         let keys = keys_of t in
         let m = bound (key_number keys name) (λ l. property_at ls >>= (λ p. Some (wants (in_object t i before l p.0.0 p.0.1.0) (expected_under keys l) p.0.1.1, p.1))) (ended, us) q in
         let l = bound (property_at ls) (λ p. Some (wants (in_object t i before m.0 p.0.0 p.0.1.0) (expected_under keys m.0) p.0.1.1, p.1)) (ended, us) m.2 in
-        let w = the_same (wants (in_object t i before m.0 l.0.0.0 l.0.0.1.0) (expected_under keys m.0) l.0.0.1.1, l.0.1) (ended, us) l.2 in
+        let w = same_Some (wants (in_object t i before m.0 l.0.0.0 l.0.0.1.0) (expected_under keys m.0) l.0.0.1.1, l.0.1) (ended, us) l.2 in
         absurd (ended≢wants (in_object t i before m.0 l.0.0.0 l.0.0.1.0) (expected_under keys m.0) l.0.0.1.1 (sym (ap (λ y. y.0) w)))
 
 -- the next step reads, and so do the frames before it
@@ -310,17 +306,17 @@ step_back f k ts w rest s = by_next (next f ts) refl s
 
 sound_run : (f : Frame) (k : List Frame) (ts : List Token) (r : Option (Tree × List Token)) → Runs f k ts r → (w : Tree) (rest : List Token) →
     r ≡ Some (w, rest) → StepReads (goes f k ts) w rest
-sound_run f k ts _ (stops e) w rest q = absurd (some≢none (w, rest) (sym q))
+sound_run f k ts _ (stops e) w rest q = absurd (none-some (w, rest) q)
 sound_run f k ts _ (finishes {us = us} {v = v} e) w rest q =
-    let p = the_same (v, us) (w, rest) q in
+    let p = same_Some (v, us) (w, rest) q in
     step_back f k ts w rest (subst (λ s. StepReads s w rest) (sym e) (ap (λ y. y.0) p, ap (λ y. y.1) p))
 sound_run f k ts r (goes_on {g = g} {l = l} {us = us} e h) w rest q =
     step_back f k ts w rest (subst (λ s. StepReads s w rest) (sym e) (sound_run g l us r h w rest q))
 
 follows_reads : (s : Step) (w : Tree) (rest : List Token) → Follows s (Some (w, rest)) → StepReads s w rest
-follows_reads refused w rest h = absurd (some≢none (w, rest) h)
+follows_reads refused w rest h = absurd (none-some (w, rest) (sym h))
 follows_reads (done v ts) w rest h =
-    let p = the_same (w, rest) (v, ts) h in (sym (ap (λ y. y.0) p), sym (ap (λ y. y.1) p))
+    let p = same_Some (w, rest) (v, ts) h in (sym (ap (λ y. y.0) p), sym (ap (λ y. y.1) p))
 follows_reads (goes f k ts) w rest h = sound_run f k ts (Some (w, rest)) h w rest refl
 
 -- what the steps come to is what the tokens read as
@@ -336,5 +332,5 @@ reads_as c v ts rest h = by_head (head ts) refl h
         (p.0, p.1, e, subst (λ l. ReadsValue c v p.0 p.1 l) s.3.1 (subst (λ x. ReadsValue c x p.0 p.1 s.1) s.3.0 (opened_reads o c p.0 p.1 ws s.1 s.0 q s.2)))
 
     by_head : (o : Option (Token × List Token)) → head ts ≡ o → Follows (started c o) (Some (v, rest)) → ReadsAs c v ts rest
-    by_head None e s = absurd (some≢none (v, rest) s)
+    by_head None e s = absurd (none-some (v, rest) (sym s))
     by_head (Some p) e s = by_opening p e (opens c p.0 p.1) refl (follows_reads (after_opening [] (opens c p.0 p.1)) v rest s)

@@ -1,5 +1,6 @@
 -- What is read strictly fits, and of what is refused for a type no value does.
 use Rattle.std.proofs.Common.{◌≡◌, ◌≢◌, ℕ, suc, ◌-◌, List, [], ◌∷◌, Bool, true, arith, length, refl, sym, ap, ◌∙◌, subst}
+use Rattle.std.proofs.lemmas.Option.{same_Some, none-some}
 use Rattle.std.specs.Prelude.{slice_get}
 use Rattle.std.specs.Prelude.{IfErr, Option, Some, None, Result, Ok, Err, ⊤}
 use Rattle.json.specs.Token.{Token}
@@ -28,7 +29,7 @@ use Rattle.spa_text_read.specs.declared.fitting.Strictness.TheVariants.{Plain, S
 use Rattle.spa_text_read.specs.declared.inside.Inside.{Inside}
 use Rattle.spa_text_read.proofs.Completeness.{comes_to, to_step}
 use Rattle.spa_text_read.proofs.Nesting.{Leads, leads_on, opened_begun, reads_none}
-use Rattle.spa_text_read.proofs.Soundness.{bound, choice_is, element_is, ended≢wants, frame_in, item_back, mapped, some≢none, the_same}
+use Rattle.spa_text_read.proofs.Soundness.{bound, choice_is, element_is, ended≢wants, frame_in, item_back, mapped}
 
 -- the type of an object
 pub object_full : (o : Object) → full_type (object_view o) ≡ full (out-Object o).type_ 0
@@ -37,15 +38,15 @@ object_full o = ap full_type (view-fields o)
 -- the last property of a list
 pub last_is : (t : ℕ) (ps : List Property) (p : Property) → Some p ≡ slice_get ps (length ps - 1) →
     last_fits t (property_views ps) ≡ fits_under t p.key (view p.value)
-last_is t [] p e = absurd (some≢none p e)
-last_is t (q ∷ []) p e = ap (λ x. fits_under t x.key (view x.value)) (sym (the_same p q e))
+last_is t [] p e = absurd (none-some p (sym e))
+last_is t (q ∷ []) p e = ap (λ x. fits_under t x.key (view x.value)) (sym (same_Some p q e))
 last_is t (q ∷ r ∷ ps) p e =
     let next : length (q ∷ r ∷ ps) - 1 ≡ suc (length (r ∷ ps) - 1) = omega arith in
     last_is t (r ∷ ps) p (e ∙ ap (slice_get (q ∷ r ∷ ps)) next)
 
 -- ---- One more member, and one more property
 
-all_one : (vs : Trees) (v : Tree) → AllFit vs → Fits v → AllFit (join_members vs (member v no_trees))
+pub all_one : (vs : Trees) (v : Tree) → AllFit vs → Fits v → AllFit (join_members vs (member v no_trees))
 all_one no_trees v a w = (w, tt)
 all_one (member u vs) v a w = (a.0, all_one vs v a.1 w)
 
@@ -83,12 +84,12 @@ frame_last (in_object t i ps k f b) a = last_of t ps a
 -- ---- A value is put into a frame, and made of one
 
 added_frame : (o : Option Frame) (ts : List Token) (p : Frame × List Token) → and_then ts o ≡ Some p → o ≡ Some p.0
-added_frame None ts p e = absurd (some≢none p (sym e))
-added_frame (Some f) ts p e = ap (λ q. Some q.0) (the_same (f, ts) p e)
+added_frame None ts p e = absurd (none-some p e)
+added_frame (Some f) ts p e = ap (λ q. Some q.0) (same_Some (f, ts) p e)
 
 put_fits : (a g : Frame) (v : Tree) (ts us : List Token) → put a v ts ≡ Some (g, us) → FrameFits a → Fits v → AdmitsLast Strict g → FrameFits g
 put_fits (in_struct b vs) g v ts us e a w l =
-    subst (λ p. FrameFits p.0) (the_same (in_struct b (join_members vs (member v no_trees)), ts) (g, us) e) (all_one vs v a w)
+    subst (λ p. FrameFits p.0) (same_Some (in_struct b (join_members vs (member v no_trees)), ts) (g, us) e) (all_one vs v a w)
 put_fits (in_array t k xs) g v ts us e a w l =
     subst FrameFits (mapped (element_of k v) _ g (added_frame _ ts (g, us) e)).2 tt
 put_fits (in_choice s f t k xs) g v ts us e a w l =
@@ -100,7 +101,7 @@ put_fits (in_object t i ps k f b) g v ts us e a w l =
 
 put_back : (a g : Frame) (v : Tree) (ts us : List Token) → put a v ts ≡ Some (g, us) → FrameFits g → FrameFits a × Fits v
 put_back (in_struct b vs) g v ts us e h =
-    all_back vs v (subst (λ p. FrameFits p.0) (sym (the_same (in_struct b (join_members vs (member v no_trees)), ts) (g, us) e)) h)
+    all_back vs v (subst (λ p. FrameFits p.0) (sym (same_Some (in_struct b (join_members vs (member v no_trees)), ts) (g, us) e)) h)
 put_back (in_array t k xs) g v ts us e h =
     let m = mapped (element_of k v) _ g (added_frame _ ts (g, us) e) in (tt, subst Fits (sym (element_is k v m.0 m.1).0) tt)
 put_back (in_choice s f t k xs) g v ts us e h =
@@ -110,16 +111,16 @@ put_back (in_object t i ps k f b) g v ts us e h =
     properties_back t ps k f v (subst FrameFits (sym (ap (λ p. p.0) m.2)) h)
 
 value_fits : (f : Frame) (v : Tree) → value_of f ≡ Some v → FrameFits f → Fits v
-value_fits (in_struct b vs) v e a = subst Fits (the_same (struct vs) v e) a
-value_fits (in_array t k xs) v e a = subst Fits (the_same (array k xs) v e) tt
+value_fits (in_struct b vs) v e a = subst Fits (same_Some (struct vs) v e) a
+value_fits (in_array t k xs) v e a = subst Fits (same_Some (array k xs) v e) tt
 value_fits (in_choice s f t k xs) v e a = subst Fits (sym (choice_is s f k xs v e).3) tt
-value_fits (in_object t i ps k f b) v e a = subst Fits (the_same (object t i ps) v e) a
+value_fits (in_object t i ps k f b) v e a = subst Fits (same_Some (object t i ps) v e) a
 
 value_back : (f : Frame) (v : Tree) → value_of f ≡ Some v → Fits v → FrameFits f
-value_back (in_struct b vs) v e w = subst Fits (sym (the_same (struct vs) v e)) w
+value_back (in_struct b vs) v e w = subst Fits (sym (same_Some (struct vs) v e)) w
 value_back (in_array t k xs) v e w = tt
 value_back (in_choice s f t k xs) v e w = tt
-value_back (in_object t i ps k f b) v e w = subst Fits (sym (the_same (object t i ps) v e)) w
+value_back (in_object t i ps k f b) v e w = subst Fits (sym (same_Some (object t i ps) v e)) w
 
 -- ---- What is opened, and what is next
 
@@ -151,7 +152,7 @@ object_next t i before k f b ts us g c h n =
         let keys = keys_of t in
         let m = bound (key_number keys name) (λ l. property_at ls >>= (λ p. Some (wants (in_object t i before l p.0.0 p.0.1.0) (expected_under keys l) p.0.1.1, p.1))) (wants g c h, us) q in
         let l = bound (property_at ls) (λ p. Some (wants (in_object t i before m.0 p.0.0 p.0.1.0) (expected_under keys m.0) p.0.1.1, p.1)) (wants g c h, us) m.2 in
-        let w = the_same (wants (in_object t i before m.0 l.0.0.0 l.0.0.1.0) (expected_under keys m.0) l.0.0.1.1, l.0.1) (wants g c h, us) l.2 in
+        let w = same_Some (wants (in_object t i before m.0 l.0.0.0 l.0.0.1.0) (expected_under keys m.0) l.0.0.1.1, l.0.1) (wants g c h, us) l.2 in
         (m.0, l.0.0.0, l.0.0.1.0, ap (λ y. frame_in g y.0) w)
 
 next_fits : (f g : Frame) (c : Expected) (h : Token) (ts us : List Token) → next f ts ≡ Some (wants g c h, us) → FrameFits f → FrameFits g
@@ -239,9 +240,9 @@ step_back f k ts h = by_next (next f ts) refl h
 
 run_back : (f : Frame) (k : List Frame) (ts : List Token) (r : Option (Tree × List Token)) → Runs f k ts r → (w : Tree) (rest : List Token) →
     r ≡ Some (w, rest) → Fits w → FrameFits f × StackFits k
-run_back f k ts _ (stops e) w rest q a = absurd (some≢none (w, rest) (sym q))
+run_back f k ts _ (stops e) w rest q a = absurd (none-some (w, rest) q)
 run_back f k ts _ (finishes {us = us} {v = v} e) w rest q a =
-    step_back f k ts (subst StepFits (sym e) (subst Fits (sym (ap (λ y. y.0) (the_same (v, us) (w, rest) q))) a))
+    step_back f k ts (subst StepFits (sym e) (subst Fits (sym (ap (λ y. y.0) (same_Some (v, us) (w, rest) q))) a))
 run_back f k ts r (goes_on {g = g} {l = l} {us = us} e h) w rest q a =
     step_back f k ts (subst StepFits (sym e) (run_back g l us r h w rest q a))
 

@@ -1,19 +1,18 @@
 -- What is open of a text, in the reader's list of it: the innermost stands last there.
-use Rattle.std.proofs.Common.{◌≡◌, ℕ, ◌+◌, ◌<◌, ◌≤◌, List, [], ◌∷◌, ◌++◌, true, false, length, refl, sym, ap, ◌∙◌, subst, add-one, arith, drop, drop-cons, get_or, length-drop}
+use Rattle.std.proofs.Common.{◌≡◌, ℕ, ◌<◌, ◌≤◌, List, [], ◌∷◌, ◌++◌, true, false, length, sym, ap, ◌∙◌, subst, arith}
 use Rattle.std.proofs.lemmas.Bool.Decides.{nat_tests}
-use Rattle.std.proofs.lemmas.List.{nil_from_length}
+use Rattle.std.proofs.lemmas.List.{map_push}
 use Rattle.json.specs.Token.{Token}
 use Rattle.std.specs.Prelude.{codes, if◌then◌else◌, map, nat_lt, reverse}
 use Rattle.std.proofs.lemmas.List.{reverse-append}
 use Rattle.spa_text_read.specs.declared.place.Open.{Open}
 use Rattle.spa_text_read.specs.Places.{Opens, none, one, after, path_behind, path_limit, step_text}
 use Rattle.spa_text_read.specs.Trails.{open_of, opens_of}
-use Rattle.spa_text_read.proofs.ViewLaws.{map_one}
 
 -- one more is the innermost
 pub one_opened : (trail grown : List Open) (o : Open) → grown ≡ trail ++ o ∷ [] → opens_of grown ≡ open_of o ∷ opens_of trail
 one_opened trail grown o e =
-    ap opens_of e ∙ ap reverse (map_one open_of trail o) ∙ reverse-append (map open_of trail) (open_of o ∷ [])
+    ap opens_of e ∙ ap reverse (map_push open_of trail o) ∙ reverse-append (map open_of trail) (open_of o ∷ [])
 
 not_above : (n : ℕ) → n ≤ path_limit → nat_lt path_limit n ≡ false
 not_above n h = grind (arith, nat_tests)
@@ -53,10 +52,3 @@ none_open ts trail e = subst (λ l. Opens ts (opens_of l) ts) (sym e) none
 pub one_taken : (all left rest : List Token) (t : Token) (trail next : List Open) → Opens all (opens_of trail) left → left ≡ t ∷ rest →
     opens_of next ≡ after t (opens_of trail) → Opens all (opens_of next) rest
 one_taken all left rest t trail next h e a = subst (λ os. Opens all os rest) (sym a) (one (subst (λ l. Opens all (opens_of trail) l) e h))
-
--- the list from a place on
-pub next_step : (trail : List Open) (i : ℕ) (d : Open) → i < length trail → drop i trail ≡ get_or trail i d ∷ drop (i + 1) trail
-next_step trail i d h = rw (add-one, drop-cons trail i d) refl
-
-pub no_step : (trail : List Open) (i : ℕ) → length trail ≤ i → drop i trail ≡ []
-no_step trail i h = let l = length-drop i trail in nil_from_length (drop i trail) (omega (arith, l, h))

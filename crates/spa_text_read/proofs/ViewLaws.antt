@@ -1,29 +1,19 @@
 -- Values of fixed size as leaves.
 use Rattle.std.proofs.Common.{◌≡◌, List, [], ◌∷◌, ◌++◌, refl, ap}
-use Rattle.std.specs.Prelude.{None, map}
-use Rattle.spa_format.specs.Tree.{array, member, no_trees, property, no_properties, join_members, join_properties}
+use Rattle.std.specs.Prelude.{None}
+use Rattle.spa_format.specs.Tree.{array, property, no_properties, join_properties}
 use Rattle.spa_value.specs.declared.array.ValueArray.{ValueArray}
 use Rattle.spa_value.specs.declared.array.ValueArray.TheVariants as A
 use Rattle.spa_value.specs.declared.object.Object.{Object}
 use Rattle.spa_value.specs.declared.object.Property.{Property}
 use Rattle.spa_value.proofs.ViewLaws.{view-fields}
-use Rattle.spa_value.specs.declared.value.Value.{Value}
 use Rattle.spa_value.specs.View.{array_view, object_view, view}
-use Rattle.spa_value.specs.Views.{property_views, views}
+use Rattle.spa_value.specs.Views.{property_views}
 use Rattle.spa_text_read.specs.Steps.{fixed_part}
 use Rattle.spa_text_read.specs.Seen.{items_in, kind_in}
 
 pub object_part : (o : Object) → fixed_part (object_view o) ≡ None
 object_part o = ap fixed_part (view-fields o)
-
--- one more
-pub map_one : {S T : Type 0} (f : S → T) (xs : List S) (x : S) → map f (xs ++ x ∷ []) ≡ map f xs ++ f x ∷ []
-map_one f [] x = refl
-map_one f (y ∷ xs) x = ap (λ l. f y ∷ l) (map_one f xs x)
-
-pub views_one : (vs : List Value) (v : Value) → views (vs ++ v ∷ []) ≡ join_members (views vs) (member (view v) no_trees)
-views_one [] v = refl
-views_one (u ∷ vs) v = ap (member (view u)) (views_one vs v)
 
 pub property_views_one : (ps : List Property) (p : Property) →
     property_views (ps ++ p ∷ []) ≡ join_properties (property_views ps) (property p.key p.flags.0 (view p.value) no_properties)

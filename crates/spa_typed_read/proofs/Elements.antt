@@ -6,10 +6,10 @@ use Rattle.spa_format.specs.Tree as tree
 use Rattle.spa_format.specs.Pod.{AreElements, IsArray}
 use Rattle.spa_format.specs.Encoding.{encoding_of}
 use Rattle.spa_format.specs.Front.{Begins, front_of}
-use Rattle.spa_format.specs.Normal.{kept_elements}
 use Rattle.spa_format.specs.Typed.{IsTyped}
 use Rattle.spa_format.proofs.Back.{encoding_begins}
 use Rattle.spa_format.proofs.Unique.{one_value}
+use Rattle.spa_format.proofs.Elements.{kept_of_sized}
 use Rattle.spa_typed_read.specs.Members.{ArrayReader, ElementsAreTheArrays, EncodingBegins, HasElements, ListsComeBack, OpensArray, TakesElement, TakesElements, single_tree}
 use Rattle.spa_bodies.specs.Reading.{IsRead}
 use Rattle.spa_bodies.proofs.Steps.{pod_read}
@@ -136,22 +136,9 @@ comes_back k fixed stands_for made_of same input xs ys first last lawful b o t z
     made.made ∙ ap (map made_of) same_elements ∙ map_twice stands_for made_of xs
     ∙ given_back (λ x. made_of (stands_for x)) lawful xs
 
--- an array of what has bytes keeps its elements
-kept_sized : (k : Kind) (xs : List Fixed) → 0 < body_size k → kept_elements k xs ≡ xs
-kept_sized none_kind xs h = absurd (omega (arith, h))
-kept_sized bool_kind xs h = refl
-kept_sized id_kind xs h = refl
-kept_sized int_kind xs h = refl
-kept_sized long_kind xs h = refl
-kept_sized float_kind xs h = refl
-kept_sized double_kind xs h = refl
-kept_sized rectangle_kind xs h = refl
-kept_sized fraction_kind xs h = refl
-kept_sized fd_kind xs h = refl
-
 pub array_begins : (k : Kind) (xs : List Fixed) (rest : List ℕ) → 0 < body_size k → EncodingBegins rest (array k xs)
 array_begins k xs rest h t w =
-    subst (λ ys. Begins (encoding_of (array k xs) ++ rest) (array k ys)) (kept_sized k xs h)
+    subst (λ ys. Begins (encoding_of (array k xs) ++ rest) (array k ys)) (kept_of_sized k xs h)
     (encoding_begins (array k xs) rest t w).1
 
 pub no_units : {C X : Type 0} (k : Kind) (fixed : C → Fixed) (made_of : C → X) (input : List ℕ) (ys : List X)

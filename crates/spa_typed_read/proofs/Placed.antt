@@ -8,7 +8,7 @@ use Rattle.spa_fixed_sized.specs.declared.fault.Refusal.TheVariants as refusal
 use Rattle.spa_bodies.specs.Reading.{MayLackMemory, OnFault}
 use Rattle.spa_bodies.specs.Refusing.{RefusesPod, error_of}
 use Rattle.spa_read.specs.Nesting.{RefusesAt}
-use Rattle.spa_bodies.proofs.Refusals.{says_through}
+use Rattle.spa_bodies.proofs.Refusals.{says_through, said_so}
 
 -- without the headers opened
 pub without_count : (input place : List ℕ) (n : ℕ) (why : Refusal) →
@@ -20,10 +20,5 @@ without_count input place n why h =
 -- with the headers opened
 pub opened_as : (input : List ℕ) (place : Bor (List ℕ)) (n : ℕ) (why : Refusal) → RefusesAt input place.now n why →
     OnFault (headers.OpensHeaders input n) (error_of place why)
-opened_as input place n refusal.Short h = h.1
-opened_as input place n refusal.Text h = h.1
-opened_as input place n refusal.InvalidType h = h.1
-opened_as input place n refusal.InvalidChoiceType h = h.1
-opened_as input place n refusal.MissingChoiceValues h = h.1
-opened_as input place n refusal.WrongSize h = h.1
-opened_as input place n refusal.OutOfMemory h = tt
+opened_as input place n =
+    said_so (λ k at. Stands k at input × headers.OpensHeaders input n) (MayLackMemory input) place (headers.OpensHeaders input n) (λ k h. h.1)

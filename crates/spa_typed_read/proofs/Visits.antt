@@ -49,7 +49,7 @@ property_whole b k f v ps l x y g m =
 -- Exactly.
 
 -- what isn't read so isn't read as something that says more
-exactly_as : {X : Type 0} (reads others : Tree → X → Type 0) (m : Type 0) (b : List ℕ) (e : DeserializeError (Bor (List ℕ))) →
+pub exactly_as : {X : Type 0} (reads others : Tree → X → Type 0) (m : Type 0) (b : List ℕ) (e : DeserializeError (Bor (List ℕ))) →
     ((v : Tree) (x : X) → others v x → reads v x) → RefusesExactly reads m b e → RefusesExactly others m b e
 exactly_as reads others m b e to r = record {
   unread = fault_to (IsUnread reads b) (IsUnread others b) e (λ n v x g h. n v x g (to v x h)) r.unread;

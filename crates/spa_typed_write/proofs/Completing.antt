@@ -8,7 +8,7 @@ use Rattle.spa_sink.specs.Writing.{Begun, MayRefuse, RefusedFor, Sent, none_sent
 use Rattle.spa_format.specs.Words.{header_size, size_limit, word_bytes}
 use Rattle.spa_format.specs.Tree.{Tree, Trees, Properties, member, no_trees, no_properties, object, object_type, property, struct, struct_type}
 use Rattle.spa_format.specs.Encoding.{encoded_body, encoding_of, member_encodings, property_encodings}
-use Rattle.spa_format.proofs.Encodings.{key_words, length-encoded_pod, property_encoding, two_words_length, whole_members, whole_properties}
+use Rattle.spa_format.proofs.Encodings.{key_words, length-encoded_pod, property_encoding, two_words_length, whole_members, whole_properties, length-object}
 use Rattle.spa_sink.proofs.Sending.{RefusesAfter, RefusesLonger}
 use Rattle.spa_canonical.specs.Depth.{depth_of, member_depth, property_depth}
 use Rattle.spa_write.specs.DeepValues.{LacksMemory}
@@ -354,21 +354,10 @@ struct_past {refuses = refuses} a b c start vs e s p h r =
     let q : P TooLarge = record { cause = inl (inl (omega (arith, r.1, size))) } in
     subst P (sym r.0) q
 
--- how long an object's body is
-pub object_length : (type id : ℕ) (ps : Properties) →
-    length (encoded_body (object type id ps)) ≡ header_size + length (property_encodings ps)
-object_length type id ps =
-    omega (
-      arith,
-      ap length (sym (append_assoc (word_bytes type) (word_bytes id) (property_encodings ps))),
-      length-append (word_bytes type ++ word_bytes id) (property_encodings ps),
-      two_words_length type id,
-    )
-
 pub object_size : (type id : ℕ) (ps : Properties) →
     length (encoding_of (object type id ps)) ≡ header_size + (header_size + length (property_encodings ps))
 object_size type id ps =
-    omega (arith, length-encoded_pod object_type (encoded_body (object type id ps)), object_length type id ps, whole_properties ps)
+    omega (arith, length-encoded_pod object_type (encoded_body (object type id ps)), length-object type id ps, whole_properties ps)
 
 -- all that was written of it so far
 object_begun : {S : Type 0} {content : S → List ℕ} {refuses : Refusing S} (a b c d : S) (type id : ℕ) (ps : Properties) →
@@ -390,7 +379,7 @@ pub object_written : {S : Type 0} {content : S → List ℕ} {refuses : Refusing
     IsWritten content refuses a (object type id ps) f
 object_written a b c d f start type id ps s t i p w h q =
     let all = object_begun a b c d type id ps p w h.extended in
-    let size = object_length type id ps in
+    let size = length-object type id ps in
     let closed = closed_encoding a d f start object_type (encoded_body (object type id ps)) (omega (arith, size, whole_properties ps)) s all q in
     record {
       extended = closed.0;

@@ -1,14 +1,11 @@
 -- Lists that are compared in parts.
 use Rattle.std.proofs.Common.{◌≡◌, ℕ, ◌+◌, ◌<◌, List, [], ◌∷◌, length, take, drop, get_or, Bool, true, false, ◌&&◌, refl, sym, ap, ◌∙◌, arith, zero, suc}
+use Rattle.std.proofs.Math.Bool.{and-true}
 use Rattle.std.specs.Cmp.Lexicographic.{pointwise}
 
-and-assoc : (a b c : Bool) → (a && (b && c)) ≡ ((a && b) && c)
+pub and-assoc : (a b c : Bool) → (a && (b && c)) ≡ ((a && b) && c)
 and-assoc true b c = refl
 and-assoc false b c = refl
-
-and-true : (a : Bool) → (a && true) ≡ a
-and-true true = refl
-and-true false = refl
 
 module _ {A : Type 0} (E : A → A → Bool) where
   -- two lists are equal where their first elements are, and those behind them

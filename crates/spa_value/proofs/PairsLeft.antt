@@ -2,16 +2,13 @@
 use Rattle.std.proofs.Common.{◌≡◌, ◌+◌, ◌*◌, ℕ, Bool, true, false, ◌&&◌, List, [], ◌∷◌, ◌++◌, length, sum_by, refl, sym, ap, ◌∙◌}
 use Rattle.spa_value.specs.declared.comparison.Pair.{Pair}
 use Rattle.spa_value.specs.Comparison.{all_eq, first_count, pair_eq}
+use Rattle.spa_value.proofs.Blocks.{and-assoc}
 
 exchange : (a b c : Bool) → (a && (b && c)) ≡ (b && (a && c))
 exchange true true c = refl
 exchange true false c = refl
 exchange false true c = refl
 exchange false false c = refl
-
-regroup : (a b c : Bool) → (a && (b && c)) ≡ ((a && b) && c)
-regroup true b c = refl
-regroup false b c = refl
 
 all_eq_last : (ps : List Pair) (p : Pair) → all_eq (ps ++ p ∷ []) ≡ (pair_eq p && all_eq ps)
 all_eq_last [] p = refl
@@ -37,7 +34,7 @@ pub goes_in : (p inner left : Pair) (around final : List Pair) → final ≡ aro
     (pair_eq inner && pair_eq left) ≡ pair_eq p → left_eq inner final ≡ left_eq p around
 goes_in p inner left around final parts same =
     ap (λ l. pair_eq inner && all_eq l) parts ∙ ap (λ b. pair_eq inner && b) (all_eq_last around left)
-    ∙ regroup (pair_eq inner) (pair_eq left) (all_eq around) ∙ ap (λ b. b && all_eq around) same
+    ∙ and-assoc (pair_eq inner) (pair_eq left) (all_eq around) ∙ ap (λ b. b && all_eq around) same
 
 -- nothing is left behind them
 pub goes_to : (p inner left : Pair) → pair_eq left ≡ true →

@@ -25,7 +25,7 @@ type_of-array_view (A.Rectangle xs) = refl
 type_of-array_view (A.Fraction xs) = refl
 type_of-array_view (A.Fd xs) = refl
 
-type_of-choice_enum_tree : {T : Type 0} (k : Kind) (g : T → Fixed) (n : ℕ) (c : ChoiceEnum T) →
+pub type_of-choice_enum_tree : {T : Type 0} (k : Kind) (g : T → Fixed) (n : ℕ) (c : ChoiceEnum T) →
     type_of (choice_enum_tree k g n c) ≡ choice_type
 type_of-choice_enum_tree k g n (E.None x) = refl
 type_of-choice_enum_tree k g n (E.Range x a b) = refl

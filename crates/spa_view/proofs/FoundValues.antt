@@ -1,6 +1,6 @@
 -- Properties of accepted objects, found by their keys, and what their values say settled.
 use Rattle.std.proofs.Common.{inl, ⊎_elim, ◌≡◌, ℕ, List, [], ◌∷◌, Bool, true, false, Some, None, Option, drop, refl, sym, ap, ◌∙◌, subst}
-use Rattle.std.specs.Prelude.{IfNone, IfSome, IsSomeAnd, if◌then◌else◌, nat_eq}
+use Rattle.std.specs.Prelude.{IfNone, IsSomeAnd, if◌then◌else◌, nat_eq}
 use Rattle.spa_format.specs.Words.{header_size, word_at}
 use Rattle.spa_format.specs.Tree.{Tree, Properties, no_properties, property, object}
 use Rattle.spa_format.specs.Pod.{IsPod}
@@ -102,10 +102,6 @@ pub settled_under : (key : ℕ) (v : Tree) (b : List ℕ) (type id : ℕ) (ps : 
 settled_under key v b type id ps h s =
     is_settled_of (property_at key b) (first_value key ps) v (λ w e. finds_value key b type id ps w h e)
     (λ e. lacks_value key b type id ps h e) s
-
-pub each_some : {A : Type 0} (r : Option A) {P Q : A → Type 0} → ((x : A) → P x → Q x) → IfSome r P → IfSome r Q
-each_some (Some x) f h = f x h
-each_some None f h = tt
 
 pub never_some : {A : Type 0} (r : Option A) {P Q : Type 0} → (P → Q) → IfNone r P → IfNone r Q
 never_some (Some x) f h = tt

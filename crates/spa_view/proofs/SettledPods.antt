@@ -1,8 +1,7 @@
 -- What stands in a None choice's pod, and that any other pod stays as it is.
-use Rattle.std.proofs.Common.{◌≡◌, ◌≢◌, ℕ, ◌+◌, ◌-◌, ◌<◌, ◌≤◌, inl, inr, ⊎_elim, List, length, take, drop, true, false, refl, sym, ap, ◌∙◌, subst, arith, length-drop}
+use Rattle.std.proofs.Common.{◌≡◌, ◌≢◌, ℕ, ◌+◌, ◌-◌, ◌<◌, ◌≤◌, inl, ⊎_elim, List, length, take, drop, true, false, refl, sym, ap, ◌∙◌, subst, arith, length-drop}
 use Rattle.std.specs.Prelude.{Bool, if◌then◌else◌, nat_eq, nat_le, ◌&&◌}
-use Rattle.std.proofs.lemmas.Bool.{le-leb, ne_eqb}
-use Rattle.std.proofs.lemmas.Bool.Decides.{leb_tells}
+use Rattle.std.proofs.lemmas.Bool.{le-leb, ne_eqb, lt-leb}
 use Rattle.std.proofs.lemmas.List.{drop-drop, drop-take, take-take, length-take-le}
 use Rattle.spa_format.specs.Words.{word_at, extent, body_of}
 use Rattle.spa_format.specs.Kind.{Kind, Fixed, kind_of, type_number, IsFixedBody}
@@ -15,6 +14,7 @@ use Rattle.spa_format.proofs.Conveyed.{by_shape, pod_conveys}
 use Rattle.spa_format.proofs.FixedKinds.{number_is, kind_of_body}
 use Rattle.spa_format.proofs.Fronts.{whole_front}
 use Rattle.spa_format.proofs.WordLemmas.{word_at-take, word_at-drop}
+use Rattle.spa_format.proofs.FixationLemmas.{never}
 use Rattle.spa_view.specs.Settled.{holds_value, settled_bytes, settled_of}
 
 -- a word of a body, in its pod
@@ -26,16 +26,8 @@ word_behind b i l =
     word_at-drop 8 i (body_of b) ∙ word_of_body b (8 + i) (omega arith)
     ∙ ap (word_at b) (let e : 8 + (8 + i) ≡ 16 + i = omega arith in e)
 
-not_within : (m n : ℕ) → n < m → nat_le m n ≡ false
-not_within m n l = elim (leb_tells m n) [ inl p ↦ absurd (let q = p.1 in omega arith) | inr p ↦ p.0 ]
-
 pub stays : (b : List ℕ) → holds_value b ≡ false → settled_bytes b ≡ b
 stays b e = ap (λ t. if t then front_of (drop 16 b) else b) e
-
-never : (s t : Bool) → (s && (t && false)) ≡ false
-never true true = refl
-never true false = refl
-never false t = refl
 
 pub other_type : (b : List ℕ) → word_at b 4 ≢ 19 → settled_bytes b ≡ b
 other_type b n =
@@ -62,7 +54,7 @@ holds b t l s c =
 
 pub runs_past : (b : List ℕ) → word_at b 0 < 16 + word_at b 16 → holds_value b ≡ false
 runs_past b l =
-    ap (λ t. is_choice_pod b && (nat_eq (word_at b 8) 0 && t)) (not_within (16 + word_at b 16) (word_at b 0) l)
+    ap (λ t. is_choice_pod b && (nat_eq (word_at b 8) 0 && t)) (lt-leb (16 + word_at b 16) (word_at b 0) l)
     ∙ never (is_choice_pod b) (nat_eq (word_at b 8) 0)
 
 pub value_seen : (b : List ℕ) → holds_value b ≡ true → settled_bytes b ≡ front_of (drop 16 b)

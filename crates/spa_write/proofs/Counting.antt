@@ -8,20 +8,7 @@ use Rattle.spa_value.specs.declared.object.Property.{Property}
 use Rattle.spa_value.specs.View.{view}
 use Rattle.spa_value.specs.Views.{views, property_views}
 use Rattle.spa_value.proofs.ViewLaws.{views-at, views-take_more, property_views-at, property_views-take_more}
-use Rattle.spa_format.proofs.Encodings.{header_within, length-encoded_pod, length-property_encoding}
-use Rattle.spa_write.proofs.PropertyLists.{length-object}
-
--- a value is counted itself
-pub counts_itself : (v : Tree) → 1 ≤ node_count v
-counts_itself (fixed x) = omega arith
-counts_itself (string s) = omega arith
-counts_itself (bytes s) = omega arith
-counts_itself (bitmap s) = omega arith
-counts_itself (array k xs) = omega arith
-counts_itself (choice s f k x xs) = omega arith
-counts_itself (pointer t a) = omega arith
-counts_itself (struct vs) = omega arith
-counts_itself (object t i ps) = omega arith
+use Rattle.spa_format.proofs.Encodings.{header_within, length-encoded_pod, length-property_encoding, length-object}
 
 -- Lists behind one another.
 

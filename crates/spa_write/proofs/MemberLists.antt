@@ -1,5 +1,5 @@
 -- Lists of members, cut at one of them, and how long their encodings are.
-use Rattle.std.proofs.Common.{◌≡◌, ℕ, ◌+◌, ◌<◌, ◌≤◌, inl, inr, ⊎_elim, List, [], ◌∷◌, ◌++◌, length, take, drop, get_or, refl, sym, ap, ◌∙◌, subst, arith, append_assoc, length-append}
+use Rattle.std.proofs.Common.{◌≡◌, ℕ, ◌+◌, ◌<◌, ◌≤◌, inl, inr, ⊎_elim, List, [], ◌∷◌, ◌++◌, length, take, drop, get_or, refl, sym, ap, ◌∙◌, subst, arith, length-append}
 use Rattle.std.proofs.lemmas.List.{append-nil}
 use Rattle.spa_sink.specs.declared.gen_error.GenError.{GenError}
 use Rattle.spa_sink.specs.declared.gen_error.GenError.TheVariants.{TooLarge}
@@ -13,18 +13,11 @@ use Rattle.spa_value.specs.View.{view}
 use Rattle.spa_value.specs.Views.{views}
 use Rattle.spa_value.proofs.ViewLaws.{views-at, views-take_more}
 use Rattle.spa_write.specs.Measured.{AreMeasured, IsMeasured, RefusesTree}
-use Rattle.spa_format.proofs.Encodings.{length-encoded_pod, whole_members}
+use Rattle.spa_format.proofs.Encodings.{length-encoded_pod, whole_members, member_encodings-join}
 use Rattle.spa_bodies.proofs.Frames.{size_refused}
 use Rattle.spa_bodies.proofs.SinkRefusals.{unwritable_through}
 
 -- Two lists behind one another.
-
-pub member_encodings_join : (vs ws : Trees) →
-    member_encodings (join_members vs ws) ≡ member_encodings vs ++ member_encodings ws
-member_encodings_join no_trees ws = refl
-member_encodings_join (member v vs) ws =
-    ap (λ l. encoding_of v ++ l) (member_encodings_join vs ws)
-    ∙ sym (append_assoc (encoding_of v) (member_encodings vs) (member_encodings ws))
 
 pub typed_join : (vs ws : Trees) → AllTyped vs → AllTyped ws → AllTyped (join_members vs ws)
 typed_join no_trees ws h k = k
@@ -54,7 +47,7 @@ pub members_cut : (vs : List Value) (i : ℕ) (v : Value) → i < length vs → 
     member_encodings (views vs) ≡ member_encodings (views (take i vs)) ++ (encoding_of (view v) ++ member_encodings (views (drop (i + 1) vs)))
 members_cut vs i v l e =
     ap member_encodings (views-at vs i v l e)
-    ∙ member_encodings_join (views (take i vs)) (member (view v) (views (drop (i + 1) vs)))
+    ∙ member_encodings-join (views (take i vs)) (member (view v) (views (drop (i + 1) vs)))
 
 -- the encodings up to it
 pub members_next : (vs : List Value) (i : ℕ) (v : Value) → i < length vs → v ≡ get_or vs i v →
@@ -62,7 +55,7 @@ pub members_next : (vs : List Value) (i : ℕ) (v : Value) → i < length vs →
 members_next vs i v l e =
     let first = views (take i vs) in
     ap member_encodings (views-take_more vs i v l e)
-    ∙ member_encodings_join first (member (view v) no_trees)
+    ∙ member_encodings-join first (member (view v) no_trees)
     ∙ ap (λ x. member_encodings first ++ x) (append-nil (encoding_of (view v)))
 
 pub members_next_typed : (vs : List Value) (i : ℕ) (v : Value) → i < length vs → v ≡ get_or vs i v →

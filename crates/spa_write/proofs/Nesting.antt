@@ -6,7 +6,7 @@ use Rattle.std.proofs.lemmas.List.{reverse-append}
 use Rattle.spa_sink.specs.declared.gen_error.GenError.{GenError}
 use Rattle.spa_sink.specs.declared.gen_error.GenError.TheVariants.{Full, TooLarge, NulInText, WrongCount, Failed, Io, OutOfMemory}
 use Rattle.spa_sink.specs.Writing.{RefusesWrite}
-use Rattle.spa_format.specs.Words.{header_size, size_limit, word_bytes}
+use Rattle.spa_format.specs.Words.{size_limit, word_bytes}
 use Rattle.spa_format.specs.Tree.{Tree, struct, object, struct_type, object_type, Properties}
 use Rattle.spa_format.specs.Encoding.{encoded_body, encoding_of, encoded_pod, member_encodings, property_encodings}
 use Rattle.spa_format.specs.Typed.{AllPropertiesTyped, AllTyped}
@@ -15,7 +15,7 @@ use Rattle.spa_value.specs.declared.value.Value.{Value}
 use Rattle.spa_value.specs.declared.object.Property.{Property}
 use Rattle.spa_value.specs.View.{view}
 use Rattle.spa_value.specs.Views.{views, property_views}
-use Rattle.spa_format.proofs.Encodings.{key_words, length-encoded_pod, property_encoding, two_words_length, whole_members, whole_properties}
+use Rattle.spa_format.proofs.Encodings.{key_words, length-encoded_pod, property_encoding, two_words_length, whole_members, whole_properties, length-object}
 use Rattle.spa_bodies.specs.Written.{IsWholeSize, begun_length}
 use Rattle.spa_write.specs.Nesting.{AwaitsAllClosing, AwaitsClosing, Begins, IsAppended, LeftHasNul, LeftIsWritable, LeftTooLarge, LeftTyped, PutsAll, RefusesLeft, RefusesMade, StopsAt, bytes_left, closed_at, left_encodings}
 use Rattle.spa_write.specs.declared.left.Left.{Left}
@@ -79,14 +79,6 @@ begins_struct vs start old now s e =
       shorter = omega (arith, pod_size, whole_members (views vs.now));
     }
 
-object_size : (t i : ℕ) (ps : Properties) →
-    length (encoded_body (object t i ps)) ≡ header_size + length (property_encodings ps)
-object_size t i ps =
-    let body = property_encodings ps in
-    ap length (sym (append_assoc (word_bytes t) (word_bytes i) body))
-    ∙ length-append (word_bytes t ++ word_bytes i) body
-    ∙ (let two = two_words_length t i in omega arith)
-
 pub begins_object : (t i : ℕ) (ps : Bor (List Property)) (start : ℕ) (old head now : List ℕ) → t < 2 ^ 32 → i < 2 ^ 32 →
     start ≡ length old → head ≡ old ++ (word_bytes 0 ++ word_bytes object_type) →
     now ≡ head ++ (word_bytes t ++ word_bytes i) →
@@ -106,7 +98,7 @@ begins_object t i ps start old head now tf jf s e0 e1 =
     let size1 = ap length e1 ∙ length-append head ids in
     let two = two_words_length 0 object_type in
     let inside = begun_size old (now ++ left) body object_type start s all in
-    let body_size = object_size t i (property_views ps.now) in
+    let body_size = length-object t i (property_views ps.now) in
     let pod_size = length-encoded_pod object_type body in
     let whole : IsWholeSize (length body) = omega (arith, body_size, whole_properties (property_views ps.now)) in
     record {

@@ -1,10 +1,10 @@
 -- Lists of properties, cut at one of them, and how long they are.
-use Rattle.std.proofs.Common.{◌≡◌, ℕ, ◌+◌, ◌<◌, ◌≤◌, ◌^◌, inl, inr, ⊎_elim, List, ◌++◌, length, take, drop, get_or, refl, sym, ap, ◌∙◌, subst, arith, append_assoc, length-append}
+use Rattle.std.proofs.Common.{◌≡◌, ℕ, ◌+◌, ◌<◌, ◌≤◌, ◌^◌, inl, inr, ⊎_elim, List, ◌++◌, length, take, drop, get_or, refl, sym, ap, ◌∙◌, subst, arith, length-append}
 use Rattle.std.proofs.lemmas.List.{append-nil}
 use Rattle.spa_sink.specs.declared.gen_error.GenError.{GenError}
 use Rattle.spa_sink.specs.declared.gen_error.GenError.TheVariants.{TooLarge}
 use Rattle.spa_sink.specs.Writing.{RefusesWrite}
-use Rattle.spa_format.specs.Words.{header_size, size_limit, word_bytes}
+use Rattle.spa_format.specs.Words.{header_size, size_limit}
 use Rattle.spa_format.specs.Tree.{Tree, object, object_type, Properties, no_properties, property, join_properties}
 use Rattle.spa_format.specs.Encoding.{encoded_body, encoding_of, property_encodings}
 use Rattle.spa_format.specs.Typed.{AllPropertiesTyped, IsTyped}
@@ -14,20 +14,11 @@ use Rattle.spa_value.specs.View.{view}
 use Rattle.spa_value.specs.Views.{property_view, property_views}
 use Rattle.spa_value.proofs.ViewLaws.{property_views-at, property_views-take_more}
 use Rattle.spa_write.specs.Measured.{IsMeasured, PropertiesAreMeasured, PropertiesAreTooLarge, PropertiesAreWritable, RefusesTree}
-use Rattle.spa_format.proofs.Encodings.{key_words, length-encoded_pod, property_encoding, two_words_length, whole_properties}
+use Rattle.spa_format.proofs.Encodings.{key_words, length-encoded_pod, property_encoding, two_words_length, whole_properties, length-object, property_encodings-join}
 use Rattle.spa_bodies.proofs.Frames.{size_refused}
 use Rattle.spa_bodies.proofs.SinkRefusals.{unwritable_through}
 
 -- Two lists behind one another.
-
-pub property_encodings_join : (ps qs : Properties) →
-    property_encodings (join_properties ps qs) ≡ property_encodings ps ++ property_encodings qs
-property_encodings_join no_properties qs = refl
-property_encodings_join (property k f v ps) qs =
-    property_encoding k f v (join_properties ps qs)
-    ∙ ap (λ l. (key_words k f ++ encoding_of v) ++ l) (property_encodings_join ps qs)
-    ∙ sym (append_assoc (key_words k f ++ encoding_of v) (property_encodings ps) (property_encodings qs))
-    ∙ ap (λ l. l ++ property_encodings qs) (sym (property_encoding k f v ps))
 
 typed_join : (ps qs : Properties) → AllPropertiesTyped ps → AllPropertiesTyped qs →
     AllPropertiesTyped (join_properties ps qs)
@@ -70,7 +61,7 @@ properties_cut ps i p l e =
     let first = property_views (take i ps) in
     let behind = property_views (drop (i + 1) ps) in
     ap property_encodings (property_views-at ps i p l e)
-    ∙ property_encodings_join first (rest_of p behind)
+    ∙ property_encodings-join first (rest_of p behind)
     ∙ ap (λ x. property_encodings first ++ x) (property_encoding p.key p.flags.0 (view p.value) behind)
 
 -- the bytes up to it
@@ -79,7 +70,7 @@ pub properties_next : (ps : List Property) (i : ℕ) (p : Property) → i < leng
 properties_next ps i p l e =
     let first = property_views (take i ps) in
     ap property_encodings (property_views-take_more ps i p l e)
-    ∙ property_encodings_join first (property_view p)
+    ∙ property_encodings-join first (property_view p)
     ∙ ap (λ x. property_encodings first ++ x)
     (property_encoding p.key p.flags.0 (view p.value) no_properties ∙ append-nil (keyed_encoding p))
 
@@ -174,16 +165,6 @@ properties_too_long ps i p n big l e h le x r =
     (λ b. inl (omega (arith, b, le, h.size, properties_length ps i p l e))) x r
 
 -- Objects.
-
-pub length-object : (t i : ℕ) (ps : Properties) →
-    length (encoded_body (object t i ps)) ≡ header_size + length (property_encodings ps)
-length-object t i ps =
-    omega (
-      arith,
-      ap length (sym (append_assoc (word_bytes t) (word_bytes i) (property_encodings ps))),
-      length-append (word_bytes t ++ word_bytes i) (property_encodings ps),
-      two_words_length t i,
-    )
 
 -- an object of measured properties
 pub object_measured : (v : Tree) (t i : ℕ) (ps : Properties) (n k : ℕ) → v ≡ object t i ps →

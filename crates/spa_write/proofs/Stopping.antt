@@ -17,9 +17,9 @@ use Rattle.spa_value.specs.Views.{property_views, views}
 use Rattle.spa_write.specs.Measured.{ArePropertiesPut, ArePut}
 use Rattle.spa_bodies.specs.Written.{Appending, IsPut, Refusing, Stops}
 use Rattle.spa_bodies.proofs.Parts.{TakesParts, stop_as, stop_behind, stop_by, stop_first, two_stop}
-use Rattle.spa_format.proofs.Encodings.{key_words, length-encoded_pod, two_words_length, whole_members, whole_properties}
+use Rattle.spa_format.proofs.Encodings.{key_words, length-encoded_pod, two_words_length, whole_members, whole_properties, length-object}
 use Rattle.spa_write.proofs.MemberLists.{members_cut, members_length, members_next, members_next_typed}
-use Rattle.spa_write.proofs.PropertyLists.{keyed_encoding, length-object, not_long, properties_cut, properties_length, properties_next, properties_next_typed}
+use Rattle.spa_write.proofs.PropertyLists.{keyed_encoding, not_long, properties_cut, properties_length, properties_next, properties_next_typed}
 
 -- Members.
 

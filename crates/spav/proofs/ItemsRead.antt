@@ -1,9 +1,9 @@
 -- Items that are put over an output, where they fit and where they don't.
 use Rattle.std.proofs.Common.{◌≡◌, ℕ, ◌<◌, ◌≤◌, List, [], ◌∷◌, ◌++◌, length, take, drop, refl, sym, ap, subst, ◌∙◌, arith, length-take, length-drop}
 use Rattle.std.specs.Prelude.{Bool, true, false, if◌then◌else◌}
-use Rattle.std.proofs.Math.Seq.{take-length}
 use Rattle.spa_format.specs.Front.{HasFront, front_of}
 use Rattle.spa_format.specs.Words.{extent, word_at}
+use Rattle.spa_format.proofs.Fronts.{own_front}
 use Rattle.spa_items.specs.Items.{head, items_of, overlaid}
 use Rattle.spa_items.specs.declared.item.Item.{Item}
 use Rattle.spa_view.specs.Settled.{child_place, holds_value, settled_bytes}
@@ -71,14 +71,11 @@ at_front input pod f e h =
     sym (settled_itself (holds_value (front_of input)) (front_of input) (front_long input f) g)
 
 -- the item of a settled front
-whole_front : (b : List ℕ) → length b ≡ extent (word_at b 0) → front_of b ≡ b
-whole_front b e = ap (λ n. take n b) (sym e) ∙ take-length b
-
 pub says_item : (input pod set bytes : List ℕ) (at : ℕ) (item : Item) → HasFront input → pod ≡ front_of input → set ≡ settled_bytes pod → bytes ≡ set →
     length bytes ≡ extent (word_at bytes 0) → at ≡ settled_at input → item ≡ head false 0 at (front_of bytes) → SaysItem input item
 says_item input pod set bytes at item f ep es eb w ea ei = record {
   front = f;
   its_item =
-      ei ∙ ap (head false 0 at) (whole_front bytes w ∙ eb ∙ es ∙ ap settled_bytes ep)
+      ei ∙ ap (head false 0 at) (own_front bytes w ∙ eb ∙ es ∙ ap settled_bytes ep)
       ∙ ap (λ n. head false 0 n (settled_bytes (front_of input))) ea;
 }

@@ -1,43 +1,30 @@
 -- Where the body of a value under a key begins.
-use Rattle.std.proofs.Common.{◌≡◌, ℕ, ◌+◌, ◌≤◌, inl, inr, List, length, drop, refl, sym, ap, subst, ◌∙◌, arith, length-drop, true≢false}
-use Rattle.std.specs.Prelude.{Bool, true, false, if◌then◌else◌, nat_le, ◌&&◌}
-use Rattle.std.proofs.lemmas.Bool.Decides.{leb_tells}
+use Rattle.std.proofs.Common.{◌≡◌, ℕ, ◌+◌, ◌≤◌, List, length, drop, refl, sym, ap, subst, ◌∙◌, arith, length-drop}
+use Rattle.std.specs.Prelude.{Bool, true, false, if◌then◌else◌}
+use Rattle.std.proofs.lemmas.Bool.{leb-true, and_parts}
 use Rattle.spa_format.specs.Faults.{choice_header_size}
 use Rattle.spa_format.specs.Fixation.{is_choice_pod}
 use Rattle.spa_format.specs.Front.{HasFront, front_of}
 use Rattle.spa_format.specs.Kind.{Kind, body_size, type_number}
-use Rattle.spa_format.specs.Words.{extent, word_at}
-use Rattle.spa_format.proofs.WordLemmas.{word_at-drop, word_at-take}
+use Rattle.spa_format.specs.Words.{word_at}
+use Rattle.spa_format.proofs.WordLemmas.{word_at-drop}
+use Rattle.spa_format.proofs.Fronts.{size_of_front}
 use Rattle.spa_view.specs.Settled.{child_place, holds_value, settled_bytes}
 use Rattle.spav.specs.Items.{HasValueAt, settled_at}
 use Rattle.spav.specs.Setting.{HasBodyAt, HasOtherAt}
-
-front_size : (b : List ℕ) → word_at (front_of b) 0 ≡ word_at b 0
-front_size b = word_at-take (extent (word_at b 0)) 0 b (omega arith)
-
-both : (x y : Bool) → (x && y) ≡ true → y ≡ true
-both true y e = e
-both false y e = absurd (true≢false (sym e))
-
-at_most : (n m : ℕ) → nat_le n m ≡ true → n ≤ m
-at_most n m e =
-    elim (leb_tells n m) [
-      | inl p ↦ p.1
-      | inr p ↦ absurd (true≢false (sym e ∙ p.0))
-    ]
 
 -- a settled body is within the bytes
 fits_by : (x : Bool) (value : List ℕ) → HasFront value → holds_value (front_of value) ≡ x →
     (if x then child_place else 0) + 8 + word_at (if x then front_of (drop child_place (front_of value)) else front_of value) 0 ≤ length value
 fits_by true value f e =
     let b = front_of value in
-    let le = at_most (choice_header_size + word_at b child_place) (word_at b 0) (both _ _ (both (is_choice_pod b) _ e)) in
-    let inner = front_size (drop child_place b) ∙ word_at-drop child_place 0 b in
-    let outer = front_size value in
+    let le = leb-true (choice_header_size + word_at b child_place) (word_at b 0) (and_parts _ _ (and_parts (is_choice_pod b) _ e).1).1 in
+    let inner = size_of_front (drop child_place b) ∙ word_at-drop child_place 0 b in
+    let outer = size_of_front value in
     let w = f.whole in
     omega (arith, le, inner, outer)
 fits_by false value f e =
-    let outer = front_size value in
+    let outer = size_of_front value in
     let w = f.whole in
     omega (arith, outer)
 

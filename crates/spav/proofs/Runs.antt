@@ -1,18 +1,19 @@
 -- A list of calls of a builder, one call longer.
-use Rattle.std.proofs.Common.{◌≡◌, ◌≢◌, ℕ, ◌+◌, ◌*◌, ◌<◌, inl, inr, List, [], ◌∷◌, ◌++◌, length, length-take, length-drop, drop, take, get_or, refl, sym, ap, ◌∙◌, subst, arith, Bool, true, false, Ok, Err}
+use Rattle.std.proofs.Common.{◌≡◌, ◌≢◌, ℕ, ◌+◌, ◌*◌, ◌<◌, inl, inr, List, [], ◌∷◌, ◌++◌, length, length-take, length-drop, drop, take, get_or, refl, sym, ap, ◌∙◌, subst, arith, Bool, false, Ok, Err}
 use Rattle.std.specs.Prelude.{if◌then◌else◌, IsUtf8, Option, Some, None, Result}
 use Rattle.std.specs.Option.{option_map}
 use Rattle.std.specs.Str.{is_utf8}
 use Rattle.std.proofs.lemmas.Bool.Decides.{leb_tells}
 use Rattle.std.proofs.lemmas.List.{take_more}
 use Rattle.std.proofs.lemmas.Str.{IsUtf8-from_is_utf8}
+use Rattle.std.proofs.lemmas.Bool.{false_from_ne_true}
 use Rattle.spa_format.specs.Kind.{Fixed, Kind, body_size}
 use Rattle.spa_format.specs.Pod.{AreElements}
 use Rattle.spa_format.specs.Tree.{array, string, string_type}
 use Rattle.spa_builder.specs.State.{State, start}
 use Rattle.spa_builder.specs.Step as builder
 use Rattle.spa_builder.specs.Step.{Outcome, Accepts, Inval, Nospc, add, step}
-use Rattle.spa_builder.proofs.Bodies.{elements_of_bodies}
+use Rattle.spa_fixed_sized.proofs.Chunks.{elements_of_bodies}
 use Rattle.spa_builder.specs.Fields.{BuilderFields, IsAt}
 use Rattle.spa_builder.specs.Answers.{Makes}
 use Rattle.spa_builder.specs.Replay.{IsAnswered}
@@ -84,12 +85,8 @@ part_made k texts c s len b old new r e p f =
         none_is : None ≡ Some x → ⊥
         none_is i = cc
 
-decide : (b : Bool) → (b ≡ true → ⊥) → b ≡ false
-decide true n = absurd (n refl)
-decide false n = refl
-
 pub no_text : (t : List ℕ) → ¬ (IsUtf8 t) → is_utf8 t ≡ false
-no_text t n = decide (is_utf8 t) (λ e. n (IsUtf8-from_is_utf8 t e))
+no_text t n = false_from_ne_true (is_utf8 t) (λ e. n (IsUtf8-from_is_utf8 t e))
 
 -- a text is added where it is UTF-8, and refused where it isn't
 pub tested_made : {A : Type 0} (t : List ℕ) (b : Bool) (s : State) (old new : BuilderFields) (r : Result A Errno) → is_utf8 t ≡ b →

@@ -1,5 +1,6 @@
 use Rattle.std.proofs.Common.{◌<◌, ◌^◌, arith, length, rules}
-use Rattle.spa_recordings.proofs.Holding.{rest_is_shorter, walk_begins, walk_few, walk_goes_on}
+use Rattle.spa_format.proofs.Fronts.{rest_is_shorter}
+use Rattle.spa_recordings.proofs.Holding.{walk_begins, walk_few, walk_goes_on}
 use Rattle.pod_commands.proofs.refusing.first_formless.Goals as goal
 
 pub loop-front-init : goal.loop-front-init

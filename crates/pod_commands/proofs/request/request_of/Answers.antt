@@ -6,12 +6,13 @@ use Rattle.clap.specs.Words.{app_of, found_of, subcommand_of}
 use Rattle.clap.proofs.WalkLemmas.{first_value-rows}
 use Rattle.pod_commands.specs.Program.{program}
 use Rattle.pod_commands.specs.Requests.{HasFlags, HasManner, HasStream}
-use Rattle.pod_commands.proofs.Requested.{fault_is, found_is, has_dump, has_texts, no_fault, one_name, cause_is}
+use Rattle.pod_commands.proofs.Requested.{fault_is, found_is, has_dump, has_texts, no_fault, one_name}
+use Rattle.spa_bytes.proofs.Passing.{passed_on}
 use Rattle.pod_commands.proofs.request.request_of.Goals as goal
 
 pub returns-in_err-matches-clause-refused : goal.returns-in_err-matches-clause-refused
 returns-in_err-matches-clause-refused c =
-    cause_is (HasKind (fault_of program (texts c.args.words.now))) c.from_residual-in_err-matches.result c.in_err-matches.field-0.0 c.from_residual-in_err-matches.ensures.1
+    passed_on c.from_residual-in_err-matches.result c.in_err-matches.field-0.0 (HasKind (fault_of program (texts c.args.words.now))) c.from_residual-in_err-matches.ensures.1
     (fault_is _ (texts c.args.words.now) c.in_err-matches.field-0.0 c.in_ok-command.ensures c.in_err-matches.ensures.kinds)
 
 pub returns-in_default-word_of-clause-nothing : goal.returns-in_default-word_of-clause-nothing

@@ -1,7 +1,7 @@
 use Rattle.std.proofs.Common.{◌∙◌, refl, subst}
 use Rattle.spa_format.specs.Faults.{of_array}
 use Rattle.spa_format.specs.Pod.{AreElements}
-use Rattle.spa_bodies.proofs.Wholes.{whole_elements}
+use Rattle.spa_fixed_sized.proofs.Chunks.{whole_elements}
 use Rattle.spa_bodies.proofs.checks.check_array_of.Goals as goal
 
 pub returns-in-Some-clause-ok : goal.returns-in-Some-clause-ok

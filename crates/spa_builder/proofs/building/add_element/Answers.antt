@@ -1,11 +1,12 @@
 use Rattle.std.proofs.Common.{◌≡◌, ◌-◌, ◌∷◌, ◌++◌, false, true, length, ap, sym, ◌∙◌, arith, subst, length-append}
+use Rattle.std.proofs.lemmas.Bool.{and_right}
 use Rattle.spa_format.specs.Encoding.{member_encodings}
 use Rattle.spa_format.specs.Tree.{fixed}
+use Rattle.spa_format.proofs.FixedKinds.{length-fixed_body}
 use Rattle.spa_builder.specs.Step.{state_with_value}
 use Rattle.spa_builder.specs.Fields.{BuilderFields, fields_of, IsNested, frames_of, all_so_far, so_far}
 use Rattle.spa_builder.specs.Innermost.{has_room_for, has_elements, takes_elements, takes_element, with_element}
-use Rattle.spa_builder.proofs.Steps.{sized_goes, sized_nomem, sized_nospc, sized_inval, has_its_room, base_and_more, is_nomem, closing, and_false}
-use Rattle.spa_builder.proofs.Lengths.{length-fixed}
+use Rattle.spa_builder.proofs.Steps.{sized_goes, sized_nomem, sized_nospc, sized_inval, has_its_room, base_and_more, is_nomem, closing}
 use Rattle.spa_builder.proofs.Members.{element_fit, element_placed, element_not, element_bytes, is_element, small_body}
 use Rattle.spa_builder.proofs.building.add_element.Goals as goal
 
@@ -54,7 +55,7 @@ returns-then-not-has_room c s x at ty b el =
     let fit = element_fit p ps x _ (sym len) h t nested
     ∙ ap (has_room_for (length c.args.body.now)) (sym k.opened) ∙ room in
     sized_nospc _ _ _ (record { closed = s.closed; opened = with_element p x ∷ ps }) old is
-    (and_false _ _ fit)
+    (and_right _ _ fit)
 
 pub returns-in_err-append : goal.returns-in_err-append
 returns-in_err-append c s x at ty b el =
@@ -129,7 +130,7 @@ returns c s x at ty b el =
     let had : c.len-had.result ≡ length c.args.bytes.now = c.len-had.ensures in
     let mid = c.in_ok-append.ensures.ok ∙ ap (λ l. l ++ c.args.body.now) k.bytes
     ∙ ap (λ l. (front ++ so_far p) ++ l) (sym b) in
-    let size = sym len ∙ length-fixed x in
+    let size = sym len ∙ length-fixed_body x in
     let bytes = element_bytes p x front c.append.new.self c.set_child.new.bytes
     (c.len-had.result - 8) (length c.args.body.now) c.args.type_ c.is_first.result (sym ty) h
     (c.is_first.ensures p k.what) mid (ap (λ n. n - 8) (had ∙ ap length k.bytes)) size

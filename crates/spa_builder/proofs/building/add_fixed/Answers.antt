@@ -3,8 +3,8 @@ use Rattle.spa_format.specs.Kind.{body_size, fixed_body, type_number}
 use Rattle.spa_format.specs.Encoding.{encoded_pod, member_encodings}
 use Rattle.spa_format.specs.Tree.{fixed}
 use Rattle.spa_format.specs.Words.{size_limit}
+use Rattle.spa_format.proofs.FixedKinds.{length-fixed_body}
 use Rattle.spa_builder.specs.Fields.{BuilderFields, fields_of}
-use Rattle.spa_builder.proofs.Lengths.{length-fixed}
 use Rattle.spa_builder.proofs.Members.{no_place}
 use Rattle.spa_builder.proofs.Steps.{has_its_room, base_and_more}
 use Rattle.spa_builder.proofs.Placing.{IsSizeOf, not_admitted, admitted_nomem, admitted, passed}
@@ -23,7 +23,7 @@ returns-in_err-admit g c s at =
     let v = fixed x in
     let k = g.met.T.CanonicalFixedSizedPod.its_kind c.args.value.now in
     let l : g.T.CanonicalFixedSizedPod.SIZE ≡ length (fixed_body x) =
-    g.met.T.CanonicalFixedSizedPod.its_size ∙ ap body_size (sym k) ∙ sym (length-fixed x) in
+    g.met.T.CanonicalFixedSizedPod.its_size ∙ ap body_size (sym k) ∙ sym (length-fixed_body x) in
     let size : IsSizeOf c.SIZE-2.result v =
     record {
       exact = λ y. c.SIZE-2.ensures ∙ l;
@@ -45,7 +45,7 @@ returns-in_err-put_fixed_pod g c s at =
     let v = fixed x in
     let k = g.met.T.CanonicalFixedSizedPod.its_kind c.args.value.now in
     let l : g.T.CanonicalFixedSizedPod.SIZE ≡ length (fixed_body x) =
-    g.met.T.CanonicalFixedSizedPod.its_size ∙ ap body_size (sym k) ∙ sym (length-fixed x) in
+    g.met.T.CanonicalFixedSizedPod.its_size ∙ ap body_size (sym k) ∙ sym (length-fixed_body x) in
     let size : IsSizeOf c.SIZE-2.result v =
     record {
       exact = λ y. c.SIZE-2.ensures ∙ l;
@@ -66,7 +66,7 @@ returns g c s at =
     let v = fixed x in
     let k = g.met.T.CanonicalFixedSizedPod.its_kind c.args.value.now in
     let l : g.T.CanonicalFixedSizedPod.SIZE ≡ length (fixed_body x) =
-    g.met.T.CanonicalFixedSizedPod.its_size ∙ ap body_size (sym k) ∙ sym (length-fixed x) in
+    g.met.T.CanonicalFixedSizedPod.its_size ∙ ap body_size (sym k) ∙ sym (length-fixed_body x) in
     let size : IsSizeOf c.SIZE-2.result v =
     record {
       exact = λ y. c.SIZE-2.ensures ∙ l;

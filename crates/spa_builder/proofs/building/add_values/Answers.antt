@@ -3,7 +3,7 @@ use Rattle.spa_format.specs.Encoding.{encoding_of, member_encodings}
 use Rattle.spa_format.specs.Tree.{array}
 use Rattle.spa_format.specs.Words.{size_limit}
 use Rattle.spa_builder.specs.Fields.{BuilderFields, fields_of}
-use Rattle.spa_builder.proofs.Lengths.{length-elements}
+use Rattle.spa_fixed_sized.proofs.ArrayWriting.{length-array_body}
 use Rattle.spa_builder.proofs.Steps.{has_its_room, base_and_more, no_element}
 use Rattle.spa_builder.proofs.Placing.{IsSizeOf, not_admitted, admitted_nomem, admitted}
 use Rattle.spa_builder.proofs.Valued.{begun_back}
@@ -20,8 +20,8 @@ returns-in_err-admit g c s at =
     let old : BuilderFields = fields_of c.args.bytes.now c.args.frames.now in
     let xs = map g.T.CanonicalFixedSizedPod.fixed c.args.values.now in
     let v = array g.T.CanonicalFixedSizedPod.kind xs in
-    let l = length-elements g.T.CanonicalFixedSizedPod.kind g.T.CanonicalFixedSizedPod.fixed
-    c.args.values.now _ g.met.T.CanonicalFixedSizedPod.its_kind
+    let l = length-array_body g.T.CanonicalFixedSizedPod.kind g.T.CanonicalFixedSizedPod.fixed
+    _ c.args.values.now g.met.T.CanonicalFixedSizedPod.its_kind
     g.met.T.CanonicalFixedSizedPod.its_size in
     let size : IsSizeOf c.array_size-size.result v =
     record {
@@ -46,8 +46,8 @@ returns-in-Err g c s at =
     let old : BuilderFields = fields_of c.args.bytes.now c.args.frames.now in
     let xs = map g.T.CanonicalFixedSizedPod.fixed c.args.values.now in
     let v = array g.T.CanonicalFixedSizedPod.kind xs in
-    let l = length-elements g.T.CanonicalFixedSizedPod.kind g.T.CanonicalFixedSizedPod.fixed
-    c.args.values.now _ g.met.T.CanonicalFixedSizedPod.its_kind
+    let l = length-array_body g.T.CanonicalFixedSizedPod.kind g.T.CanonicalFixedSizedPod.fixed
+    _ c.args.values.now g.met.T.CanonicalFixedSizedPod.its_kind
     g.met.T.CanonicalFixedSizedPod.its_size in
     let size : IsSizeOf c.array_size-size.result v =
     record {
@@ -67,8 +67,8 @@ returns-in-Ok g c s at =
     let old : BuilderFields = fields_of c.args.bytes.now c.args.frames.now in
     let xs = map g.T.CanonicalFixedSizedPod.fixed c.args.values.now in
     let v = array g.T.CanonicalFixedSizedPod.kind xs in
-    let l = length-elements g.T.CanonicalFixedSizedPod.kind g.T.CanonicalFixedSizedPod.fixed
-    c.args.values.now _ g.met.T.CanonicalFixedSizedPod.its_kind
+    let l = length-array_body g.T.CanonicalFixedSizedPod.kind g.T.CanonicalFixedSizedPod.fixed
+    _ c.args.values.now g.met.T.CanonicalFixedSizedPod.its_kind
     g.met.T.CanonicalFixedSizedPod.its_size in
     let size : IsSizeOf c.array_size-size.result v =
     record {

@@ -1,5 +1,5 @@
-use Rattle.std.proofs.Common.{◌≡◌, ◌+◌, ◌-◌, ◌++◌, ℕ, false, length, nat_eq, ap, sym, ◌∙◌, arith, length-append}
-use Rattle.std.proofs.lemmas.Bool.Decides.{nat_tests}
+use Rattle.std.proofs.Common.{◌≡◌, ◌+◌, ◌-◌, ◌++◌, length, ap, sym, ◌∙◌, arith, length-append}
+use Rattle.std.proofs.lemmas.Bool.{ne_eqb}
 use Rattle.spa_format.specs.Words.{padding}
 use Rattle.spa_format.specs.Encoding.{member_encodings, encoded_pod}
 use Rattle.spa_builder.specs.Step.{closed_value}
@@ -8,16 +8,13 @@ use Rattle.spa_builder.proofs.FrameLists.{length-frames_of}
 use Rattle.spa_builder.proofs.Steps.{goes_ok, goes_nomem, goes_inval, closing, closes_is, closes_not, closes_other, is_value, is_no_value, is_closed, patched, is_nomem}
 use Rattle.spa_builder.proofs.building.close.Goals as goal
 
-other_number : (a b : ℕ) → (a ≡ b → ⊥) → nat_eq a b ≡ false
-other_number a b h = grind (arith, nat_tests)
-
 pub returns-then-frame-len : goal.returns-then-frame-len
 returns-then-frame-len c s at =
     let old : BuilderFields = fields_of c.args.bytes.now c.args.frames.now in
     let n : c.len.result ≡ length s.opened = c.len.ensures ∙ ap length at.frames
     ∙ length-frames_of (length (member_encodings s.closed)) s.opened in
     goes_inval _ _ old (closes_other s.closed s.opened c.args.frame
-    (other_number _ _ (λ e. c.if-frame-len.true (e ∙ sym n))))
+    (ne_eqb _ _ (λ e. c.if-frame-len.true (e ∙ sym n))))
 
 pub returns-then-not-is_finished : goal.returns-then-not-is_finished
 returns-then-not-is_finished c s at =

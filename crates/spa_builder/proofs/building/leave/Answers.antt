@@ -1,8 +1,9 @@
 use Rattle.std.proofs.Common.{◌≡◌, length, ap, sym, ◌∙◌, arith}
+use Rattle.std.proofs.lemmas.Bool.{ne_eqb}
 use Rattle.spa_format.specs.Encoding.{member_encodings}
 use Rattle.spa_builder.specs.Fields.{BuilderFields, fields_of, frames_of}
 use Rattle.spa_builder.proofs.FrameLists.{length-frames_of}
-use Rattle.spa_builder.proofs.Leaving.{abandoned_is, abandoned_other, is_without, other_number}
+use Rattle.spa_builder.proofs.Leaving.{abandoned_is, abandoned_other, is_without}
 use Rattle.spa_builder.proofs.Steps.{closing, goes_inval, goes_ok}
 use Rattle.spa_builder.proofs.building.leave.Goals as goal
 
@@ -12,7 +13,7 @@ returns-then-len-frame c s at =
     let n : c.len.result ≡ length s.opened = c.len.ensures ∙ ap length at.frames
     ∙ length-frames_of (length (member_encodings s.closed)) s.opened in
     goes_inval _ _ old (abandoned_other s.closed s.opened c.args.frame
-    (other_number _ _ (λ e. c.if-len-frame.true (sym (e ∙ sym n)))))
+    (ne_eqb _ _ (λ e. c.if-len-frame.true (sym (e ∙ sym n)))))
 
 pub truncate-requires : goal.truncate-requires
 truncate-requires c =

@@ -1,7 +1,8 @@
 use Rattle.std.proofs.Common.{◌<◌, length, take, ap, sym, ◌∙◌, subst, arith, length-drop}
 use Rattle.std.proofs.lemmas.Bool.{eqb-false, eqb-true}
 use Rattle.spa_builder.specs.Framed.{IsGrown}
-use Rattle.spa_builder.proofs.Bodies.{all_put, grown_by, grown_twice, none_put, not_grown, one_more_put, one_there, whole_rest}
+use Rattle.spa_builder.proofs.Bodies.{all_put, grown_by, grown_twice, none_put, not_grown, one_more_put, one_there}
+use Rattle.spa_fixed_sized.proofs.ChoiceReading.{whole_behind}
 use Rattle.spa_builder.proofs.bytes.put_each.Goals as goal
 
 pub loop-left-init : goal.loop-left-init
@@ -31,9 +32,10 @@ pub loop-left-preserved : goal.loop-left-preserved
 loop-left-preserved g c =
     let n = eqb-false _ 0 (sym c.is_empty.ensures ∙ c.loop-left-test.true) in
     let some : 0 < length c.loop-left.left.now = omega arith in
+    let o = one_there _ _ c.loop-left.invariant.0 some in
     let body = ap (λ m. take m c.padded_body.result) c.SIZE.ensures ∙ c.padded_body.ensures.body in
     let more = c.in_ok-append_first.ensures.ok in (
-      whole_rest _ _ _ c.loop-left.invariant.0 some c.next_element-value.ensures.rest,
+      whole_behind _ _ _ o.0 c.loop-left.invariant.0 o.1 c.next_element-value.ensures.rest,
       one_more_put _ _ _ _ _ _ _ _ _ _ g.met.T.CanonicalFixedSizedPod.its_size some c.next_element-value.ensures.says c.next_element-value.ensures.rest
           more body c.loop-left.invariant.1,
       grown_twice _ _ _ c.loop-left.invariant.2 (grown_by _ _ _ more),

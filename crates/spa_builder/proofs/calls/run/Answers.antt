@@ -1,5 +1,6 @@
-use Rattle.std.proofs.Common.{◌≡◌, ◌<◌, ◌++◌, ◌∷◌, [], Bool, true, false, length, take, ap, ◌∙◌, arith, subst}
+use Rattle.std.proofs.Common.{◌≡◌, ◌<◌, ◌++◌, ◌∷◌, [], true, length, take, ap, ◌∙◌, arith, subst}
 use Rattle.std.proofs.lemmas.List.{length-take-le}
+use Rattle.std.proofs.lemmas.Bool.{both_ways}
 use Rattle.std.specs.Prelude.{is_ok, cond}
 use Rattle.spa_builder.specs.State.{State}
 use Rattle.spa_builder.specs.Step.{step}
@@ -8,10 +9,6 @@ use Rattle.spa_builder.specs.Answers.{Makes}
 use Rattle.spa_builder.specs.Replay.{call_of}
 use Rattle.spa_builder.proofs.Runs.{so_far_more, so_far_length, so_far_all}
 use Rattle.spa_builder.proofs.calls.run.Goals as goal
-
-both : (b : Bool) → b ≡ true → b ≡ false → ⊥
-both true e f = cc
-both false e f = cc
 
 pub unreachable-requires : goal.unreachable-requires
 unreachable-requires c =
@@ -22,7 +19,7 @@ unreachable-requires c =
     let k = length-take-le i c.args.calls.now (omega arith) in
     let ok = c.push.ensures.succeeds (let m = c.loop-call.answers.ok.0 in let r =
     c.loop-call.invariant.0 in omega arith) in
-    both (is_ok c.push.result) ok c.if-is_err.ensures.negation
+    both_ways (is_ok c.push.result) c.if-is_err.ensures.negation ok
 
 pub loop-call-preserved : goal.loop-call-preserved
 loop-call-preserved c =

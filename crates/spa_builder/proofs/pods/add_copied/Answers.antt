@@ -6,7 +6,7 @@ use Rattle.spa_builder.specs.Fields.{BuilderFields, fields_of}
 use Rattle.spa_builder.specs.Step.{add, step}
 use Rattle.spa_builder.specs.Answers.{Makes}
 use Rattle.spa_builder.proofs.AtHand.{copied_step, found_bytes, found_size, own_pod}
-use Rattle.spa_builder.proofs.Valued.{kept_made}
+use Rattle.spa_builder.proofs.Steps.{kept_made}
 use Rattle.spa_builder.proofs.pods.add_copied.Goals as goal
 
 pub returns-clause-makes : goal.returns-clause-makes

@@ -2,12 +2,12 @@ use Rattle.std.proofs.Common.{◌≡◌, false, true, length, take, refl, ap, sy
 use Rattle.std.proofs.lemmas.List.{take_at}
 use Rattle.spa_format.specs.Tree.{type_of}
 use Rattle.spa_format.proofs.Back.{body_fits}
+use Rattle.spa_format.proofs.Encodings.{length-encoded_pod}
 use Rattle.spa_format.specs.Encoding.{encoded_body, encoding_of, member_encodings}
 use Rattle.spa_value.specs.View.{view}
 use Rattle.spa_builder.specs.Fields.{BuilderFields, fields_of}
 use Rattle.spa_builder.specs.Step.{takes_trees}
 use Rattle.spa_builder.specs.Innermost.{has_room_for}
-use Rattle.spa_builder.proofs.Lengths.{length-encoded_pod}
 use Rattle.spa_builder.proofs.Placing.{passed}
 use Rattle.spa_builder.proofs.Steps.{base_and_more, has_its_room, no_element}
 use Rattle.spa_builder.proofs.Valued.{made_value, misplaced, value_added, value_beyond, value_refused}

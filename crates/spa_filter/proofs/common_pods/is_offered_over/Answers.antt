@@ -7,8 +7,9 @@ use Rattle.spa_format.proofs.Unique.{same_body}
 use Rattle.spa_filter_offers.specs.Admits.{Admits}
 use Rattle.spa_filter_offers.proofs.Offering.{IsSupported-admits}
 use Rattle.spa_filter.proofs.Apart.{element_type, refused_plain}
-use Rattle.spa_filter.proofs.CommonPods.{choice_typed, offered, plain_is, same_choice}
-use Rattle.spa_filter.proofs.Passing.{passed_on}
+use Rattle.spa_filter.proofs.CommonPods.{offered, plain_is, same_choice}
+use Rattle.spa_value.proofs.TypeLaws.{type_of-choice_enum_tree}
+use Rattle.spa_bytes.proofs.Passing.{passed_on}
 use Rattle.spa_filter.proofs.common_pods.is_offered_over.Goals as goal
 
 pub returns-in_err-choice-clause-cause : goal.returns-in_err-choice-clause-cause
@@ -37,7 +38,7 @@ returns-clause-offered g c = λ v w h i.
     let type = c.requires.0 ∙ g.met.T.CanonicalFixedSizedPod.its_type in
     let choice = c.in_ok-choice.choice in
     let t = choice_tree pod.kind pod.fixed choice in
-    let typed = choice_typed pod.kind pod.fixed choice.0.0 choice.1 in
+    let typed = type_of-choice_enum_tree pod.kind pod.fixed choice.0.0 choice.1 in
     let admitted = ((c.offer_of.ensures.offer choice.0.0).each (pod.fixed c.of_body-x.result)).1 (c.admits.ensures.0 c.if-not-admits.false) in
     offered pod.kind v w t c.args.body.now c.args.choice.now (pod.fixed c.of_body-x.result) (h.its_type ∙ type) h.content
     c.of_body-x.ensures i typed c.in_ok-choice.ensures.choice

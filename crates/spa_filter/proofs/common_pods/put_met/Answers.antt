@@ -1,8 +1,9 @@
 use Rattle.std.proofs.Common.{◌≡◌, ◌∙◌, Bool, true, false, not, refl, sym}
+use Rattle.std.proofs.lemmas.Result.{on_ok_weaker}
 use Rattle.std.specs.Cmp.Lexicographic.{same_text}
 use Rattle.spa_filter.proofs.Apart.{refused_first, refused_second}
 use Rattle.spa_filter.proofs.CommonPods.{appended_first, appended_same, appended_second, has_body, plain_typed, with_type}
-use Rattle.spa_filter.proofs.Passing.{on_ok, passed_on}
+use Rattle.spa_bytes.proofs.Passing.{passed_on}
 use Rattle.spa_filter.proofs.common_pods.put_met.Goals as goal
 
 not_false : (b : Bool) → false ≡ not b → true ≡ b
@@ -11,7 +12,7 @@ not_false false e = sym e
 
 pub returns-then-theirs-clause-appended : goal.returns-then-theirs-clause-appended
 returns-then-theirs-clause-appended c =
-    on_ok c.put_pod.result
+    on_ok_weaker c.put_pod.result
     (λ p v w i j.
     let first = has_body v _ _ _ _ i c.in-Some.ensures.there in
     let second = has_body w _ _ _ _ j c.in-Some-open.ensures.there in
@@ -22,7 +23,7 @@ returns-then-theirs-clause-appended c =
 
 pub returns-then-ours-clause-appended : goal.returns-then-ours-clause-appended
 returns-then-ours-clause-appended c =
-    on_ok c.put_pod-then-ours.result
+    on_ok_weaker c.put_pod-then-ours.result
     (λ p v w i j.
     let first = has_body v _ _ _ _ i c.in-Some.ensures.there in
     let second = with_type w _ _ _ (has_body w _ _ _ _ j c.in-Some-open.ensures.there) c.if-theirs.false in
@@ -47,7 +48,7 @@ returns-in_err-is_offered-2-clause-cause c =
 
 pub returns-then-theirs-2-clause-appended : goal.returns-then-theirs-2-clause-appended
 returns-then-theirs-2-clause-appended c =
-    on_ok c.put_pod-then-theirs-2.result
+    on_ok_weaker c.put_pod-then-theirs-2.result
     (λ p v w i j.
     let first = with_type v _ _ _ (has_body v _ _ _ _ i c.in-Some.ensures.there) c.if-ours.false in
     let second = has_body w _ _ _ _ j c.in-Some-open.ensures.there in

@@ -1,9 +1,9 @@
 use Rattle.std.proofs.Common.{◌<◌, ◌∙◌, map, sym, subst, arith}
+use Rattle.std.proofs.lemmas.Result.{on_ok_weaker, IfErr-weaker}
 use Rattle.std.specs.List.{Contains}
 use Rattle.spa_format.specs.Kind.{content}
 use Rattle.spa_format.proofs.FixedKinds.{size_fits}
 use Rattle.spa_filter.proofs.EnumValues.{appended_sides, enum_first, enum_side, refused_sides}
-use Rattle.spa_filter.proofs.Passing.{if_err, on_ok}
 use Rattle.spa_filter.proofs.enums.put_enum_first.Goals as goal
 
 pub put_sides-requires : goal.put_sides-requires
@@ -21,7 +21,7 @@ returns-clause-appended g c =
     let theirs = c.in-Some-enum_view.theirs in
     let first = enum_side k (f ours.0) ours.1.now c.args.a.now c.in-Some.ensures.values in
     let second = enum_side k (f theirs.0) theirs.1.now c.args.b.now c.in-Some-enum_view.ensures in
-    on_ok c.put_sides.result
+    on_ok_weaker c.put_sides.result
     (λ m v w h i.
     appended_sides (Contains (map (content k) ours.1.now)) (Contains (map (content k) theirs.1.now)) (f ours.0) (f theirs.0) v w c.args.a.now c.args.b.now
     first second (enum_first k (f ours.0) ours.1.now c.args.a.now c.in-Some.ensures.values second.tree) h i _ _ m)
@@ -35,7 +35,7 @@ returns-clause-cause g c =
     let theirs = c.in-Some-enum_view.theirs in
     let first = enum_side k (f ours.0) ours.1.now c.args.a.now c.in-Some.ensures.values in
     let second = enum_side k (f theirs.0) theirs.1.now c.args.b.now c.in-Some-enum_view.ensures in
-    if_err c.put_sides.result
+    IfErr-weaker c.put_sides.result _ _
     (λ why r v w h i.
     refused_sides (Contains (map (content k) ours.1.now)) (Contains (map (content k) theirs.1.now)) (f ours.0) (f theirs.0) v w c.args.a.now c.args.b.now
     first second (enum_first k (f ours.0) ours.1.now c.args.a.now c.in-Some.ensures.values second.tree) h i why r)

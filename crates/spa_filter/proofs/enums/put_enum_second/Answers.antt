@@ -1,10 +1,10 @@
 use Rattle.std.proofs.Common.{◌<◌, ◌∙◌, map, sym, subst, arith}
+use Rattle.std.proofs.lemmas.Result.{on_ok_weaker, IfErr-weaker}
 use Rattle.std.specs.List.{Contains}
 use Rattle.spa_format.specs.Kind.{content}
 use Rattle.spa_format.proofs.FixedKinds.{size_fits}
 use Rattle.spa_filter_offers.specs.Offers.{OfferAdmits, default_of}
 use Rattle.spa_filter.proofs.EnumValues.{appended_sides, enum_second, enum_side, read_side, refused_sides}
-use Rattle.spa_filter.proofs.Passing.{if_err, on_ok}
 use Rattle.spa_filter.proofs.enums.put_enum_second.Goals as goal
 
 pub put_sides-requires : goal.put_sides-requires
@@ -26,7 +26,7 @@ returns-clause-appended g c =
     read_side k f choice.0.0 choice.1 offer c.args.a.now c.in_ok-choice.ensures.choice g.met.T.CanonicalFixedSizedPod.its_kind
     (c.offer_of.ensures.offer choice.0.0) in
     let second = enum_side k e theirs.1.now c.args.b.now c.in-Some.ensures.values in
-    on_ok c.put_sides.result
+    on_ok_weaker c.put_sides.result
     (λ m v w h i.
     appended_sides (OfferAdmits f offer) (Contains (map (content k) theirs.1.now)) (default_of f offer) e v w c.args.a.now c.args.b.now first second
     (enum_second k e theirs.1.now c.args.b.now c.in-Some.ensures.values first.tree) h i _ _ m)
@@ -44,7 +44,7 @@ returns-clause-cause g c =
     read_side k f choice.0.0 choice.1 offer c.args.a.now c.in_ok-choice.ensures.choice g.met.T.CanonicalFixedSizedPod.its_kind
     (c.offer_of.ensures.offer choice.0.0) in
     let second = enum_side k e theirs.1.now c.args.b.now c.in-Some.ensures.values in
-    if_err c.put_sides.result
+    IfErr-weaker c.put_sides.result _ _
     (λ why r v w h i.
     refused_sides (OfferAdmits f offer) (Contains (map (content k) theirs.1.now)) (default_of f offer) e v w c.args.a.now c.args.b.now first second
     (enum_second k e theirs.1.now c.args.b.now c.in-Some.ensures.values first.tree) h i why r)

@@ -1,4 +1,5 @@
 use Rattle.std.proofs.Common.{◌≡◌, ◌<◌, ◌∙◌, map, take, sym, ap, subst, Some, None, arith}
+use Rattle.std.proofs.lemmas.Result.{on_ok_weaker, IfErr-weaker}
 use Rattle.std.specs.Option.{option_copied}
 use Rattle.std.specs.Prelude.{slice_get}
 use Rattle.spa_format.specs.Kind.{content}
@@ -6,7 +7,6 @@ use Rattle.spa_format.specs.Tree.{choice, enum_choice, fixed}
 use Rattle.spa_format.proofs.FixedKinds.{size_fits}
 use Rattle.spa_filter.specs.CommonPods.{SideAdmits, side_default}
 use Rattle.spa_filter.proofs.EnumValues.{alone_first, alone_second, each_kept, empty_first, first_among, meets_enum, meets_only, none_kept, unwritten_met}
-use Rattle.spa_filter.proofs.Passing.{if_err, on_ok}
 use Rattle.spa_filter.proofs.enums.put_sides.Goals as goal
 
 pub returns-in_default-clause-cause : goal.returns-in_default-clause-cause
@@ -49,7 +49,7 @@ returns-then-is_only-clause-appended g c =
     let Q = SideAdmits k f b in
     let x = f c.shared_default-default.result in
     let m = c.shared_default-default.ensures in
-    on_ok c.put_element.result
+    on_ok_weaker c.put_element.result
     (λ put. record {
       value = fixed x;
       meets = meets_only P Q (side_default f a) (side_default f b) x m
@@ -69,7 +69,7 @@ returns-then-is_only-clause-cause g c =
     let Q = SideAdmits k f b in
     let x = f c.shared_default-default.result in
     let m = c.shared_default-default.ensures in
-    if_err c.put_element.result
+    IfErr-weaker c.put_element.result _ _
     (λ why r. unwritten_met P Q (side_default f a) (side_default f b) (fixed x)
     (meets_only P Q (side_default f a) (side_default f b) x m
     (alone_first P Q (side_default f a) (side_default f b) x m (c.is_only.ensures c.if-is_only.true))) why r)
@@ -86,7 +86,7 @@ returns-then-is_only-2-clause-appended g c =
     let Q = SideAdmits k f b in
     let x = f c.shared_default-default.result in
     let m = c.shared_default-default.ensures in
-    on_ok c.put_element-then-is_only-2.result
+    on_ok_weaker c.put_element-then-is_only-2.result
     (λ put. record {
       value = fixed x;
       meets = meets_only P Q (side_default f a) (side_default f b) x m
@@ -106,7 +106,7 @@ returns-then-is_only-2-clause-cause g c =
     let Q = SideAdmits k f b in
     let x = f c.shared_default-default.result in
     let m = c.shared_default-default.ensures in
-    if_err c.put_element-then-is_only-2.result
+    IfErr-weaker c.put_element-then-is_only-2.result _ _
     (λ why r. unwritten_met P Q (side_default f a) (side_default f b) (fixed x)
     (meets_only P Q (side_default f a) (side_default f b) x m
     (alone_second P Q (side_default f a) (side_default f b) x m (c.is_only-2.ensures c.if-is_only-2.true))) why r)
@@ -121,7 +121,7 @@ returns-clause-appended g c =
     let b = c.args.b.now in
     let x = f c.shared_default-default.result in
     let kept = map f (take c.put_kept-count.result c.put_kept-count.new.room) in
-    on_ok c.put_enum_of.result
+    on_ok_weaker c.put_enum_of.result
     (λ put. record {
       value = choice enum_choice 0 k x kept;
       meets = meets_enum (SideAdmits k f a) (SideAdmits k f b) (SideAdmits k f c.args.other.now) (side_default f a) (side_default f b)
@@ -139,7 +139,7 @@ returns-clause-cause g c =
     let b = c.args.b.now in
     let x = f c.shared_default-default.result in
     let kept = map f (take c.put_kept-count.result c.put_kept-count.new.room) in
-    if_err c.put_enum_of.result
+    IfErr-weaker c.put_enum_of.result _ _
     (λ why r. unwritten_met (SideAdmits k f a) (SideAdmits k f b) (side_default f a) (side_default f b) (choice enum_choice 0 k x kept)
     (meets_enum (SideAdmits k f a) (SideAdmits k f b) (SideAdmits k f c.args.other.now) (side_default f a) (side_default f b)
     (map (content k) c.args.values.now) kept c.put_kept-count.ensures.kept c.requires.shared k x c.shared_default-default.ensures) why r)

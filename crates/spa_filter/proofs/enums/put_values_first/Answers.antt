@@ -1,11 +1,12 @@
 use Rattle.std.proofs.Common.{◌<◌, ◌∙◌, map, sym, subst, arith}
+use Rattle.std.proofs.lemmas.Result.{on_ok_weaker, IfErr-weaker}
 use Rattle.std.specs.List.{Contains}
 use Rattle.spa_format.specs.Kind.{content}
 use Rattle.spa_format.proofs.FixedKinds.{size_fits}
 use Rattle.spa_filter_offers.specs.Offers.{OfferAdmits, default_of}
 use Rattle.spa_filter.proofs.Apart.{refused_choices}
 use Rattle.spa_filter.proofs.EnumValues.{appended_sides, enum_first, enum_side, read_side, refused_sides}
-use Rattle.spa_filter.proofs.Passing.{if_err, on_ok, passed_on}
+use Rattle.spa_bytes.proofs.Passing.{passed_on}
 use Rattle.spa_filter.proofs.enums.put_values_first.Goals as goal
 
 pub returns-in_err-choice-clause-cause : goal.returns-in_err-choice-clause-cause
@@ -30,7 +31,7 @@ returns-clause-appended g c =
     let second =
     read_side k f choice.0.0 choice.1 offer c.args.b.now c.in_ok-choice.ensures.choice g.met.T.CanonicalFixedSizedPod.its_kind
     (c.offer_of.ensures.offer choice.0.0) in
-    on_ok c.put_sides.result
+    on_ok_weaker c.put_sides.result
     (λ m v w h i.
     appended_sides (Contains (map (content k) c.args.ours.1.now)) (OfferAdmits f offer) d (default_of f offer) v w c.args.a.now c.args.b.now first second
     (enum_first k d c.args.ours.1.now c.args.a.now c.requires.values second.tree) h i _ _ m)
@@ -47,7 +48,7 @@ returns-clause-cause g c =
     let second =
     read_side k f choice.0.0 choice.1 offer c.args.b.now c.in_ok-choice.ensures.choice g.met.T.CanonicalFixedSizedPod.its_kind
     (c.offer_of.ensures.offer choice.0.0) in
-    if_err c.put_sides.result
+    IfErr-weaker c.put_sides.result _ _
     (λ why r v w h i.
     refused_sides (Contains (map (content k) c.args.ours.1.now)) (OfferAdmits f offer) d (default_of f offer) v w c.args.a.now c.args.b.now first second
     (enum_first k d c.args.ours.1.now c.args.a.now c.requires.values second.tree) h i why r)

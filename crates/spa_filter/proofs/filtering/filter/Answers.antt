@@ -1,6 +1,6 @@
-use Rattle.spa_filter.proofs.Passing.{passed_on}
 use Rattle.spa_filter.proofs.Agreeing.{cannot_filter}
 use Rattle.spa_filter.proofs.Objects.{objects_refused}
+use Rattle.spa_bytes.proofs.Passing.{passed_on}
 use Rattle.spa_filter.proofs.filtering.filter.Goals as goal
 
 pub returns-in_err-properties-clause-refused : goal.returns-in_err-properties-clause-refused

@@ -1,8 +1,8 @@
 use Rattle.std.proofs.Common.{List, [], refl, sym, subst}
 use Rattle.spa_format.specs.Tree.{no_properties, join_properties}
+use Rattle.spa_format.proofs.Sequences.{join_properties-none}
 use Rattle.spa_value.specs.declared.object.Property.{Property}
 use Rattle.spa_value.specs.Views.{property_views}
-use Rattle.spa_keyed_objects.proofs.KeySets.{join_properties-none}
 use Rattle.spa_filter.specs.PropertyLists.{IsPart}
 use Rattle.spa_filter.proofs.filtering.filter_lists.Goals as goal
 

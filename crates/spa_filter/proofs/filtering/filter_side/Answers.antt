@@ -1,11 +1,11 @@
 use Rattle.std.proofs.Common.{◌+◌, refl, sym, ap, ◌∙◌, subst}
+use Rattle.spa_format.proofs.Sequences.{join_properties-none}
 use Rattle.spa_value.specs.Views.{property_views}
-use Rattle.spa_keyed_objects.proofs.KeySets.{join_properties-none}
 use Rattle.spa_filter.specs.declared.filtering.Filtered.{Filtered}
 use Rattle.spa_filter.specs.PropertyLists.{IsFiltered}
-use Rattle.spa_filter.proofs.Passing.{passed_on}
 use Rattle.spa_filter.proofs.Steps.{these, key_found, seen, new, refused}
 use Rattle.spa_filter.proofs.filtering.filter_side.Goals.{then-branch+in_ok-property+in_ok-push, else-branch}
+use Rattle.spa_bytes.proofs.Passing.{passed_on}
 use Rattle.spa_filter.proofs.filtering.filter_side.Goals as goal
 
 pub loop-property-init : goal.loop-property-init

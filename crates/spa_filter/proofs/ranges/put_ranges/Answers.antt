@@ -1,8 +1,8 @@
 use Rattle.std.proofs.Common.{sym, subst, ◌∙◌, true≢false}
 use Rattle.spa_filter_elements.specs.Order.{IsOrderedKind}
 use Rattle.spa_filter_elements.proofs.Order.{IsOrderedKind-ordered}
+use Rattle.std.proofs.lemmas.Result.{on_ok_weaker, IfErr-weaker}
 use Rattle.spa_filter.proofs.RangeValues.{appended_range, no_range, refused_range}
-use Rattle.spa_filter.proofs.Passing.{if_err, on_ok}
 use Rattle.spa_filter.proofs.ranges.put_ranges.Goals as goal
 
 pub returns-then-not-is_at_most-clause-cause : goal.returns-then-not-is_at_most-clause-cause
@@ -17,7 +17,7 @@ returns-then-not-is_at_most-clause-cause g c = λ v w i j s.
 
 pub returns-clause-appended : goal.returns-clause-appended
 returns-clause-appended g c =
-    on_ok c.put_choice_of.result
+    on_ok_weaker c.put_choice_of.result
     (λ put v w i j.
     let pod = g.T.CanonicalFixedSizedPod in
     let f = pod.fixed in
@@ -34,7 +34,7 @@ returns-clause-appended g c =
 
 pub returns-clause-cause : goal.returns-clause-cause
 returns-clause-cause g c =
-    if_err c.put_choice_of.result
+    IfErr-weaker c.put_choice_of.result _ _
     (λ why r v w i j.
     let pod = g.T.CanonicalFixedSizedPod in
     let f = pod.fixed in

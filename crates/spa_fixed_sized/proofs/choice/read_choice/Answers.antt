@@ -2,7 +2,8 @@ use Rattle.std.proofs.Common.{◌∙◌, sym}
 use Rattle.spa_format.specs.Tree.{none_choice, range_choice, step_choice, enum_choice, flags_choice}
 use Rattle.spa_bytes.proofs.Passing.{passed_on}
 use Rattle.spa_fixed_sized.proofs.ChoiceReading.{array_type, opened, refused_values, before, whole_behind}
-use Rattle.spa_fixed_sized.proofs.ChoiceReading.{left_over, none_reads, enum_reads, flags_reads}
+use Rattle.spa_fixed_sized.proofs.ChoiceReading.{none_reads, enum_reads, flags_reads}
+use Rattle.spa_fixed_sized.proofs.Chunks.{whole_elements}
 use Rattle.spa_fixed_sized.proofs.choice.read_choice.Goals as goal
 
 pub open_array-requires-clause-child_type : goal.open_array-requires-clause-child_type
@@ -89,8 +90,8 @@ returns-in_ok-read_default-in-0-clause-read g c =
     let p = g.met.T.ChoiceElement.sized in
     let x = g.T.CanonicalFixedSizedPod.fixed c.in_ok-read_default-in-0.field-0.1 in
     let more =
-    left_over g.T.CanonicalFixedSizedPod.kind g.T.CanonicalFixedSizedPod.SIZE
-    c.in_ok-read_default-in-0.field-0.0.now met.its_size p
+    whole_elements g.T.CanonicalFixedSizedPod.kind g.T.CanonicalFixedSizedPod.SIZE
+    c.in_ok-read_default-in-0.field-0.0.now met.its_size
     (whole_behind g.T.CanonicalFixedSizedPod.SIZE c.in-Some.elements.now
     c.in_ok-read_default-in-0.field-0.0.now p c.in-Some.ensures.whole read.some read.rest) in
     let r =

@@ -1,5 +1,6 @@
 use Rattle.std.proofs.Common.{◌≤◌, ◌*◌, length, ap, arith, length-drop, ◌∙◌}
-use Rattle.spa_fixed_sized.proofs.ChoiceReading.{range_reads, three_before, three_whole, left_over, room, too_few}
+use Rattle.spa_fixed_sized.proofs.ChoiceReading.{range_reads, three_before, three_whole, room, too_few}
+use Rattle.spa_fixed_sized.proofs.Chunks.{whole_elements}
 use Rattle.spa_fixed_sized.proofs.choice.read_range.Goals as goal
 
 pub returns-clause-read : goal.returns-clause-read
@@ -15,7 +16,7 @@ returns-clause-read g c =
     let r : 3 * s ≤ length c.args.elements.now =
     room 3 c.count.result s (length c.args.elements.now) c.count.ensures (omega arith) in
     let w = three_whole s 0 _ _ _ _ p c.requires (omega arith) first.rest second.rest third.rest in
-    let more = left_over k s c.next_element-max.result.0.now met.its_size p w.0 in
+    let more = whole_elements k s c.next_element-max.result.0.now met.its_size w.0 in
     range_reads k f _ _ _ more.0 c.args.elements.now (three_before
     k s _ _ _ more.0 c.args.elements.now _ _ _ met.its_size p first.says first.rest second.says
     second.rest third.says third.rest more.1)

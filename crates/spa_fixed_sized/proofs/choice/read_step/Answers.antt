@@ -1,6 +1,7 @@
 use Rattle.std.proofs.Common.{◌≤◌, ◌*◌, ◌∷◌, length, ap, arith, length-drop, ◌∙◌}
 use Rattle.spa_fixed_sized.proofs.ChoiceReading.{step_reads, before, whole_behind, three_before}
-use Rattle.spa_fixed_sized.proofs.ChoiceReading.{three_whole, left_over, room, too_few}
+use Rattle.spa_fixed_sized.proofs.ChoiceReading.{three_whole, room, too_few}
+use Rattle.spa_fixed_sized.proofs.Chunks.{whole_elements}
 use Rattle.spa_fixed_sized.proofs.choice.read_step.Goals as goal
 
 pub returns-clause-read : goal.returns-clause-read
@@ -20,7 +21,7 @@ returns-clause-read g c =
     let w4 =
     whole_behind s c.next_element-max.result.0.now c.next_element-step.result.0.now p w.0 w.1
     fourth.rest in
-    let more = left_over k s c.next_element-step.result.0.now met.its_size p w4 in
+    let more = whole_elements k s c.next_element-step.result.0.now met.its_size w4 in
     let last =
     before k s (f c.next_element-step.result.1) more.0 _ _ met.its_size p fourth.says
     fourth.rest more.1 in

@@ -1,9 +1,9 @@
 use Rattle.std.proofs.Common.{subst}
 use Rattle.std.specs.Prelude.{IfNone, IfSome, Ok}
 use Rattle.std.proofs.lemmas.List.{drop_all}
-use Rattle.spa_object_view.proofs.Passing.{passed_on}
 use Rattle.spa_meet_commands.specs.Lists.{AgreesWithNone, FirstGives, OfOne}
 use Rattle.spa_meet_commands.proofs.Seeking.{next_is, pairs_found, pairs_none, pairs_on}
+use Rattle.spa_bytes.proofs.Passing.{passed_on}
 use Rattle.spa_meet_commands.proofs.lists.first_pair.Goals as goal
 
 pub returns-in_err-met-clause-cause : goal.returns-in_err-met-clause-cause

@@ -1,4 +1,4 @@
-use Rattle.std.proofs.Common.{refl, sym}
+use Rattle.std.proofs.Common.{sym}
 use Rattle.spa_names.proofs.Found.{named_there}
 use Rattle.spa_names.proofs.lookup.number_of.Goals as goal
 

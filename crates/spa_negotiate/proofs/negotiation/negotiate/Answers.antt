@@ -2,10 +2,10 @@ use Rattle.std.proofs.Common.{◌∙◌, subst}
 use Rattle.spa_value.specs.Views.{property_views}
 use Rattle.spa_negotiate.specs.declared.error.NegotiateError.TheVariants.{TypeMismatch, OutOfMemory}
 use Rattle.spa_negotiate.specs.PropertyLists.{IsSettled}
-use Rattle.spa_object_view.proofs.Passing.{passed_on}
 use Rattle.spa_negotiate.proofs.Refusing.{cannot_meet}
 use Rattle.spa_negotiate.proofs.Objects.{mismatch, objects_refused, objects_meet}
 use Rattle.spa_negotiate.proofs.Settlements.{can_meet}
+use Rattle.spa_bytes.proofs.Passing.{passed_on}
 use Rattle.spa_negotiate.proofs.negotiation.negotiate.Goals as goal
 
 pub returns-then-a-b-clause-refused : goal.returns-then-a-b-clause-refused

@@ -4,9 +4,9 @@ use Rattle.spa_value.specs.View.{view}
 use Rattle.spa_value.specs.Views.{property_views}
 use Rattle.spa_negotiate.specs.declared.negotiation.Settled.{Settled}
 use Rattle.spa_negotiate.specs.PropertyLists.{AreSettled}
-use Rattle.spa_object_view.proofs.Passing.{passed_on}
 use Rattle.spa_negotiate.proofs.Steps.{firsts, first_seen, first_new, first_keys, first_refused}
 use Rattle.spa_negotiate.proofs.negotiation.settle_first.Goals.{then-branch+in_ok-value+in_ok-push, else-branch}
+use Rattle.spa_bytes.proofs.Passing.{passed_on}
 use Rattle.spa_negotiate.proofs.negotiation.settle_first.Goals as goal
 
 pub returns-in_err-value-clause-cause : goal.returns-in_err-value-clause-cause

@@ -1,9 +1,9 @@
 use Rattle.std.proofs.Common.{◌+◌, sym, ap, ◌∙◌, subst}
 use Rattle.std.proofs.lemmas.List.{take_all}
 use Rattle.spa_format.specs.Tree.{property, no_properties, join_properties}
+use Rattle.spa_format.proofs.Sequences.{join_properties-none}
 use Rattle.spa_value.specs.View.{view}
 use Rattle.spa_value.specs.Views.{property_views}
-use Rattle.spa_keyed_objects.proofs.KeySets.{join_properties-none}
 use Rattle.spa_negotiate.specs.declared.negotiation.Settled.{Settled}
 use Rattle.spa_negotiate.specs.PropertyLists.{AreSettled, IsSettled}
 use Rattle.spa_negotiate.proofs.Steps.{others, other_seen, other_new, other_keys}

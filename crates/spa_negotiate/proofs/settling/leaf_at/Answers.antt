@@ -3,12 +3,12 @@ use Rattle.spa_format.specs.Pod.{IsPod}
 use Rattle.spa_format.specs.Tree.{Tree}
 use Rattle.spa_value.specs.View.{view}
 use Rattle.spa_bodies.specs.Written.{IsLeaf}
-use Rattle.spa_object_view.proofs.ObjectPods.{pod_there}
+use Rattle.spa_format.proofs.Fronts.{pod_begins}
 use Rattle.spa_negotiate.proofs.Leaves.{leaf_read, no_members, object_read, struct_read}
 use Rattle.spa_negotiate.proofs.settling.leaf_at.Goals as goal
 
 pub returns-in_default-clause-members : goal.returns-in_default-clause-members
-returns-in_default-clause-members c = λ v p. absurd (c.in_default.ensures.short (pod_there _ v p))
+returns-in_default-clause-members c = λ v p. absurd (c.in_default.ensures.short (pod_begins _ v p).there)
 
 pub returns-then-is_container-clause-members : goal.returns-then-is_container-clause-members
 returns-then-is_container-clause-members c =

@@ -1,7 +1,7 @@
 use Rattle.std.proofs.Common.{◌∙◌, sym, subst}
 use Rattle.spa_bytes.specs.Opening.{Opens}
+use Rattle.spa_bytes.proofs.Passing.{passed_on}
 use Rattle.spa_object_view.proofs.ObjectPods.{no_object_of, rewritten_object}
-use Rattle.spa_object_view.proofs.Passing.{passed_on}
 use Rattle.spa_object_view.proofs.front.object_pod.Goals as goal
 
 pub canonical_object-requires : goal.canonical_object-requires

@@ -3,7 +3,7 @@ use Rattle.spa_object_view.specs.Written.{BeginsWritten}
 use Rattle.spa_object_view.specs.declared.rule.Stop.TheVariants.{OutOfMemory}
 use Rattle.spa_object_view.proofs.Both.{begin_both}
 use Rattle.spa_object_view.proofs.Meetings.{are_large, are_met}
-use Rattle.spa_object_view.proofs.Passing.{passed_on}
+use Rattle.spa_bytes.proofs.Passing.{passed_on}
 use Rattle.spa_object_view.proofs.meeting.meet_objects.Goals as goal
 
 pub returns-then-ours-theirs-clause-cause : goal.returns-then-ours-theirs-clause-cause

@@ -1,6 +1,7 @@
 use Rattle.spa_object_view.proofs.ObjectPods.{begins_object}
 use Rattle.spa_object_view.proofs.Meetings.{first_stopped, second_stopped}
-use Rattle.spa_object_view.proofs.Passing.{if_err, if_ok, passed_on}
+use Rattle.spa_bytes.proofs.Passing.{passed_on}
+use Rattle.std.proofs.lemmas.Result.{IfErr-weaker, IfOk-weaker}
 use Rattle.spa_object_view.proofs.meeting.meet_pods.Goals as goal
 
 pub returns-in_err-first-clause-cause : goal.returns-in_err-first-clause-cause
@@ -14,8 +15,8 @@ returns-in_err-second-clause-cause g c =
 
 pub returns-clause-met : goal.returns-clause-met
 returns-clause-met g c =
-    if_ok c.meet_viewed.result (λ bytes f. f _ _ c.in_ok-first.ensures.object c.in_ok-second.ensures.object) c.meet_viewed.ensures.met
+    IfOk-weaker c.meet_viewed.result _ _ (λ bytes f. f _ _ c.in_ok-first.ensures.object c.in_ok-second.ensures.object) c.meet_viewed.ensures.met
 
 pub returns-clause-cause : goal.returns-clause-cause
 returns-clause-cause g c =
-    if_err c.meet_viewed.result (λ e f. f _ _ c.in_ok-first.ensures.object c.in_ok-second.ensures.object) c.meet_viewed.ensures.cause
+    IfErr-weaker c.meet_viewed.result _ _ (λ e f. f _ _ c.in_ok-first.ensures.object c.in_ok-second.ensures.object) c.meet_viewed.ensures.cause

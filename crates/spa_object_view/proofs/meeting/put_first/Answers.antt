@@ -1,10 +1,10 @@
 use Rattle.std.proofs.Common.{◌∙◌, ap, not, sym, subst}
 use Rattle.spa_format.specs.Tree.{no_properties}
-use Rattle.spa_object_view.proofs.Passing.{passed_on}
 use Rattle.spa_object_view.proofs.Sides.{IsSideLeft, side_begun, side_ended, side_next, side_on}
 use Rattle.spa_object_view.specs.Answers.{AreMetBehind}
 use Rattle.spa_object_view.proofs.Meetings.{first_put, first_refused, none_passed, seen}
 use Rattle.spa_object_view.proofs.meeting.put_first.Goals.{then-is_new+in_ok-put_of_first, else-is_new}
+use Rattle.spa_bytes.proofs.Passing.{passed_on}
 use Rattle.spa_object_view.proofs.meeting.put_first.Goals as goal
 
 pub loop-first-init : goal.loop-first-init

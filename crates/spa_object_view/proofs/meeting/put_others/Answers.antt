@@ -1,9 +1,9 @@
 use Rattle.std.proofs.Common.{◌∙◌, ap, not, sym, subst}
-use Rattle.spa_object_view.proofs.Passing.{passed_on}
 use Rattle.spa_object_view.proofs.Sides.{IsSideLeft, side_begun, side_ended, side_next, side_on}
 use Rattle.spa_object_view.specs.Answers.{AreMetBehind}
 use Rattle.spa_object_view.proofs.Meetings.{other_put, other_refused, seen}
 use Rattle.spa_object_view.proofs.meeting.put_others.Goals.{then-is_new_beside+in_ok-put_alone, else-is_new_beside}
+use Rattle.spa_bytes.proofs.Passing.{passed_on}
 use Rattle.spa_object_view.proofs.meeting.put_others.Goals as goal
 
 pub loop-first-init : goal.loop-first-init

@@ -1,14 +1,14 @@
 use Rattle.std.proofs.Common.{[], ◌∷◌, subst, sym}
+use Rattle.std.proofs.lemmas.Result.{on_ok_weaker}
 use Rattle.std.specs.Prelude.{map}
 use Rattle.spa_text.specs.Written.{Lists, values_in}
-use Rattle.spa_text.proofs.Leaf.{on_ok}
 use Rattle.spa_text.proofs.Listed.{more_listed}
 use Rattle.spa_text.proofs.leaves.print_chosen.Goals as goal
 
 pub returns-in_ok-print_element-in-Range-2 : goal.returns-in_ok-print_element-in-Range-2
 returns-in_ok-print_element-in-Range-2 g c =
     let pod = g.T.CanonicalFixedSizedPod in
-    on_ok c.print_element-in-Range-3.result
+    on_ok_weaker c.print_element-in-Range-3.result
     (λ w.
     subst (λ v. Lists c.args.expected pod.kind (values_in pod.fixed v) c.args.out.now.tokens c.print_element-in-Range-3.new.out.tokens) (sym c.in-Range.is)
     (more_listed c.args.expected pod.kind (pod.fixed c.in-Range.default ∷ pod.fixed c.in-Range.min ∷ []) (pod.fixed c.in-Range.max ∷ []) _ _ _ (more_listed c.args.expected pod.kind (pod.fixed c.in-Range.default ∷ []) (pod.fixed c.in-Range.min ∷ []) _ _ _ c.in_ok-print_element-in-Range.ensures c.in_ok-print_element-in-Range-2.ensures) w))
@@ -17,7 +17,7 @@ returns-in_ok-print_element-in-Range-2 g c =
 pub returns-in_ok-print_element-in-Step-3 : goal.returns-in_ok-print_element-in-Step-3
 returns-in_ok-print_element-in-Step-3 g c =
     let pod = g.T.CanonicalFixedSizedPod in
-    on_ok c.print_element-in-Step-4.result
+    on_ok_weaker c.print_element-in-Step-4.result
     (λ w.
     subst (λ v. Lists c.args.expected pod.kind (values_in pod.fixed v) c.args.out.now.tokens c.print_element-in-Step-4.new.out.tokens) (sym c.in-Step.is)
     (more_listed c.args.expected pod.kind (pod.fixed c.in-Step.default ∷ pod.fixed c.in-Step.min ∷ pod.fixed c.in-Step.max ∷ []) (pod.fixed c.in-Step.step ∷ []) _ _ _ (more_listed c.args.expected pod.kind (pod.fixed c.in-Step.default ∷ pod.fixed c.in-Step.min ∷ []) (pod.fixed c.in-Step.max ∷ []) _ _ _ (more_listed c.args.expected pod.kind (pod.fixed c.in-Step.default ∷ []) (pod.fixed c.in-Step.min ∷ []) _ _ _ c.in_ok-print_element-in-Step.ensures c.in_ok-print_element-in-Step-2.ensures) c.in_ok-print_element-in-Step-3.ensures) w))
@@ -26,7 +26,7 @@ returns-in_ok-print_element-in-Step-3 g c =
 pub returns-in_ok-print_element-in-Enum : goal.returns-in_ok-print_element-in-Enum
 returns-in_ok-print_element-in-Enum g c =
     let pod = g.T.CanonicalFixedSizedPod in
-    on_ok c.print_elements.result
+    on_ok_weaker c.print_elements.result
     (λ w.
     subst (λ v. Lists c.args.expected pod.kind (values_in pod.fixed v) c.args.out.now.tokens c.print_elements.new.out.tokens) (sym c.in-Enum.is)
     (subst (λ l. Lists c.args.expected pod.kind (pod.fixed c.in-Enum.default ∷ map pod.fixed l) c.args.out.now.tokens c.print_elements.new.out.tokens)
@@ -37,7 +37,7 @@ returns-in_ok-print_element-in-Enum g c =
 pub returns-in_ok-print_element-in-Flags : goal.returns-in_ok-print_element-in-Flags
 returns-in_ok-print_element-in-Flags g c =
     let pod = g.T.CanonicalFixedSizedPod in
-    on_ok c.print_elements-in-Flags.result
+    on_ok_weaker c.print_elements-in-Flags.result
     (λ w.
     subst (λ v. Lists c.args.expected pod.kind (values_in pod.fixed v) c.args.out.now.tokens c.print_elements-in-Flags.new.out.tokens) (sym c.in-Flags.is)
     (subst (λ l. Lists c.args.expected pod.kind (pod.fixed c.in-Flags.default ∷ map pod.fixed l) c.args.out.now.tokens c.print_elements-in-Flags.new.out.tokens)

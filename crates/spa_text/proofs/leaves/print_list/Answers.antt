@@ -1,8 +1,8 @@
 use Rattle.std.proofs.Common.{ap, subst, ◌∙◌}
+use Rattle.std.proofs.lemmas.Result.{on_ok_weaker}
 use Rattle.std.specs.Prelude.{map}
 use Rattle.spa_text_read.specs.Grammar.{type_kind}
 use Rattle.spa_text.specs.Written.{Lists}
-use Rattle.spa_text.proofs.Leaf.{on_ok}
 use Rattle.spa_text.proofs.Listed.{array_printed, kind_numbered}
 use Rattle.spa_text.proofs.leaves.print_list.Goals as goal
 
@@ -12,7 +12,7 @@ returns g c =
     let laws = g.met.T.CanonicalFixedSizedPod in
     let again = ap type_kind (c.TYPE-2.ensures ∙ laws.its_type) ∙ kind_numbered pod.kind in
     let xs = map pod.fixed c.args.values.now in
-    on_ok c.end_list.result
+    on_ok_weaker c.end_list.result
     (array_printed c.args.expected pod.kind xs _ _ _ _ (c.in_ok-begin_list.ensures pod.kind (c.TYPE.ensures ∙ laws.its_type))
     (subst (λ e. Lists e pod.kind xs c.begin_list.new.out.tokens c.print_elements.new.out.tokens) (c.among.ensures pod.kind again)
     c.in_ok-print_elements.ensures))

@@ -1,9 +1,9 @@
 use Rattle.std.proofs.Common.{ℕ, ap, subst, ◌∙◌, ◌<◌}
+use Rattle.std.proofs.lemmas.Result.{on_ok_weaker}
 use Rattle.spa_format.specs.Tree.{Shape}
 use Rattle.spa_text_read.specs.Grammar.{a_choice, type_kind}
 use Rattle.spa_text_read.specs.Shapes.{shape_of}
 use Rattle.spa_text.specs.Written.{Lists, Opens, values_in}
-use Rattle.spa_text.proofs.Leaf.{on_ok}
 use Rattle.spa_text.proofs.Listed.{choice_printed, kind_numbered}
 use Rattle.spa_text.proofs.leaves.print_values.Goals as goal
 
@@ -14,7 +14,7 @@ returns g c =
     let again = ap type_kind (c.TYPE-2.ensures ∙ laws.its_type) ∙ kind_numbered pod.kind in
     let opens : Shape → ℕ → Type 0 = λ h f. Opens c.args.expected (a_choice h f c.args.expected.ids pod.kind) c.args.out.now.tokens c.begin_choice.new.out.tokens in
     let choice = c.args.choice.now in
-    on_ok c.end_list.result
+    on_ok_weaker c.end_list.result
     (choice_printed c.args.expected pod.kind pod.fixed choice.0.0 choice.1 _ _ _ _
     (subst (λ n. 0 < n) laws.its_size g.met.T.ChoiceElement.sized)
     (subst (λ h. opens h choice.0.0) c.shape_in-shape.ensures

@@ -4,8 +4,8 @@ use Rattle.std.specs.Int.{w32, to_be_bytes}
 use Rattle.hex.specs.Hex.{encode_lower}
 use Rattle.spa_text_read.specs.Numerals.{word_bits}
 use Rattle.std.proofs.lemmas.Float.{not_nan_f32_bits}
+use Rattle.std.proofs.lemmas.Result.{on_ok_weaker}
 use Rattle.spa_format.specs.Kind.{float}
-use Rattle.spa_text.proofs.Leaf.{on_ok}
 use Rattle.spa_text.proofs.Numbers.{float_digits-bits, word_bits-text}
 use Rattle.spa_text.proofs.printed.print_float.Goals as goal
 
@@ -14,7 +14,7 @@ float_from_bits-float c = not_nan_f32_bits _ c.if-bits-le2139095040.true
 
 pub returns-then-is_finite : goal.returns-then-is_finite
 returns-then-is_finite c =
-    on_ok c.float.result
+    on_ok_weaker c.float.result
     (λ p. record {
       token = _;
       appended = p.1;
@@ -27,6 +27,6 @@ digits bs n e h = ap (λ l. word_bits (codes "0x" ++ encode_lower l)) e ∙ word
 
 pub returns : goal.returns
 returns c =
-    on_ok c.print_bits.result
+    on_ok_weaker c.print_bits.result
     (λ e. record { token = _; appended = e; said = ap (option_map (λ n. float n)) (digits c.to_be_bytes.result c.args.bits c.to_be_bytes.ensures c.ranges.bits.fits) })
     c.print_bits.ensures

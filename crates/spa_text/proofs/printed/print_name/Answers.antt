@@ -1,10 +1,11 @@
 use Rattle.spa_text.proofs.Numbers.{unsigned_number-decimal}
-use Rattle.spa_text.proofs.Leaf.{on_ok, unnamed}
+use Rattle.spa_text.proofs.Leaf.{unnamed}
+use Rattle.std.proofs.lemmas.Result.{on_ok_weaker}
 use Rattle.spa_text.proofs.printed.print_name.Goals as goal
 
 pub returns-in-None : goal.returns-in-None
 returns-in-None c =
-    on_ok c.u64.result
+    on_ok_weaker c.u64.result
     (λ e. record {
       token = _;
       appended = e;

@@ -1,10 +1,11 @@
 use Rattle.std.proofs.Common.{[], ◌∷◌, ◌++◌, ap, subst, sym, ◌∙◌}
+use Rattle.std.proofs.lemmas.List.{nil_from_length}
 use Rattle.spa_value.specs.View.{view}
 use Rattle.spa_text_read.specs.Grammar.{nothing}
 use Rattle.spa_text.specs.Left.{PrintsNext, PrintsOrBegins}
 use Rattle.spa_text.specs.Printed.{HasNoFloat, tokens_of}
 use Rattle.spa_text.proofs.Continuing.{first_printed, first_within, last_ended, one_begun, one_ended, one_printed}
-use Rattle.spa_text.proofs.Exactly.{empty, first_left, inner_left, last_left, next_left, one_left}
+use Rattle.spa_text.proofs.Exactly.{first_left, inner_left, last_left, next_left, one_left}
 use Rattle.spa_text.proofs.printing.print_value.Goals as goal
 
 pub loop-outer-init : goal.loop-outer-init
@@ -19,7 +20,7 @@ pub returns-in_default-pop : goal.returns-in_default-pop
 returns-in_default-pop c =
     let written = subst (λ n. PrintsNext c.loop-outer.inner.left n c.loop-outer.out.tokens c.print_next.new.out.tokens) c.in-Ended.is c.in_ok-print_next.ensures.written in
     let v = view c.args.value.now in
-    let none = empty c.loop-outer.outer.items (sym c.loop-outer.outer.ok.0 ∙ c.in_default-pop.ensures.cases.0) in
+    let none = nil_from_length c.loop-outer.outer.items (sym c.loop-outer.outer.ok.0 ∙ c.in_default-pop.ensures.cases.0) in
     last_ended v c.loop-outer.inner c.loop-outer.outer.items _ _ _ none c.loop-outer.invariant.0 written.0
     (last_left (HasNoFloat v) (tokens_of nothing v) c.loop-outer.inner c.loop-outer.outer.items _ _ _ none c.loop-outer.invariant.1 written.1)
 

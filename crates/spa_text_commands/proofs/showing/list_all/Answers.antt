@@ -1,7 +1,8 @@
 use Rattle.std.proofs.Common.{◌≡◌, ◌+◌, ◌-◌, arith, length, refl, subst}
 use Rattle.spa_format.specs.Walk.{walk}
+use Rattle.spa_format.proofs.Fronts.{rest_is_shorter}
 use Rattle.spa_text_commands.specs.Selection.{selected}
-use Rattle.spa_text_commands.proofs.Saying.{SoFar, all_listed, begins, front_selected, goes_on, none_passed, one_fits, one_passed, shrinks}
+use Rattle.spa_text_commands.proofs.Saying.{SoFar, all_listed, begins, front_selected, goes_on, none_passed, one_fits, one_passed}
 use Rattle.spa_text_commands.proofs.showing.list_all.Goals as goal
 
 pub loop-pod-init : goal.loop-pod-init
@@ -39,7 +40,7 @@ overflow_add-refused c =
     omega (arith, f, r)
 
 pub loop-pod-smaller : goal.loop-pod-smaller
-loop-pod-smaller c = shrinks c.loop-pod.left.now c.in-Some.behind.now c.in-Some.ensures.there c.in-Some.ensures.rest
+loop-pod-smaller c = rest_is_shorter c.loop-pod.left.now c.in-Some.behind.now c.in-Some.ensures.there c.in-Some.ensures.rest
 
 pub loop-pod-preserved : goal.loop-pod-preserved
 loop-pod-preserved c = (

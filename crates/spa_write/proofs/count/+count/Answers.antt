@@ -1,16 +1,17 @@
 use Rattle.std.proofs.Common.{rules, ◌≡◌, ◌+◌, ◌*◌, ◌<◌, ◌∙◌, ap, sym, arith}
 use Rattle.spa_format.specs.Tree.{member_node_count, node_count, object, property_node_count, struct}
+use Rattle.spa_format.proofs.Shapes.{some_node}
 use Rattle.spa_value.specs.declared.object.Object.{out-Object}
 use Rattle.spa_value.specs.View.{view}
 use Rattle.spa_value.specs.Views.{property_views, views}
 use Rattle.spa_value.proofs.ViewLaws.{view-struct, view-fields}
-use Rattle.spa_write.proofs.Counting.{count_at, count_next, counts_itself, property_count_at, property_count_next, whole_left, whole_more}
+use Rattle.spa_write.proofs.Counting.{count_at, count_next, property_count_at, property_count_next, whole_left, whole_more}
 use Rattle.spa_write.proofs.count.+count.Goals as goal
 
 pub left_of-returns-in_default-clause-more : goal.left_of-returns-in_default-clause-more
 left_of-returns-in_default-clause-more t c =
     let small : c.args.number < 1 = search rules in
-    omega (arith, small, counts_itself (view c.args.value.now))
+    omega (arith, small, some_node (view c.args.value.now))
 
 pub left_of-returns-in-Struct-clause-left : goal.left_of-returns-in-Struct-clause-left
 left_of-returns-in-Struct-clause-left t c =

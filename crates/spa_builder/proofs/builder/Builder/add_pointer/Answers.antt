@@ -1,7 +1,7 @@
 use Rattle.std.proofs.Common.{sym}
 use Rattle.spa_format.specs.Tree.{pointer}
+use Rattle.spa_format.proofs.Encodings.{length-pointer}
 use Rattle.spa_builder.specs.Step.{step, add}
-use Rattle.spa_builder.proofs.Lengths.{length-pointer}
 use Rattle.spa_builder.proofs.Steps.{kept, through, no_element}
 use Rattle.spa_builder.proofs.builder.Builder.add_pointer.Goals as goal
 

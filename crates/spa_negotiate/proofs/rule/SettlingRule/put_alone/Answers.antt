@@ -1,6 +1,6 @@
 use Rattle.std.proofs.Common.{refl}
-use Rattle.spa_negotiate.proofs.Agreeing.{IsPlain-plain_of}
 use Rattle.spa_negotiate.proofs.Putting.{met_alone}
+use Rattle.spa_filter.proofs.FixedObjects.{IsPlain-plain_of}
 use Rattle.spa_negotiate.proofs.rule.SettlingRule.put_alone.Goals as goal
 
 pub returns-clause-first : goal.returns-clause-first

@@ -1,7 +1,8 @@
 use Rattle.std.proofs.Common.{◌≡◌, ◌+◌, ◌-◌, ◌++◌, length, take, drop, ap, sym, ◌∙◌, arith, length-take}
 use borrow.Rule.Slice.PartMut.{Post-is}
 use Rattle.std.proofs.lemmas.List.{with_items_is}
-use Rattle.spa_spare_capacity.proofs.Pieces.{length-over, length-two, take_over}
+use Rattle.spa_format.proofs.Encodings.{two_words_length}
+use Rattle.spa_spare_capacity.proofs.Pieces.{length-over, take_over}
 use Rattle.spa_spare_capacity.proofs.written.Written.patch_two.Goals as goal
 
 pub returns : goal.returns
@@ -12,7 +13,7 @@ returns c =
     let lv = ap length v in
     let i = c.self.invariant in
     let e = c.copy_from_slice.ensures.after ∙ c.two_words.ensures in
-    let l = ap length e ∙ length-two c.args.first c.args.second in
+    let l = ap length e ∙ two_words_length c.args.first c.args.second in
     let r = c.requires in
     let w = ap length (sym c.self.view_is) ∙ length-take n c.self.inside.bytes.items in
     let ok = c.self.inside.bytes.ok.0 in

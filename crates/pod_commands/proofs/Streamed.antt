@@ -1,5 +1,5 @@
 -- Inputs that are written of as they come, name by name.
-use Rattle.std.proofs.Common.{Global, Vec, ◌≡◌, ◌≢◌, ◌∙◌, ◌+◌, ◌∷◌, ◌++◌, ◌&&◌, [], false, true, true≢false, ap, append-nil, inl, inr, length, refl, subst, sym, take, List, ℕ, Option, Some, None}
+use Rattle.std.proofs.Common.{Global, Vec, ◌≡◌, ◌∙◌, ◌+◌, ◌∷◌, ◌++◌, ◌&&◌, [], false, true, true≢false, ap, append-nil, inl, inr, length, refl, subst, sym, take, List, ℕ, Option, Some, None}
 use Rattle.std.proofs.Math.Seq.{take-append-add}
 use Rattle.std.proofs.KnownBytes.{Appends-nil, Appends-trans}
 use Rattle.std.specs.Borrow.{Bor}

@@ -1,12 +1,12 @@
 -- The objects at the fronts of two inputs, and that in which they meet.
-use Rattle.std.proofs.Common.{◌≡◌, ◌≢◌, ◌∙◌, ℕ, List, inr, arith, refl, sym, Ok, Err, Vec, Global}
-use Rattle.std.specs.Prelude.{IfOk, Result}
-use Rattle.spa_format.proofs.WordLemmas.{IsBytes-take}
+use Rattle.std.proofs.Common.{◌≡◌, ◌≢◌, ◌∙◌, ℕ, zero, suc, List, [], ◌∷◌, take, inr, arith, refl, sym, Ok, Err, Vec, Global}
+use Rattle.std.specs.Prelude.{IfErr, IfOk, IsErrAnd, Result}
+use Rattle.std.proofs.lemmas.Result.{err_from_is_err_and}
 use Rattle.libspa.specs.Encoding.{encoding_of}
 use Rattle.libspa.specs.Front.{Begins, front_of}
 use Rattle.libspa.specs.Normal.{normal_of}
 use Rattle.libspa.specs.Pod.{IsPod}
-use Rattle.libspa.specs.Tree.{Tree, object, array_type, choice_type, type_of}
+use Rattle.libspa.specs.Tree.{Tree, object, array_type, choice_type, object_type, type_of}
 use Rattle.libspa.specs.Typed.{IsBytes}
 use Rattle.libspa.specs.Words.{word_at, extent}
 use Rattle.libspa.specs.ChoiceValue.{ChoiceValue}
@@ -21,7 +21,11 @@ use Rattle.spa_negotiate.specs.Meeting.{Meet}
 use Rattle.spa_negotiate.specs.Refusals.{AreRefused}
 use Rattle.spa_negotiate.specs.Fronts.{BeginBoth, IsObject, AreFrontsRefused, MeetIn}
 use Rattle.example_calls.specs.Meeting.{ReadsBack}
-use Rattle.spa_object_view.proofs.ObjectPods.{no_object}
+
+-- a tree of another type than an object's is none,
+no_object-type_of : (t : Tree) → type_of t ≢ object_type → ¬ (IsObject t)
+no_object-type_of (object t i ps) n = λ h. n refl
+no_object-type_of _ n = λ h. h
 
 -- and so is the tree of another value than an object
 pub not_object : ((a : ValueArray) → type_of (array_view a) ≡ array_type) →
@@ -29,10 +33,16 @@ pub not_object : ((a : ValueArray) → type_of (array_view a) ≡ array_type) �
     ((o : _) → v ≢ V.Object o) → ¬ (IsObject (view v))
 not_object arrays choices (V.Object o) n = absurd (n o refl)
 not_object arrays choices (V.ValueArray a) n =
-    no_object (view (V.ValueArray a)) (λ e. omega (arith, sym (arrays a) ∙ e))
+    no_object-type_of (view (V.ValueArray a)) (λ e. omega (arith, sym (arrays a) ∙ e))
 not_object arrays choices (V.Choice c) n =
-    no_object (view (V.Choice c)) (λ e. omega (arith, sym (choices c) ∙ e))
+    no_object-type_of (view (V.Choice c)) (λ e. omega (arith, sym (choices c) ∙ e))
 not_object arrays choices _ n = λ h. h
+
+IsBytes-take : (n : ℕ) (b : List ℕ) → IsBytes b → IsBytes (take n b)
+IsBytes-take zero b h i = omega arith
+IsBytes-take (suc n) [] h i = omega arith
+IsBytes-take (suc n) (x ∷ xs) h zero = h zero
+IsBytes-take (suc n) (x ∷ xs) h (suc i) = IsBytes-take n xs (λ j. h (suc j)) i
 
 -- what was read reads back
 pub ReadsBack-begun : ((b : List ℕ) (v : Tree) → IsPod b v → normal_of v ≡ v) →
@@ -76,3 +86,13 @@ written a b v w x first second met (Ok bytes) e p =
       holds = record { met = x; meet = met; encoding = e; pod = p };
     }
 written a b v w x first second met (Err why) e p = tt
+
+-- what a result says of its value is said of it by another name,
+pub if_ok : {T E : Type 0} {P Q : T → Type 0} (r : Result T E) → ((v : T) → P v → Q v) → IfOk r P → IfOk r Q
+if_ok (Ok v) f h = f v h
+if_ok (Err e) f h = tt
+
+-- and a refusal is passed on by a `?`
+pub passed_on : {T E : Type 0} (r : Result T E) (e : E) (Q : E → Type 0) → IsErrAnd r (λ y. y ≡ e) →
+    Q e → IfErr r Q
+passed_on r e Q h q = let p = err_from_is_err_and r h in rw (p.1, p.2) q

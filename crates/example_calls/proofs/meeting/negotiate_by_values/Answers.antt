@@ -1,10 +1,8 @@
 use Rattle.std.proofs.Common.{ap, subst}
-use Rattle.std.proofs.lemmas.Result.{IfOk-weaker}
 use Rattle.libspa.specs.View.{object_view, view}
 use Rattle.spa_negotiate.specs.Meeting.{Meet}
 use Rattle.spa_negotiate.specs.Refusals.{AreRefused}
-use Rattle.example_calls.proofs.Fronts.{objects_refused, written}
-use Rattle.spa_bytes.proofs.Passing.{passed_on}
+use Rattle.example_calls.proofs.Fronts.{if_ok, objects_refused, passed_on, written}
 use Rattle.example_calls.proofs.meeting.negotiate_by_values.Goals as goal
 
 pub returns-in_err-met-clause-refused : goal.returns-in_err-met-clause-refused
@@ -26,5 +24,5 @@ returns-clause-fixated c =
     let met : Meet v w x =
     subst (λ t. Meet t w x) (ap view c.deref.ensures)
     (subst (λ t. Meet (view c.deref.result.now) t x) (ap view c.deref-2.ensures) c.in_ok-met.ensures.value) in
-    IfOk-weaker c.encoded.result _ _ (λ bytes m. c.meetings_need_no_fixation.ensures c.args.a.now c.args.b.now bytes.items m)
+    if_ok c.encoded.result (λ bytes m. c.meetings_need_no_fixation.ensures c.args.a.now c.args.b.now bytes.items m)
     (written c.args.a.now c.args.b.now v w x c.in_ok-first.ensures.value c.in_ok-second.ensures.value met _ c.encoded.ensures.encoding c.encoded.ensures.pod)

@@ -1,7 +1,6 @@
 use Rattle.std.proofs.lemmas.Result.{IfErr-weaker, IfOk-weaker}
 use Rattle.example_types.specs.Stream.{IsStreamFormat}
-use Rattle.example_types.proofs.Streams.{read_as}
-use Rattle.spa_typed_read.proofs.Visits.{exactly_as}
+use Rattle.example_types.proofs.Streams.{read_as, refused_as}
 use Rattle.example_types.proofs.stream.read_stream_format.Goals as goal
 
 pub returns-clause-read : goal.returns-clause-read
@@ -14,7 +13,7 @@ returns-clause-read c =
 pub returns-clause-exactly : goal.returns-clause-exactly
 returns-clause-exactly c =
     IfErr-weaker c.deserialize_from.result _ _
-    (λ e refused. exactly_as _ IsStreamFormat _ c.args.input.now e
+    (λ e refused. refused_as _ IsStreamFormat _ c.args.input.now e
     (λ v it s. record { properties = s.properties; is = s.is; are = (s.encoding, (s.rate, (s.channels, tt))) })
     (c.exact_types_come_back.ensures.exactly c.args.input.now e refused))
     c.deserialize_from.ensures.refused

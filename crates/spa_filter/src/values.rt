@@ -94,6 +94,7 @@ fn typed_meets<T: Element>(
 }
 
 /// A value that admits exactly what two choices over the type `T` both admit, where they are supported and admit one.
+#[inline(never)]
 pub(crate) fn choices_meet<T: Element>(
     alloc: Global,
     choice: &Choice<T>,

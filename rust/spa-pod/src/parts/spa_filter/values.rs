@@ -72,6 +72,7 @@ fn typed_meets<T: Element>(
 }
 
 /// A value that admits exactly what two choices over the type `T` both admit, where they are supported and admit one.
+#[inline(never)]
 pub(crate) fn choices_meet<T: Element>(
     choice: &Choice<T>,
     other: &Choice<T>,

@@ -12,7 +12,8 @@ use test_bytes::{nested_pods, nested_structs, push_words};
 const DEEP: u32 = 2000;
 
 /// Appends the answer to a row about depth: of `levels` the levels of the input; of `nested`, whose first word is a number, what that many
-/// structs and an empty one in the innermost are read as; of `waiting` what is found in as many structs that each stand before an Int;
+/// structs and an empty one in the innermost are read as; of `waiting`, whose first word is a number, what is found in that many structs, of which each
+/// inner one stands before an Int, around the pod of the other words, or an Int;
 /// of `deep` what is found in pods so deep, whose words behind the size are those of the row but for the last four, the innermost pod;
 /// the others of `headers`.
 pub(crate) fn answer_depth(
@@ -30,7 +31,11 @@ pub(crate) fn answer_depth(
             push_front(alloc, pods.as_slice(), answers)?;
             push_dispute(alloc, pods.as_slice(), "as it is", 0, answers)
         }
-        "waiting" => push_found(alloc, waiting(alloc, levels)?.as_slice(), answers),
+        "waiting" => {
+            let (_, inner) = words.split_at(words.len().min(1));
+            let inner = if inner.is_empty() { &INT } else { inner };
+            push_found(alloc, waiting(alloc, levels, inner)?.as_slice(), answers)
+        }
         "deep" => {
             let (head, inner) = words.split_at(words.len().saturating_sub(INNER));
             let pods = nested_pods(alloc, DEEP, head, inner)?;
@@ -43,6 +48,9 @@ pub(crate) fn answer_depth(
 
 /// How many words the innermost pod has.
 const INNER: usize = 4;
+
+/// An Int.
+const INT: [u32; INNER] = [4, 4, 7, 0];
 
 /// The words of an input.
 pub(crate) fn words_of(alloc: Global, input: &[u8]) -> Result<Vec<u32>, AllocError> {
@@ -96,15 +104,16 @@ fn push_fault(alloc: Global, input: &[u8], answers: &mut String) -> Result<(), A
     }
 }
 
-/// So many structs in one another, each before an Int, and in the innermost one an Int alone.
-fn waiting(alloc: Global, levels: u32) -> Result<Vec<u8>, AllocError> {
+/// So many structs in one another around a pod of four words, and an Int behind each inner one.
+fn waiting(alloc: Global, levels: u32, inner: &[u32]) -> Result<Vec<u8>, AllocError> {
     let mut bytes = Vec::new(alloc);
     for level in 0..levels {
-        let inner = (levels - level).wrapping_sub(1);
-        push_words(&mut bytes, &[inner.wrapping_mul(24).wrapping_add(16), 14])?;
+        let inside = (levels - level).wrapping_sub(1);
+        push_words(&mut bytes, &[inside.wrapping_mul(24).wrapping_add(16), 14])?;
     }
-    for _ in 0..levels {
-        push_words(&mut bytes, &[4, 4, 7, 0])?;
+    push_words(&mut bytes, inner)?;
+    for _ in 1..levels {
+        push_words(&mut bytes, &INT)?;
     }
     Ok(bytes)
 }

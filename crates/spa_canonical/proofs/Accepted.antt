@@ -26,10 +26,10 @@ use Rattle.spa_canonical.proofs.Depths.{deep_begun}
 use Rattle.spa_canonical.proofs.Looks.{stands_opened}
 use Rattle.spa_canonical.proofs.Offsets.{body_long, offset_opened}
 use Rattle.spa_canonical.proofs.Refusals.{front_refused}
-use Rattle.spa_canonical.proofs.Rewritten.{parted}
 use Rattle.spa_canonical.proofs.ShorterLemmas.{first_within, within_behind}
 use Rattle.spa_canonical.proofs.Stretches.{FirstMembers}
 use Rattle.spa_canonical.proofs.Lengths.{lengths}
+use Rattle.spa_bodies.proofs.Steps.{parted}
 
 -- what stands at a place is no pod of the grammar
 fault_refuses : (input place : List ℕ) (why : Refusal) → Says (λ k. Stands k place input) ⊥ why → IsRefused input

@@ -1,5 +1,5 @@
 -- The bodies of arrays and choices, part by part.
-use Rattle.std.proofs.Common.{◌≡◌, ℕ, suc, zero, ◌+◌, ◌*◌, ◌/◌, ◌%◌, ◌<◌, ◌≤◌, List, [], ◌-◌, ◌∷◌, length, drop, take, refl, sym, ap, ◌∙◌, subst, arith, length-drop}
+use Rattle.std.proofs.Common.{◌≡◌, ℕ, suc, zero, ◌+◌, ◌*◌, ◌/◌, ◌<◌, ◌≤◌, List, [], ◌-◌, ◌∷◌, length, drop, take, refl, sym, ap, ◌∙◌, subst, arith, length-drop}
 use Rattle.std.proofs.lemmas.List.{drop-drop, drop-take, length-take-le, nil_from_length, take-take, take_all}
 use Rattle.spa_format.specs.Words.{word_at}
 use Rattle.spa_format.specs.Kind.{Kind, Fixed, IsFixedBody, body_size, content, type_number}
@@ -7,7 +7,6 @@ use Rattle.spa_format.specs.Tree.{Shape, choice, choice_type, none_choice, range
 use Rattle.spa_format.specs.Pod.{AreElements, least_count, values_taken}
 use Rattle.spa_format.specs.Faults.{choice_header_size}
 use Rattle.spa_format.proofs.Elements.{elements_length}
-use Rattle.spa_fixed_sized.specs.Reading.{AreWhole}
 use Rattle.std.proofs.Math.Nat.{mul-le-mul_right}
 use Rattle.spa_format.proofs.WordLemmas.{word_at-drop}
 use Rattle.spa_canonical.specs.Canonical.{bytes_taken}
@@ -15,12 +14,6 @@ use Rattle.spa_canonical.specs.Rewriting.{IsShorterBody}
 use Rattle.spa_format.specs.Encoding.{encoded_body, fixed_bodies}
 use Rattle.spa_format.specs.Normal.{kept_flags}
 use Rattle.spa_canonical.proofs.Lengths.{lengths}
-
-whole_parts : (n s : ℕ) → n % s ≡ 0 → n ≡ n / s * s
-whole_parts n s e = grind arith
-
-pub whole_of : (s : ℕ) (b : List ℕ) → length b % s ≡ 0 → AreWhole s b
-whole_of s b e = record { many = length b / s; count = whole_parts (length b) s e }
 
 -- so many bodies of a kind say values
 pub record IsListed (k : Kind) (n : ℕ) (b : List ℕ) : Type 0 where

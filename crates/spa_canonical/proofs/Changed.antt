@@ -12,11 +12,12 @@ use Rattle.spa_canonical.specs.Look.{AreAccepted, AreChanged}
 use Rattle.spa_canonical.specs.Rewriting.{AreShorter, BeginsShorter}
 use Rattle.spa_canonical.specs.declared.look.AcceptedPods.{AcceptedPods}
 use Rattle.spa_format.specs.Front.{front_of}
-use Rattle.spa_canonical.proofs.Rewritten.{parted}
-use Rattle.spa_canonical.proofs.Stretches.{FirstMembers, member_encodings-join}
+use Rattle.spa_canonical.proofs.Stretches.{FirstMembers}
 use Rattle.spa_canonical.proofs.Lengths.{lengths}
 use Rattle.spa_canonical.proofs.ShorterLemmas.{canonical_shorter, front_shorter, shorter_joined, shorter_none}
 use Rattle.std.specs.Prelude.{false}
+use Rattle.spa_format.proofs.Encodings.{member_encodings-join}
+use Rattle.spa_bodies.proofs.Steps.{parted}
 
 -- All pods before what is left are accepted, and those behind so many first bytes are canonical.
 pub record ChangesUpTo (pods left : List ℕ) (changed surplus : ℕ) : Type 0 where

@@ -1,7 +1,7 @@
 -- The value of a pod nests deeper than so many levels exactly where the pod does.
 use Rattle.std.proofs.Common.{◌≡◌, ℕ, suc, zero, ◌<◌, ◌≤◌, inl, inr, List, [], ◌∷◌, drop, refl, sym, ap, ◌∙◌, subst, arith}
 use Rattle.std.specs.Prelude.{◌⊎◌, ◌↔◌, Bool, false, true, Decides, max}
-use Rattle.std.proofs.lemmas.Bool.{cases_lt}
+use Rattle.std.proofs.lemmas.Bool.{cases_lt, both_ways}
 use Rattle.spa_format.specs.Words.{body_of, header_size, word_at}
 use Rattle.spa_format.specs.Tree.{Tree, fixed, string, bytes, bitmap, array, choice, pointer, struct, object, Trees, no_trees, member, Properties, no_properties, property, type_of}
 use Rattle.spa_format.specs.Pod.{AreMembers, IsBody, IsPod}
@@ -128,16 +128,13 @@ members_deep n vs b m =
     let w = members_walked vs b m in
     (some_member n (deep_value n) vs (walk b) w, member_deep n (value_deep n) vs (walk b) w)
 
-pub not_both : (b : Bool) → b ≡ false → b ≡ true → ⊥
-not_both b e f = let g = sym e ∙ f in grind arith
-
 -- an answer whether levels are enough
 pub decided : (b : Bool) (n depth : ℕ) → (b ≡ false → n < depth) → (n < depth → b ≡ false) → Decides b (depth ≤ n)
 decided true n depth f g = (
   λ _. elim (cases_lt n depth) [
-    | inl l ↦ absurd (not_both true (g l) refl)
+    | inl l ↦ absurd (both_ways true (g l) refl)
     | inr l ↦ l
   ],
   λ _. refl,
 )
-decided false n depth f g = (λ e. absurd (not_both false refl e), λ l. absurd (let h = f refl in omega arith))
+decided false n depth f g = (λ e. absurd (both_ways false refl e), λ l. absurd (let h = f refl in omega arith))

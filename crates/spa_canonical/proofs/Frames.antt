@@ -3,16 +3,15 @@ use Rattle.std.proofs.Common.{append-nil, List, [], ap, append_assoc, arith, dro
 use Rattle.std.proofs.Math.Seq.{take-add}
 use Rattle.std.proofs.lemmas.List.{take_at, nil_from_length, take-append-drop}
 use Rattle.spa_format.specs.Words.{body_of, extent, header_size, padded_size, padding, wide_at, wide_bytes, word_at, word_bytes}
-use Rattle.spa_format.specs.Tree.{Tree, Trees, fixed, member, no_properties, no_trees, object, object_type, pointer, pointer_type, property, type_of}
+use Rattle.spa_format.specs.Tree.{Trees, fixed, member, no_properties, no_trees, object, object_type, pointer, pointer_type, property, type_of}
 use Rattle.spa_format.specs.Pod.{AreMembers, AreProperties, IsBody}
 use Rattle.spa_format.specs.Encoding.{encoded_pod, encoded_body, encoding_of}
 use Rattle.spa_format.specs.Typed.{IsBytes}
 use Rattle.spa_format.specs.Front.{HasFront, front_of}
-use Rattle.spa_format.proofs.Fronts.{front_of_whole, length-body_of, front_and_rest}
+use Rattle.spa_format.proofs.Fronts.{front_of_whole, length-body_of}
 use Rattle.spa_format.proofs.Short.{padded_above}
 use Rattle.spa_bytes.specs.Opening.{Opens}
-use Rattle.spa_bodies.specs.Reading.{BeginsWith}
-use Rattle.spa_bodies.proofs.Steps.{pod_read}
+use Rattle.spa_bodies.proofs.Steps.{pod_read, parted}
 use Rattle.spa_canonical.specs.Canonical.{AreCanonical, AreCanonicalProperties, BeginsCanonical, HasZeros, IsCanonicalBody, IsStretch}
 use Rattle.spa_format.proofs.WordLemmas.{IsBytes-drop, IsBytes-take, wide_at-drop, word_at-drop, word_at-take}
 use Rattle.spa_format.specs.Kind.{Kind, bool_kind, IsFixedBody, type_number, body_size, content}
@@ -50,9 +49,6 @@ no_members = record { values = no_trees; members = refl; same = refl }
 
 pub no_properties_left : AreCanonicalProperties []
 no_properties_left = record { values = no_properties; properties = refl; same = refl }
-
-pub parted : (input : List ℕ) (v : Tree) (rest : List ℕ) → BeginsWith input v rest → input ≡ front_of input ++ rest
-parted input v rest r = front_and_rest input ∙ ap (λ l. front_of input ++ l) (sym r.follows)
 
 -- a pod of fixed size
 pub fixed_begins : (input rest : List ℕ) (k : Kind) (s : ℕ) → IsBytes input → 16 ≤ length input → word_at input 4 ≡ type_number k → word_at input 0 ≡ s → s ≡ body_size k → s < 9 → 0 < s → HasZeros (drop 8 input) s → (k ≡ bool_kind → word_at input 8 < 2) → rest ≡ drop 16 input → BeginsCanonical input rest

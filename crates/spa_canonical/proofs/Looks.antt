@@ -1,7 +1,7 @@
 -- A look at pods: what is passed, what is opened, and what waits.
 use Rattle.std.proofs.Common.{◌≡◌, ◌≢◌, ℕ, suc, ◌+◌, ◌-◌, ◌<◌, ◌≤◌, ◌%◌, inl, inr, List, [], ◌∷◌, ◌++◌, length, take, drop, reverse, refl, sym, ap, ◌∙◌, subst, arith, append_assoc, length-drop}
-use Rattle.std.specs.Prelude.{Bool, true, false, get_or, replicate, set}
-use Rattle.std.proofs.lemmas.List.{append-nil, drop_at, length-take-le, reverse-append, take-append-drop, take_more, take_more_set}
+use Rattle.std.specs.Prelude.{Bool, true, false, get_or, not, replicate, set, ◌==◌}
+use Rattle.std.proofs.lemmas.List.{append-nil, drop_at, length-reverse, length-take-le, reverse-append, take-append-drop, take_more, take_more_set}
 use Rattle.spa_format.specs.Words.{body_of, extent, header_size, padded_size, word_at}
 use Rattle.spa_format.specs.Tree.{Tree, no_trees, member, no_properties, property, object_type, struct}
 use Rattle.spa_format.specs.Pod.{AreMembers, AreProperties}
@@ -25,11 +25,11 @@ use Rattle.spa_events.specs.Inside.{IsBehindKey, IsInside, key_size}
 use Rattle.spa_canonical.specs.declared.inside.Waiting.{Waiting}
 use Rattle.spa_canonical.proofs.Offsets.{body_long, key_long, offset_behind, offset_first, offset_opened}
 use Rattle.spa_canonical.proofs.ShorterLemmas.{shorter_inside, shorter_none, shorter_opened, shorter_room, shorter_step, whole_keyed, whole_list}
-use Rattle.spa_canonical.proofs.Levels.{as_deep_inside, deep_behind, deep_inside}
-use Rattle.spa_canonical.proofs.Rewritten.{parted}
+use Rattle.spa_canonical.proofs.Levels.{as_deep_inside, deep_behind, deep_here, deep_inside}
 use Rattle.spa_format.specs.Encoding.{encoding_of}
 use Rattle.spa_format.proofs.Unique.{one_value}
 use Rattle.spa_canonical.proofs.Lengths.{lengths}
+use Rattle.spa_bodies.proofs.Steps.{parted}
 
 -- a canonical pod in front of others
 own_step : (keyed : Bool) (left here rest : List ℕ) → IsBytes left → IsBehindKey keyed left here → BeginsCanonical here rest →
@@ -200,11 +200,20 @@ pub record Awaits (canonical all : Bool) (pods : List ℕ) (Then : ℕ → Type 
   pub offset : (k : Fault) (at : ℕ) → StandsAt k (scope_of keyed) at left → StandsAt k (scope_of all) (length pods - (length left + behind) + at) pods
   pub deep : (n : ℕ) → NestsDeeperInside n keyed left → NestsDeeperInside (n + waiting) all pods
 
+-- how a list that waits says that a key and flags stand before each pod
+abbrev pub as_word : Bool → ℕ
+as_word true = 1
+as_word false = 0
+
+pub word_kept : (keyed : Bool) → not (as_word keyed == 0) ≡ keyed
+word_kept true = refl
+word_kept false = refl
+
 -- what holds once the innermost list ends, where these wait, the innermost first: the pods inside that all of these wait for are kept
 abbrev pub Onward : Bool → Bool → List ℕ → List Waiting → ℕ → Type 0
 Onward canonical all pods [] = Fits canonical all pods
 Onward canonical all pods (next ∷ outer) =
-    Awaits canonical all pods (Onward canonical all pods outer) (length outer) next.keyed next.pods.now next.behind
+    Awaits canonical all pods (Onward canonical all pods outer) (length outer) (not (next.keyed == 0)) next.pods.now next.behind
 
 -- these wait, and this is left of the innermost list
 abbrev pub AwaitsAll : Bool → Bool → List ℕ → List Waiting → Bool → List ℕ → ℕ → ℕ → Type 0
@@ -311,6 +320,24 @@ pub goes_in : (canonical all keyed inner : Bool) (pods left inside rest : List �
 goes_in canonical all keyed inner pods left inside rest Then waiting behind after surplus w x long =
     goes_inside canonical all keyed inner pods left inside rest Then waiting (suc waiting) behind after surplus w x long (λ n d.
     subst (λ m. NestsDeeperInside m all pods) (omega arith) (w.deep (suc n) (deep_inside n keyed inner left inside rest x d)))
+
+pub list_waits : (canonical all keyed inner : Bool) (pods left inside : List ℕ) (next : Waiting) (outer : List Waiting) (after surplus : ℕ) →
+    next.keyed ≡ as_word keyed → AwaitsAll canonical all pods outer keyed left next.behind surplus → OpensInside keyed left inner inside next.pods.now →
+    Surround keyed left inner inside after → AwaitsAll canonical all pods (next ∷ outer) inner inside (next.behind + after) surplus
+list_waits canonical all keyed inner pods left inside next outer after surplus e w x long =
+    let is : not (next.keyed == 0) ≡ keyed = ap (λ n. not (n == 0)) e ∙ word_kept keyed in
+    subst
+    (λ k. Awaits canonical all pods (Awaits canonical all pods (Onward canonical all pods outer) (length outer) k next.pods.now next.behind) (suc (length outer)) inner
+    inside (next.behind + after) surplus) (sym is) (goes_in canonical all keyed inner pods left inside next.pods.now (Onward canonical all pods outer)
+    (length outer) next.behind after surplus w x long)
+
+-- there is no room for one more
+pub no_room : (canonical all keyed inner : Bool) (pods left inside rest : List ℕ) (frames : List Waiting) (waiting behind surplus room : ℕ) →
+    AwaitsAll canonical all pods (reverse (take waiting frames)) keyed left behind surplus → OpensInside keyed left inner inside rest →
+    waiting ≤ length frames → length frames ≤ waiting → length frames ≡ room → NestsDeeperInside room all pods
+no_room canonical all keyed inner pods left inside rest frames waiting behind surplus room w x within full e =
+    let l = length-reverse (take waiting frames) ∙ length-take-le waiting frames within in
+    subst (λ n. NestsDeeperInside n all pods) (omega arith) (w.deep 0 (deep_here keyed inner left inside rest x))
 
 pub none_own : (keyed : Bool) (left : List ℕ) → length left ≡ 0 → AreCanonicalInside keyed left
 none_own true left z = none_left_either left z

@@ -1,5 +1,5 @@
 -- What a rewriting is worth.
-use Rattle.std.proofs.Common.{◌≡◌, ◌≤◌, ℕ, List, [], ◌++◌, length, ap, sym, ◌∙◌, refl, subst}
+use Rattle.std.proofs.Common.{◌≡◌, ◌≤◌, ℕ, List, [], length, ap, sym, ◌∙◌, refl, subst}
 use Rattle.std.proofs.lemmas.List.{append-nil}
 use Rattle.spa_format.specs.Tree.{Tree, Trees, member, no_trees}
 use Rattle.spa_format.specs.Words.{word_at, extent}
@@ -7,19 +7,14 @@ use Rattle.spa_format.specs.Pod.{AreMembers, IsPod}
 use Rattle.spa_format.specs.Encoding.{encoding_of}
 use Rattle.spa_format.specs.Typed.{IsBytes}
 use Rattle.spa_format.specs.Front.{Begins, IsRefused, front_of}
-use Rattle.spa_format.proofs.Fronts.{front_and_rest}
 use Rattle.spa_format.proofs.WordLemmas.{IsBytes-take}
 use Rattle.spa_format.proofs.Origin.{rewriting_is_pod, same_rewriting}
 use Rattle.spa_format.proofs.Short.{shortest}
 use Rattle.spa_fixed_sized.specs.declared.fault.DeserializeError.{DeserializeError}
 use Rattle.spa_fixed_sized.specs.declared.fault.DeserializeError.TheVariants as error
 use Rattle.spa_format.proofs.Refused.{refused_behind_members}
-use Rattle.spa_bodies.specs.Reading.{BeginsWith, OnFault}
+use Rattle.spa_bodies.specs.Reading.{OnFault}
 use Rattle.spa_canonical.specs.Rewriting.{IsLeft, IsRewriting}
-
--- the input is the front and what follows it
-pub parted : (input : List ℕ) (v : Tree) (rest : List ℕ) → BeginsWith input v rest → input ≡ front_of input ++ rest
-parted input v rest r = front_and_rest input ∙ ap (λ l. front_of input ++ l) (sym r.follows)
 
 -- one pod is a list
 pub alone : (front : List ℕ) (v : Tree) → IsPod front v → AreMembers (member v no_trees) front

@@ -10,20 +10,19 @@ use Rattle.spa_format.specs.Encoding.{encoded_body, encoding_of, property_encodi
 use Rattle.spa_format.specs.Front.{HasFront, front_of, rest_of}
 use Rattle.spa_format.proofs.Choices.{pointer_length}
 use Rattle.spa_format.proofs.Elements.{same_array_length}
-use Rattle.spa_format.proofs.Encodings.{length-property_encoding, whole_members, whole_properties}
+use Rattle.spa_format.proofs.Encodings.{length-property_encoding, whole_members, whole_properties, member_encodings-join}
 use Rattle.spa_format.proofs.FixedKinds.{fixed_length}
 use Rattle.spa_format.proofs.Fronts.{front_of_whole, length-body_of}
 use Rattle.spa_format.proofs.Short.{length-encoded_pod}
 use Rattle.spa_bytes.specs.Opening.{Opens}
-use Rattle.spa_bodies.proofs.Steps.{pod_read}
+use Rattle.spa_bodies.proofs.Steps.{pod_read, parted}
 use Rattle.spa_canonical.specs.Canonical.{AreCanonical, IsFixedLen}
 use Rattle.spa_canonical.specs.Depth.{depth_of, member_depth}
 use Rattle.spa_canonical.specs.Rewriting.{ArePodsWithin, AreShorter, AreShorterInside, BeginsShorter, IsShorterBody}
 use Rattle.spa_events.specs.Inside.{IsBehindKey, IsInside}
 use Rattle.spa_format.proofs.Sequences.{members_joined}
-use Rattle.spa_canonical.proofs.Stretches.{member_encodings-join}
 use Rattle.spa_canonical.proofs.SameLength.{as_long, fixed_same_length}
-use Rattle.spa_canonical.proofs.Rewritten.{alone, parted}
+use Rattle.spa_canonical.proofs.Rewritten.{alone}
 use Rattle.spa_canonical.proofs.Lengths.{lengths}
 
 -- lists of pods are as long as a multiple of 8
@@ -79,6 +78,11 @@ shorter_room input rest n c =
     let p = parted input c.value rest c.begins in
     let d = ap length p ∙ length-append (front_of input) rest in
     omega arith
+
+-- no more bytes go than are there
+pub shorter_within : (keyed : Bool) (pods : List ℕ) (n : ℕ) → AreShorterInside keyed pods n → n ≤ length pods
+shorter_within true pods n s = omega (arith, s.2)
+shorter_within false pods n s = omega (arith, s.long)
 
 -- one pod
 pub front_shorter : (input rest : List ℕ) (n : ℕ) → BeginsShorter input rest n → AreShorter (front_of input) n

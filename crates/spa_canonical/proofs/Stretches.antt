@@ -1,23 +1,17 @@
 -- Pods that are rewritten one after another: canonical ones, accepted ones, and what follows them.
-use Rattle.std.proofs.Common.{◌≡◌, ℕ, List, [], ◌++◌, length, refl, sym, ap, ◌∙◌, subst, append_assoc}
+use Rattle.std.proofs.Common.{◌≡◌, ℕ, List, [], ◌++◌, length, refl, sym, ap, ◌∙◌, subst}
 use Rattle.std.proofs.lemmas.List.{append-nil, nil_from_length}
 use Rattle.std.specs.Borrow.{Bor}
-use Rattle.spa_format.specs.Tree.{Trees, no_trees, member, join_members}
+use Rattle.spa_format.specs.Tree.{Trees, no_trees, join_members}
 use Rattle.spa_format.specs.Pod.{AreMembers}
-use Rattle.spa_format.specs.Encoding.{encoding_of, member_encodings}
+use Rattle.spa_format.specs.Encoding.{member_encodings}
 use Rattle.spa_format.proofs.Sequences.{members_joined}
 use Rattle.spa_fixed_sized.specs.declared.fault.DeserializeError.{DeserializeError}
 use Rattle.spa_canonical.specs.Canonical.{AreCanonical}
 use Rattle.spa_canonical.specs.Rewriting.{AreRewritten, IsLeft, RefusesFront, RefusesList}
 use Rattle.spa_canonical.proofs.FirstPods.{left_behind_pods}
 use Rattle.spa_canonical.proofs.Rewritten.{no_members}
-
-pub member_encodings-join : (vs ws : Trees) →
-    member_encodings (join_members vs ws) ≡ member_encodings vs ++ member_encodings ws
-member_encodings-join no_trees ws = refl
-member_encodings-join (member v vs) ws =
-    ap (λ l. encoding_of v ++ l) (member_encodings-join vs ws)
-    ∙ sym (append_assoc (encoding_of v) (member_encodings vs) (member_encodings ws))
+use Rattle.spa_format.proofs.Encodings.{member_encodings-join}
 
 pub canonical_rewritten : (pods : List ℕ) → AreCanonical pods → AreRewritten pods [] pods
 canonical_rewritten pods k = (k.values, k.members, k.same)

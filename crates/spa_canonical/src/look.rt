@@ -1,5 +1,5 @@
-//! Looks at pods: whether they are accepted, whether they are canonical, and how long their encodings are. They write nothing and call themselves
-//! nowhere, and take no memory.
+//! Looks at pods: whether they are accepted, whether they are canonical, and how long their encodings are. They write nothing and take no memory, and
+//! their stack doesn't grow with the nesting depth.
 ghost use Rattle.std.specs.Prelude.{◌≡◌, ◌+◌, ◌<◌, ◌≤◌, ◌++◌, IfErr, IfNone, IfOk, IfSome, List, OnOk, [], length, ℕ};
 ghost use Rattle.spa_format.specs.Front.{Begins, HasFront};
 ghost use Rattle.spa_format.specs.Pod.{AreMembers};

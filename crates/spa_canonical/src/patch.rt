@@ -63,13 +63,13 @@ fn encode_choice(size: usize, pod: &mut [u8]) -> usize
     if size < SECOND_HEADER {
         return 0;
     }
+    let type_ = u32_at(pod, VALUES_AT - WORD_LEN);
     let all = size - SECOND_HEADER;
     let shape = u32_at(pod, HEADER_LEN);
     let len = taken_len(shape, u32_at(pod, SECOND_HEADER), all);
     if len > all {
         return 0;
     }
-    let type_ = u32_at(pod, VALUES_AT - WORD_LEN);
     let flags = written_flags(shape, u32_at(pod, HEADER_LEN + SECOND_WORD));
     let header = two_words((SECOND_HEADER + len) as u32, SpaTypes::Choice.0);
     pod[..SECOND_HEADER].copy_from_slice(&joined(header, two_words(shape, flags)));
@@ -147,5 +147,10 @@ pub(crate) fn clear_behind(len: usize, pod: &mut [u8])
     requires { len ≤ length pod.old }
     ensures { pod.new ≡ take len pod.old ++ replicate (length pod.old - len) 0 }
 {
-    pod[len..].fill(0);
+    let behind = &mut pod[len..];
+    if behind.len() == WORD_LEN {
+        behind.copy_from_slice(&[0; WORD_LEN]);
+    } else {
+        behind.fill(0);
+    }
 }

@@ -10,8 +10,9 @@ use Rattle.spa_bodies.specs.Reading.{BeginsWith}
 use Rattle.spa_canonical.specs.Canonical.{AreCanonical, BeginsCanonical}
 use Rattle.spa_canonical.specs.Look.{AreChanged}
 use Rattle.spa_canonical.specs.Rewriting.{AppendsFront, AreRewritten}
-use Rattle.spa_canonical.proofs.Rewritten.{alone, parted}
+use Rattle.spa_canonical.proofs.Rewritten.{alone}
 use Rattle.spa_canonical.proofs.Stretches.{both_rewritten, canonical_rewritten}
+use Rattle.spa_bodies.proofs.Steps.{parted}
 
 -- canonical pods are copied, and others replaced behind them
 pub appended_behind : (pods old over new : List ℕ) (canonical len : ℕ) → AreCanonical (take canonical pods) →

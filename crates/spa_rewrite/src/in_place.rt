@@ -1,8 +1,7 @@
 //! Rewriting in place, in the buffer of the input.
 ghost use Rattle.std.specs.Prelude.{◌≡◌, ◌≤◌, [], IfErr, IfOk, OnErr, length, take};
-ghost use Rattle.spa_rewrite.specs.Refusals.{RefusesListAt};
+ghost use Rattle.spa_rewrite.specs.Refusals.{AsksMemory, RefusesListAt};
 ghost use Rattle.spa_bodies.specs.Reading.{OnMemory};
-ghost use Rattle.spa_rewrite.specs.Refusals.{AsksMemory};
 ghost use Rattle.spa_canonical.specs.Rewriting.{ArePodsWithin, AreRewritten};
 ghost use Rattle.spa_canonical.specs.Depth.{levels_looked_into};
 

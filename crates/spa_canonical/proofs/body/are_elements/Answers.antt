@@ -1,12 +1,12 @@
 use Rattle.std.proofs.Common.{arith, subst, sym}
 use Rattle.spa_fixed_sized.specs.Reading.{AreWhole}
 use Rattle.spa_canonical.specs.Canonical.{IsFixedLen}
-use Rattle.spa_canonical.proofs.Bodies.{whole_of}
 use Rattle.spa_canonical.proofs.LeafBodies.{never}
 use Rattle.spa_canonical.proofs.Leaves.{elements_are}
 use Rattle.spa_canonical.proofs.Words.{bytes_of}
 use Rattle.spa_canonical.proofs.body.are_elements.Goals.{else-canonical-via-then-canonical+then-type_+else-not-are_bools, else-canonical-via-then-canonical+else-type_, else-canonical-via-else-canonical}
 use Rattle.spa_canonical.proofs.body.are_elements.Goals as goal
+use Rattle.spa_fixed_sized.proofs.Arrays.{whole_of}
 
 pub returns-then-elements-eq0-clause-there : goal.returns-then-elements-eq0-clause-there
 returns-then-elements-eq0-clause-there c =

@@ -1,7 +1,7 @@
 use Rattle.std.proofs.Common.{inl, inr}
 use Rattle.spa_canonical.proofs.Deeper.{none_inside, opened_first}
-use Rattle.spa_canonical.proofs.Depths.{not_both}
 use Rattle.spa_canonical.proofs.nesting.is_flat.Goals as goal
+use Rattle.std.proofs.lemmas.Bool.{both_ways}
 
 pub returns-then-is_container-clause-deeper : goal.returns-then-is_container-clause-deeper
 returns-then-is_container-clause-deeper c = λ _.
@@ -12,7 +12,7 @@ loop-front-preserved c =
     let first = opened_first 0 _ _ _ _ _ c.in-Some.ensures.there in (
       λ d. c.loop-front.invariant.0 (first.1 (inr d)),
       λ d. elim (first.0 (c.loop-front.invariant.1 d)) [
-        | inl here ↦ absurd (not_both _ c.if-is_container.false (c.is_container.ensures.exactly.1 here))
+        | inl here ↦ absurd (both_ways _ c.if-is_container.false (c.is_container.ensures.exactly.1 here))
         | inr behind ↦ behind
       ],
     )

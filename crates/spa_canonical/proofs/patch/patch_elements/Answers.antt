@@ -1,8 +1,8 @@
 use Rattle.std.proofs.Common.{ap, arith, drop, refl, rules, take, ◌∙◌}
-use Rattle.spa_canonical.proofs.Bodies.{whole_of}
 use Rattle.spa_canonical.proofs.Lengths.{lengths}
 use Rattle.spa_canonical.proofs.PatchedBodies.{others_written, truth_written, truths_written}
 use Rattle.spa_canonical.proofs.patch.patch_elements.Goals as goal
+use Rattle.spa_fixed_sized.proofs.Arrays.{whole_of}
 
 pub patch_truths-requires : goal.patch_truths-requires
 patch_truths-requires c = whole_of 4 _ (omega lengths)

@@ -28,8 +28,8 @@ enum Met<'a> {
 /// What is left of a list while the look is inside of a pod in it.
 #[derive(Clone, Copy)]
 pub struct Waiting<'a> {
-    /// Whether a key and flags stand before each pod.
-    keyed: bool,
+    /// 1 where a key and flags stand before each pod, and else 0: a word, so that no bytes between the fields are copied with them.
+    keyed: u32,
     /// How many bytes of those that are looked at follow the pods that are left.
     behind: u32,
     /// The pods that are left.
@@ -40,9 +40,9 @@ pub struct Waiting<'a> {
 pub const LEVELS: u32 = 1000;
 
 /// How many lists can wait in the short array.
-pub(crate) const FEW: usize = 8;
+pub(crate) const FEW: usize = 16;
 
-/// How many can wait in the next one, which is taken where the short one is full.
+/// How many can wait in the next one, inside a struct or an object for which the short one has no room.
 const SOME: usize = 64;
 
 /// An entry of an array in which no list waits.
@@ -50,9 +50,9 @@ const SOME: usize = 64;
 #[must_use]
 pub(crate) fn none_waiting(pods: &[u8]) -> Waiting<'_> {
     Waiting {
-        keyed: false,
-        pods,
+        keyed: 0,
         behind: 0,
+        pods,
     }
 }
 
@@ -87,28 +87,32 @@ fn look_behind<'a>(
     match look_inside(canonical, keyed, left, frames) {
         Found::Fits(more) => Found::Fits(surplus + more),
         Found::Stops(place, behind) => Found::Stops(place, behind),
-        Found::TooDeep => look_further(canonical, keyed, pods),
+        Found::TooDeep => look_furthest(canonical, keyed, pods),
     }
 }
 
-/// Looks inside a struct or an object with the next array, or the long one.
+/// Looks inside a struct or an object with the long array, whose bytes are set to zeros at each call.
 #[cold]
 #[inline(never)]
-fn look_further(canonical: bool, keyed: bool, pods: &[u8]) -> Found<'_> {
+fn look_furthest(canonical: bool, keyed: bool, pods: &[u8]) -> Found<'_> {
+    let frames = &mut [none_waiting(pods); LEVELS as usize];
+    look_inside(canonical, keyed, pods, frames)
+}
+
+/// By how many bytes the encodings of what is left of a list are shorter, around which as many lists wait as the first array holds. The next array
+/// serves for it. `None`: not all are accepted, or canonical, or there is no room for one more list that waits.
+#[cold]
+#[inline(never)]
+fn look_further(canonical: bool, keyed: bool, pods: &[u8]) -> Option<usize> {
     match look_inside(canonical, keyed, pods, &mut [none_waiting(pods); SOME]) {
-        Found::Fits(surplus) => Found::Fits(surplus),
-        Found::Stops(place, behind) => Found::Stops(place, behind),
-        Found::TooDeep => look_inside(
-            canonical,
-            keyed,
-            pods,
-            &mut [none_waiting(pods); LEVELS as usize],
-        ),
+        Found::Fits(surplus) => Some(surplus),
+        Found::Stops(_, _) => None,
+        Found::TooDeep => None,
     }
 }
 
 /// Looks inside a struct or an object: whether all pods are canonical, where that is asked, and else whether all are accepted. What is left behind
-/// an inner struct or object waits in the array.
+/// an inner struct or object waits in the array. Where the first array is full, what is left of the list is looked at with the next one, too.
 #[inline(never)]
 pub(crate) fn look_inside<'a>(
     canonical: bool,
@@ -122,40 +126,46 @@ pub(crate) fn look_inside<'a>(
     loop {
         let (next, more) = behind_first(canonical, keyed, left);
         surplus += more;
-        if next.is_empty() {
-            if waiting == 0 {
-                return Found::Fits(surplus);
-            }
-            waiting -= 1;
-            let outer = frames[waiting];
-            keyed = outer.keyed;
-            left = outer.pods;
-            behind = outer.behind as usize;
-            continue;
-        }
-        match meet(keyed, next) {
-            Met::Inner(inner, rest, after) => {
-                if rest.is_empty() {
-                    keyed = inner.keyed;
-                    left = inner.pods;
-                    behind += after;
-                    continue;
+        if !next.is_empty() {
+            match meet(keyed, next) {
+                Met::Inner(inner, rest, after) => {
+                    if rest.is_empty() {
+                        keyed = inner.keyed;
+                        left = inner.pods;
+                        behind += after;
+                        continue;
+                    }
+                    if waiting < frames.len() {
+                        frames[waiting] = Waiting {
+                            keyed: keyed as u32,
+                            behind: behind as u32,
+                            pods: rest,
+                        };
+                        waiting += 1;
+                        keyed = inner.keyed;
+                        left = inner.pods;
+                        behind += after;
+                        continue;
+                    }
+                    if frames.len() > FEW {
+                        return Found::TooDeep;
+                    }
+                    let Some(all) = look_further(canonical, keyed, next) else {
+                        return Found::TooDeep;
+                    };
+                    surplus += all;
                 }
-                if waiting >= frames.len() {
-                    return Found::TooDeep;
-                }
-                frames[waiting] = Waiting {
-                    keyed,
-                    pods: rest,
-                    behind: behind as u32,
-                };
-                waiting += 1;
-                keyed = inner.keyed;
-                left = inner.pods;
-                behind += after;
+                Met::None(place) => return Found::Stops(place, behind),
             }
-            Met::None(place) => return Found::Stops(place, behind),
         }
+        if waiting == 0 {
+            return Found::Fits(surplus);
+        }
+        waiting -= 1;
+        let outer = frames[waiting];
+        keyed = outer.keyed != 0;
+        left = outer.pods;
+        behind = outer.behind as usize;
     }
 }
 

@@ -1,8 +1,8 @@
 //! Looks at the pods inside a struct or an object. What is left of the structs and objects around a pod waits in an array, or in memory.
-ghost use Rattle.std.specs.Prelude.{◌≡◌, ◌+◌, ◌<◌, ◌≤◌, ◌⊎◌, IfNone, IfSome, Bool, List, false, length, true, ℕ};
+ghost use Rattle.std.specs.Prelude.{◌≡◌, ◌+◌, ◌<◌, ◌≤◌, ◌⊎◌, IfErr, IfNone, IfOk, IfSome, Bool, List, false, length, true, ℕ};
 ghost use Rattle.spa_format.specs.Words.{size_limit};
 ghost use Rattle.spa_canonical.specs.Canonical.{AreCanonicalProperties};
-ghost use Rattle.spa_canonical.specs.Look.{Fits, IsFound, IsMet, Passes, Stops, StopsBefore};
+ghost use Rattle.spa_canonical.specs.Look.{AreCanonicalInside, Fits, IsFound, IsMet, Passes, Stops, StopsBefore};
 ghost use Rattle.spa_canonical.specs.Depth.{NestsDeeperInside, levels_looked_into};
 
 use crate::leaf::{long_leaf, short_leaf};
@@ -116,21 +116,22 @@ fn look_furthest(canonical: bool, keyed: bool, pods: &[u8]) -> Found<'_>
     look_inside(canonical, keyed, pods, frames)
 }
 
-/// By how many bytes the encodings of what is left of a list are shorter, around which as many lists wait as the first array holds. The next array
-/// serves for it. `None`: not all are accepted, or canonical, or there is no room for one more list that waits.
+/// By how many bytes the encodings of what is left of a list are shorter, around which as many lists wait as the first array holds: looked at with the
+/// next array. `Err(true)`: not all are canonical, as is asked. `Err(false)`: not all are accepted, or there is no room for one more list that waits.
 #[cold]
 #[cycle(looking)]
 #[inline(never)]
-fn look_further(canonical: bool, keyed: bool, pods: &[u8]) -> Option<usize>
+fn look_further(canonical: bool, keyed: bool, pods: &[u8]) -> Result<usize, bool>
     requires { length pods.now < size_limit }
-    ensures fits { IfSome result (λ surplus. Fits canonical keyed pods.now surplus) }
-    ensures missed { IfNone result (((place : List ℕ) × (behind : ℕ) × Stops canonical keyed pods.now place behind)
-        ⊎ NestsDeeperInside 64 keyed pods.now) }
+    ensures fits { IfOk result (λ surplus. Fits canonical keyed pods.now surplus) }
+    ensures differs { IfErr result (λ differs. differs ≡ true → (canonical ≡ true) × ¬ (AreCanonicalInside keyed pods.now)) }
+    ensures missed { IfErr result (λ differs. differs ≡ false →
+        ((place : List ℕ) × (behind : ℕ) × Stops false keyed pods.now place behind) ⊎ NestsDeeperInside 64 keyed pods.now) }
 {
     match look_inside(canonical, keyed, pods, &mut [none_waiting(pods); SOME]) {
-        Found::Fits(surplus) => Some(surplus),
-        Found::Stops(_, _) => None,
-        Found::TooDeep => None,
+        Found::Fits(surplus) => Ok(surplus),
+        Found::Stops(_, _) => Err(canonical),
+        Found::TooDeep => Err(false),
     }
 }
 
@@ -177,10 +178,11 @@ pub(crate) fn look_inside<'a>(
                     if frames.len() > FEW {
                         return Found::TooDeep;
                     }
-                    let Some(all) = look_further(canonical, keyed, next) else {
-                        return Found::TooDeep;
-                    };
-                    surplus += all;
+                    match look_further(canonical, keyed, next) {
+                        Ok(all) => surplus += all,
+                        Err(true) => return Found::Stops(next, behind),
+                        Err(false) => return Found::TooDeep,
+                    }
                 }
                 Met::None(place) => return Found::Stops(place, behind),
             }

@@ -44,10 +44,8 @@ pub fn find_fault(alloc: Global, input: &[u8]) -> Result<(), (&[u8], Rejected<'_
     // Pods that nest in 1000 levels at most are never refused.
     ensures missed { IfErr result (λ _. ¬ (ArePodsWithin levels_looked_into input.now)) }
 {
-    match changed_pods(alloc, input) {
-        Ok(_) => Ok(()),
-        Err(refusal) => Err(refusal),
-    }
+    changed_pods(alloc, input)?;
+    Ok(())
 }
 
 /// Does what `accept_pod` does for a pod that nests too deep for that: what waits has room in memory, for four times as much whenever that is full.

@@ -1,12 +1,13 @@
 use Rattle.std.proofs.Common.{arith, ap, length, length-set, refl, reverse, set, subst, sym, take, [], ◌∙◌, ◌+◌, ◌-◌, ◌≤◌, ℕ}
 use Rattle.std.proofs.lemmas.Bool.{eqb-true}
 use Rattle.spa_format.specs.Typed.{IsBytes}
+use Rattle.spa_canonical.proofs.LeafBodies.{never}
 use Rattle.spa_canonical.proofs.Faulted.{stops_in}
 use Rattle.spa_canonical.specs.declared.inside.Waiting.{Waiting}
 use Rattle.spa_canonical.proofs.ShorterLemmas.{shorter_within}
 use Rattle.spa_canonical.proofs.Looks.{AwaitsAll, Onward, as_word, begins_look, goes_in_last, goes_on, left_waiting, list_ends, list_waits, no_room, opened_shorter, popped, pushed}
 use Rattle.spa_canonical.proofs.inside.+looking.Goals as goal
-use Rattle.spa_canonical.proofs.inside.+looking.Goals.{look_inside-then-not-is_empty+in-Inner+else-is_empty+else-waiting-frames+else-frames-gt-FEW+in-Some, look_inside-else-not-is_empty}
+use Rattle.spa_canonical.proofs.inside.+looking.Goals.{look_inside-then-not-is_empty+in-Inner+else-is_empty+else-waiting-frames+else-frames-gt-FEW+in-Ok, look_inside-else-not-is_empty}
 
 pub look_inside-loop-inner-init : goal.look_inside-loop-inner-init
 look_inside-loop-inner-init t c =
@@ -20,7 +21,8 @@ look_inside-returns-then-waiting-eq0 t c =
     let all = Onward c.args.canonical c.args.are_keyed c.args.pods.now (reverse (take c.loop-inner.waiting frames)) in
     subst (λ w. Onward c.args.canonical c.args.are_keyed c.args.pods.now (reverse (take w frames)) c.if-not-is_empty.surplus) c.if-waiting-eq0.true
     (elim c.if-not-is_empty.branch [
-      | look_inside-then-not-is_empty+in-Inner+else-is_empty+else-waiting-frames+else-frames-gt-FEW+in-Some w ↦ subst all (sym w.surplus-is) (passed.ends _ w.in-Some.ensures.fits)
+      | look_inside-then-not-is_empty+in-Inner+else-is_empty+else-waiting-frames+else-frames-gt-FEW+in-Ok w ↦
+          subst all (sym w.surplus-is) (passed.ends _ w.in-Ok.ensures.fits)
       | look_inside-else-not-is_empty w ↦
           subst all (sym w.surplus-is) (list_ends _ _ _ _ _ _ _ _ _ passed (eqb-true _ _ (sym c.is_empty.ensures ∙ w.if-not-is_empty.false)))
     ])
@@ -35,10 +37,10 @@ ended t c =
     let r = c.behind_first-more.ensures.passed.room in
     let l = c.loop-inner.invariant.2 in
     elim c.if-not-is_empty.branch [
-      | look_inside-then-not-is_empty+in-Inner+else-is_empty+else-waiting-frames+else-frames-gt-FEW+in-Some w ↦
-          let within = shorter_within _ _ _ w.in-Some.ensures.fits.shorter in
+      | look_inside-then-not-is_empty+in-Inner+else-is_empty+else-waiting-frames+else-frames-gt-FEW+in-Ok w ↦
+          let within = shorter_within _ _ _ w.in-Ok.ensures.fits.shorter in
           let is = w.surplus-is in
-          (subst all (sym w.surplus-is) (passed.ends _ w.in-Some.ensures.fits), omega arith)
+          (subst all (sym w.surplus-is) (passed.ends _ w.in-Ok.ensures.fits), omega arith)
       | look_inside-else-not-is_empty w ↦
           let is = w.surplus-is in
           (subst all (sym w.surplus-is) (list_ends _ _ _ _ _ _ _ _ _ passed (eqb-true _ _ (sym c.is_empty.ensures ∙ w.if-not-is_empty.false))), omega arith)
@@ -71,8 +73,8 @@ look_inside-look_further-requires t c =
     let room = (goes_on _ _ _ _ _ _ _ _ _ _ _ c.loop-inner.invariant.0 c.behind_first-more.ensures.passed).room in
     (omega (arith, c.decreases, c.loop-inner.auto.frames), omega arith)
 
-pub look_inside-returns-in_default : goal.look_inside-returns-in_default
-look_inside-returns-in_default t c =
+pub look_inside-returns-in-Err-false : goal.look_inside-returns-in-Err-false
+look_inside-returns-in-Err-false t c =
     no_room _ _ _ _ _ _ _ _ _ _ _ _ _ (goes_on _ _ _ _ _ _ _ _ _ _ _ c.loop-inner.invariant.0 c.behind_first-more.ensures.passed) c.in-Inner.ensures.0 c.loop-inner.invariant.1
     c.if-waiting-frames.false c.loop-inner.auto.frames
 
@@ -133,3 +135,9 @@ look_inside-loop-inner-smaller-then-waiting-frames t c =
     let next : Waiting = record { keyed = as_word c.loop-inner.keyed; behind = c.loop-inner.behind; pods = c.in-Inner.rest } in
     let l = ap left_waiting (pushed frames (set frames n next) n next refl c.if-waiting-frames.true) in
     omega arith
+
+pub look_inside-returns-in-Err-true : goal.look_inside-returns-in-Err-true
+look_inside-returns-in-Err-true t c =
+    let passed = goes_on _ _ _ _ _ _ _ _ _ _ _ c.loop-inner.invariant.0 c.behind_first-more.ensures.passed in
+    let differs = c.in-Err-true.ensures.differs c.in-Err-true.field-0-test in
+    record { differs = λ _ k. differs.1 (passed.kept k); room = passed.room; fault = λ f. absurd (never c.args.canonical differs.0 f) }

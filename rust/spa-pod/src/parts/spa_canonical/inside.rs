@@ -99,15 +99,15 @@ fn look_furthest(canonical: bool, keyed: bool, pods: &[u8]) -> Found<'_> {
     look_inside(canonical, keyed, pods, frames)
 }
 
-/// By how many bytes the encodings of what is left of a list are shorter, around which as many lists wait as the first array holds. The next array
-/// serves for it. `None`: not all are accepted, or canonical, or there is no room for one more list that waits.
+/// By how many bytes the encodings of what is left of a list are shorter, around which as many lists wait as the first array holds: looked at with the
+/// next array. `Err(true)`: not all are canonical, as is asked. `Err(false)`: not all are accepted, or there is no room for one more list that waits.
 #[cold]
 #[inline(never)]
-fn look_further(canonical: bool, keyed: bool, pods: &[u8]) -> Option<usize> {
+fn look_further(canonical: bool, keyed: bool, pods: &[u8]) -> Result<usize, bool> {
     match look_inside(canonical, keyed, pods, &mut [none_waiting(pods); SOME]) {
-        Found::Fits(surplus) => Some(surplus),
-        Found::Stops(_, _) => None,
-        Found::TooDeep => None,
+        Found::Fits(surplus) => Ok(surplus),
+        Found::Stops(_, _) => Err(canonical),
+        Found::TooDeep => Err(false),
     }
 }
 
@@ -150,10 +150,11 @@ pub(crate) fn look_inside<'a>(
                     if frames.len() > FEW {
                         return Found::TooDeep;
                     }
-                    let Some(all) = look_further(canonical, keyed, next) else {
-                        return Found::TooDeep;
-                    };
-                    surplus += all;
+                    match look_further(canonical, keyed, next) {
+                        Ok(all) => surplus += all,
+                        Err(true) => return Found::Stops(next, behind),
+                        Err(false) => return Found::TooDeep,
+                    }
                 }
                 Met::None(place) => return Found::Stops(place, behind),
             }

@@ -26,10 +26,8 @@ pub(crate) fn changed_pods(input: &[u8]) -> Result<usize, (&[u8], Rejected<'_>)>
 
 /// Looks at all pods that the input consists of as `changed_pods` does.
 pub fn find_fault(input: &[u8]) -> Result<(), (&[u8], Rejected<'_>)> {
-    match changed_pods(input) {
-        Ok(_) => Ok(()),
-        Err(refusal) => Err(refusal),
-    }
+    changed_pods(input)?;
+    Ok(())
 }
 
 /// Does what `accept_pod` does for a pod that nests too deep for that: what waits has room in memory, for four times as much whenever that is full.

@@ -14,7 +14,7 @@ use Rattle.spa_events.specs.Inside.{key_size}
 use Rattle.spa_events.proofs.Places.{drop_part}
 use Rattle.spa_canonical.specs.declared.emitting.OpenList.{OpenList}
 use Rattle.spa_canonical.specs.declared.emitting.Run.{Run}
-use Rattle.spa_canonical.specs.Emit.{ArePlaced, Begins, Encodes, IsAfter, IsAround, IsRun, OpensWhole, type_inside}
+use Rattle.spa_canonical.specs.Emit.{ArePlaced, Begins, Encodes, EncodesFirst, IsAfter, IsAround, OpensWhole, type_inside}
 use Rattle.spa_canonical.proofs.LeafBodies.{never}
 use Rattle.spa_canonical.proofs.Replacing.{key_small, key_whole}
 use Rattle.spa_canonical.proofs.Written.{drop_past, further_behind, take_past}
@@ -53,6 +53,9 @@ emits_none pods y = record {
   puts = subst (λ x. Puts (ArePlaced false pods) [] false x []) (sym (take_rest pods 0)) (puts_none false pods);
   links = (refl, refl);
 }
+
+abbrev IsRun : Bool → List ℕ → List ℕ → Run → Type 0
+IsRun keyed old new run = EncodesFirst keyed old new run.kept run.ended × IsAfter keyed (drop run.ended old) run.ended run.after
 
 -- some of the list are replaced, and their encodings moved down
 pub ran : (pods now sub new : List ℕ) (from to : ℕ) (list : OpenList) (run : Run) → Emits pods now from to list →

@@ -18,10 +18,10 @@ use Rattle.spa_bodies.proofs.Refusals.{at_front_of, says_through}
 use Rattle.spa_bodies.proofs.Steps.{pod_read}
 use Rattle.spa_canonical.specs.Depth.{depth_of}
 use Rattle.spa_canonical.specs.Canonical.{BeginsCanonical}
-use Rattle.spa_canonical.specs.Look.{AreCanonicalInside, IsLeafBody, IsNoLeaf, StandsAt, Stops, StopsAt, at_key, at_pod, from_properties, scope_of}
+use Rattle.spa_canonical.specs.Look.{AreCanonicalInside, Awaits, IsLeafBody, IsNoLeaf, StandsAt, Stops, StopsAt, at_key, at_pod, from_properties, scope_of}
 use Rattle.spa_events.specs.Inside.{IsBehindKey, IsContainer, key_size}
 use Rattle.spa_canonical.proofs.Leaves.{container_depth}
-use Rattle.spa_canonical.proofs.Looks.{Awaits, first_own, stands_first}
+use Rattle.spa_canonical.proofs.Looks.{first_own, stands_first}
 use Rattle.spa_canonical.proofs.Offsets.{key_long, offset_first}
 use Rattle.spa_canonical.proofs.LeafBodies.{leaf_depth, never, some_key}
 

@@ -1,7 +1,8 @@
 -- A look at pods: what is passed, what is opened, and what waits.
 use Rattle.std.proofs.Common.{◌≡◌, ◌≢◌, ℕ, suc, ◌+◌, ◌-◌, ◌<◌, ◌≤◌, ◌%◌, inl, inr, List, [], ◌∷◌, ◌++◌, length, take, drop, reverse, refl, sym, ap, ◌∙◌, subst, arith, append_assoc, length-drop}
-use Rattle.std.specs.Prelude.{Bool, true, false, get_or, not, replicate, set, ◌==◌}
-use Rattle.std.proofs.lemmas.List.{append-nil, drop_at, length-reverse, length-take-le, reverse-append, take-append-drop, take_more, take_more_set}
+use Rattle.std.specs.Prelude.{Bool, true, false, cond, get_or, not, replicate, set, ◌==◌}
+use Rattle.std.specs.Borrow.{Bor}
+use Rattle.std.proofs.lemmas.List.{append-nil, drop_at, length-reverse, length-take-le, reverse-append, take-append-drop, take_at, take_more, take_more_set}
 use Rattle.spa_format.specs.Words.{body_of, extent, header_size, padded_size, word_at}
 use Rattle.spa_format.specs.Tree.{Tree, no_trees, member, no_properties, property, object_type, struct}
 use Rattle.spa_format.specs.Pod.{AreMembers, AreProperties}
@@ -19,10 +20,12 @@ use Rattle.spa_canonical.proofs.Frames.{body_bytes, canonical_front, none_left, 
 use Rattle.spa_canonical.proofs.Made.{made_body, made_members, made_properties}
 use Rattle.spa_canonical.proofs.Opened.{object_inside, struct_inside}
 use Rattle.spa_canonical.specs.Depth.{NestsDeeperInside}
-use Rattle.spa_canonical.specs.Look.{AreCanonicalInside, BeginsAsked, Fits, OpensInside, Passes, StandsAt, StandsInside, Stops, Surround, scope_of}
+use Rattle.spa_canonical.specs.Look.{AreCanonicalInside, Awaits, BeginsAsked, Fits, IsFound, Onward, OpensInside, Passes, StandsAt, StandsInside, scope_of}
 use Rattle.spa_canonical.specs.Rewriting.{BeginsShorter}
 use Rattle.spa_events.specs.Inside.{IsBehindKey, IsInside, key_size}
 use Rattle.spa_canonical.specs.declared.inside.Waiting.{Waiting}
+use Rattle.spa_canonical.specs.declared.inside.Found.{Found}
+use Rattle.spa_canonical.specs.declared.inside.Found.TheVariants as result
 use Rattle.spa_canonical.proofs.Offsets.{body_long, key_long, offset_behind, offset_first, offset_opened}
 use Rattle.spa_canonical.proofs.ShorterLemmas.{shorter_inside, shorter_none, shorter_opened, shorter_room, shorter_step, whole_keyed, whole_list}
 use Rattle.spa_canonical.proofs.Levels.{as_deep_inside, deep_behind, deep_here, deep_inside}
@@ -134,29 +137,29 @@ rest_bytes here rest h e = subst IsBytes (sym e) (IsBytes-drop (extent (word_at 
 -- none is passed
 pub passes_none : (keyed canonical : Bool) (left : List ℕ) → IsBytes left → Passes keyed canonical left left 0
 passes_none keyed canonical left h = record {
-  fits = λ m s. subst (Fits canonical keyed left) (omega arith) s;
+  bytes = h;
+  ends = λ m s. subst (Fits canonical keyed left) (omega arith) s;
   kept = λ c. c;
   stands = λ k place s. s;
-  offset = λ k m s. (let e : m ≡ length left - length left + m = omega arith in subst (λ m. StandsAt k (scope_of keyed) m left) e s);
-  deep = λ n d. d;
-  bytes = h;
+  offset = λ k m s. (let e : m ≡ length left - (length left + 0) + m = omega arith in subst (λ m. StandsAt k (scope_of keyed) m left) e s);
+  deep = λ n d. subst (λ m. NestsDeeperInside m keyed left) (omega arith) d;
   room = omega arith;
 }
 
 -- and some more
-pub passes_more : (keyed canonical : Bool) (pods left rest : List ℕ) (n m : ℕ) → Passes keyed canonical pods left n → Passes keyed canonical left rest m →
-    Passes keyed canonical pods rest (n + m)
-passes_more keyed canonical pods left rest n m p q =
-    record {
-      fits = λ k s. subst (Fits canonical keyed pods) (omega arith) (p.fits (m + k) (q.fits k s));
-      kept = λ c. q.kept (p.kept c);
-      stands = λ k place s. p.stands k place (q.stands k place s);
-      offset = λ k at s.
-          subst (λ m'. StandsAt k (scope_of keyed) m' pods) (omega arith) (p.offset k (length left - length rest + at) (q.offset k at s));
-      deep = λ n d. p.deep n (q.deep n d);
-      bytes = q.bytes;
-      room = omega arith;
-    }
+pub goes_on : (canonical all keyed : Bool) (pods left rest : List ℕ) (Then : ℕ → Type 0) (waiting behind surplus n : ℕ) →
+    Awaits canonical all pods Then waiting keyed left behind surplus → Passes keyed canonical left rest n →
+    Awaits canonical all pods Then waiting keyed rest behind (surplus + n)
+goes_on canonical all keyed pods left rest Then waiting behind surplus n w p = record {
+  bytes = p.bytes;
+  ends = λ m s. subst Then (omega arith) (w.ends (n + m) (p.ends m s));
+  kept = λ c. p.kept (w.kept c);
+  stands = λ k place s. w.stands k place (p.stands k place s);
+  offset = λ k at s.
+      subst (λ m. StandsAt k (scope_of all) m pods) (omega arith) (w.offset k (length left - (length rest + 0) + at) (p.offset k at s));
+  deep = λ m s. w.deep m (subst (λ n. NestsDeeperInside n keyed left) (omega arith) (p.deep m s));
+  room = (let a = w.room in let b = p.room in omega arith);
+}
 
 -- where something follows a pod, something is left
 pub some_left : (keyed : Bool) (left here : List ℕ) → IsBehindKey keyed left here → HasFront here → 0 < length left
@@ -172,12 +175,13 @@ passes_pod keyed canonical left here rest n h k a =
     let r = shorter_room here rest n b in
     let d = behind_shorter keyed left here k in
     record {
-      fits = λ m s.
+      ends = λ m s.
           record { shorter = shorter_step keyed left here rest n m k b s.shorter; own = λ t. own_step keyed left here rest h k (a.own t) (s.own t) };
       kept = λ s. (first_own keyed left here rest h l k e s).others;
       stands = λ f place s. stands_behind keyed left here rest b.value f place k b.begins s;
-      offset = λ f at s. offset_behind keyed left here rest b.value f at k b.begins s;
-      deep = λ m s. deep_behind m keyed left here k b.begins.begins.there (subst (NestsDeeperInside m keyed) e s);
+      offset = λ f at s. subst (λ m. StandsAt f (scope_of keyed) m left) (omega arith) (offset_behind keyed left here rest b.value f at k b.begins s);
+      deep = λ m s.
+          subst (λ n. NestsDeeperInside n keyed left) (omega arith) (deep_behind m keyed left here k b.begins.begins.there (subst (NestsDeeperInside m keyed) e s));
       bytes = rest_bytes here rest (behind_bytes keyed left here h k) e;
       room = omega arith;
     }
@@ -190,60 +194,24 @@ own_shorter here rest c = let l = ap length c.same in record { value = c.value; 
 pub asked_own : (canonical : Bool) (here rest : List ℕ) → BeginsCanonical here rest → BeginsAsked canonical here rest 0
 asked_own canonical here rest c = record { shorter = own_shorter here rest c; own = λ _. c }
 
--- What is found further on holds of all: of what is left, once that fits and is shorter by so much, the rest follows.
-pub record Awaits (canonical all : Bool) (pods : List ℕ) (Then : ℕ → Type 0) (waiting : ℕ) (keyed : Bool) (left : List ℕ) (behind surplus : ℕ) : Type 0 where
-  pub bytes : IsBytes left
-  pub ends : (m : ℕ) → Fits canonical keyed left m → Then (surplus + m)
-  pub kept : AreCanonicalInside all pods → AreCanonicalInside keyed left
-  pub stands : (k : Fault) (place : List ℕ) → StandsInside keyed left place k → StandsInside all pods place k
-  pub room : length left + behind ≤ length pods
-  pub offset : (k : Fault) (at : ℕ) → StandsAt k (scope_of keyed) at left → StandsAt k (scope_of all) (length pods - (length left + behind) + at) pods
-  pub deep : (n : ℕ) → NestsDeeperInside n keyed left → NestsDeeperInside (n + waiting) all pods
-
--- how a list that waits says that a key and flags stand before each pod
-abbrev pub as_word : Bool → ℕ
-as_word true = 1
-as_word false = 0
-
-pub word_kept : (keyed : Bool) → not (as_word keyed == 0) ≡ keyed
-word_kept true = refl
-word_kept false = refl
-
--- what holds once the innermost list ends, where these wait, the innermost first: the pods inside that all of these wait for are kept
-abbrev pub Onward : Bool → Bool → List ℕ → List Waiting → ℕ → Type 0
-Onward canonical all pods [] = Fits canonical all pods
-Onward canonical all pods (next ∷ outer) =
-    Awaits canonical all pods (Onward canonical all pods outer) (length outer) (not (next.keyed == 0)) next.pods.now next.behind
-
 -- these wait, and this is left of the innermost list
 abbrev pub AwaitsAll : Bool → Bool → List ℕ → List Waiting → Bool → List ℕ → ℕ → ℕ → Type 0
 AwaitsAll canonical all pods outer = Awaits canonical all pods (Onward canonical all pods outer) (length outer)
 
-pub begins_look : (canonical all : Bool) (pods : List ℕ) → IsBytes pods → AwaitsAll canonical all pods [] all pods 0 0
-begins_look canonical all pods h = record {
-  bytes = h;
-  ends = λ m s. subst (Fits canonical all pods) (omega arith) s;
-  kept = λ c. c;
-  stands = λ k place s. s;
-  room = omega arith;
-  offset = λ k n s. (let e : n ≡ length pods - (length pods + 0) + n = omega arith in subst (λ m. StandsAt k (scope_of all) m pods) e s);
-  deep = λ n d. subst (λ x. NestsDeeperInside x all pods) (omega arith) d;
-}
+-- how a list says that a key and flags stand before each pod
+word_kept : (keyed : Bool) → keyed ≡ not (cond keyed 1 0 == 0)
+word_kept true = refl
+word_kept false = refl
 
--- pods are passed
-pub goes_on : (canonical all keyed : Bool) (pods left rest : List ℕ) (Then : ℕ → Type 0) (waiting behind surplus n : ℕ) →
-    Awaits canonical all pods Then waiting keyed left behind surplus → Passes keyed canonical left rest n →
-    Awaits canonical all pods Then waiting keyed rest behind (surplus + n)
-goes_on canonical all keyed pods left rest Then waiting behind surplus n w p = record {
-  bytes = p.bytes;
-  ends = λ m s. subst Then (omega arith) (w.ends (n + m) (p.fits m s));
-  kept = λ c. p.kept (w.kept c);
-  stands = λ k place s. w.stands k place (p.stands k place s);
-  room = (let a = w.room in let b = p.room in omega arith);
-  offset = λ k at s.
-      subst (λ m. StandsAt k (scope_of all) m pods) (omega arith) (w.offset k (length left - length rest + at) (p.offset k at s));
-  deep = λ m s. w.deep m (p.deep m s);
-}
+-- what is left of a list
+abbrev pub list_of : Bool → ℕ → Bor (List ℕ) → Waiting
+list_of keyed behind left = record { keyed = cond keyed 1 0; behind = behind; pods = left }
+
+pub in_list : (canonical all keyed : Bool) (pods : List ℕ) (left : Bor (List ℕ)) (here : Waiting) (outer : List Waiting) (behind surplus : ℕ) →
+    here ≡ list_of keyed behind left → AwaitsAll canonical all pods outer keyed left.now behind surplus → Onward canonical all pods (here ∷ outer) surplus
+in_list canonical all keyed pods left here outer behind surplus e w =
+    subst (λ l. Onward canonical all pods (l ∷ outer) surplus) (sym e)
+    (subst (λ k. AwaitsAll canonical all pods outer k left.now behind surplus) (word_kept keyed) w)
 
 pub inside_bytes : (type : ℕ) (body inside : List ℕ) (inner : Bool) → IsBytes body → IsInside type body inner inside → IsBytes inside
 inside_bytes type body inside true h i = subst IsBytes (sym i.2) (IsBytes-drop header_size body h)
@@ -285,6 +253,10 @@ inside_own type here body rest behind inside false h o i c =
     let m = made_body here behind body rest type h c o in
     subst AreCanonical (sym i.1) (struct_inside type body i.0 m.canonical)
 
+-- keys and headers stand before what is inside the first of them, and so many bytes behind it
+abbrev pub Surround : Bool → List ℕ → Bool → List ℕ → ℕ → Type 0
+Surround keyed left inner inside behind = length left ≡ key_size keyed + (header_size + (key_size inner + (length inside + behind)))
+
 -- a struct or an object is opened, in which so many more wait
 goes_inside : (canonical all keyed inner : Bool) (pods left inside rest : List ℕ) (Then : ℕ → Type 0) (waiting more behind after surplus : ℕ) →
     Awaits canonical all pods Then waiting keyed left behind surplus → OpensInside keyed left inner inside rest → Surround keyed left inner inside after →
@@ -321,22 +293,21 @@ goes_in canonical all keyed inner pods left inside rest Then waiting behind afte
     goes_inside canonical all keyed inner pods left inside rest Then waiting (suc waiting) behind after surplus w x long (λ n d.
     subst (λ m. NestsDeeperInside m all pods) (omega arith) (w.deep (suc n) (deep_inside n keyed inner left inside rest x d)))
 
-pub list_waits : (canonical all keyed inner : Bool) (pods left inside : List ℕ) (next : Waiting) (outer : List Waiting) (after surplus : ℕ) →
-    next.keyed ≡ as_word keyed → AwaitsAll canonical all pods outer keyed left next.behind surplus → OpensInside keyed left inner inside next.pods.now →
-    Surround keyed left inner inside after → AwaitsAll canonical all pods (next ∷ outer) inner inside (next.behind + after) surplus
-list_waits canonical all keyed inner pods left inside next outer after surplus e w x long =
-    let is : not (next.keyed == 0) ≡ keyed = ap (λ n. not (n == 0)) e ∙ word_kept keyed in
-    subst
-    (λ k. Awaits canonical all pods (Awaits canonical all pods (Onward canonical all pods outer) (length outer) k next.pods.now next.behind) (suc (length outer)) inner
-    inside (next.behind + after) surplus) (sym is) (goes_in canonical all keyed inner pods left inside next.pods.now (Onward canonical all pods outer)
-    (length outer) next.behind after surplus w x long)
+pub list_waits : (canonical all keyed inner : Bool) (pods left inside : List ℕ) (rest : Bor (List ℕ)) (next : Waiting) (outer : List Waiting)
+    (behind after surplus : ℕ) → next ≡ list_of keyed behind rest → AwaitsAll canonical all pods outer keyed left behind surplus →
+    OpensInside keyed left inner inside rest.now → Surround keyed left inner inside after →
+    AwaitsAll canonical all pods (next ∷ outer) inner inside (behind + after) surplus
+list_waits canonical all keyed inner pods left inside rest next outer behind after surplus e w x long =
+    subst (λ l. AwaitsAll canonical all pods (l ∷ outer) inner inside (behind + after) surplus) (sym e)
+    (subst (λ k. Awaits canonical all pods (AwaitsAll canonical all pods outer k rest.now behind) (suc (length outer)) inner inside (behind + after) surplus)
+    (word_kept keyed) (goes_in canonical all keyed inner pods left inside rest.now (Onward canonical all pods outer) (length outer) behind after surplus w x long))
 
 -- there is no room for one more
 pub no_room : (canonical all keyed inner : Bool) (pods left inside rest : List ℕ) (frames : List Waiting) (waiting behind surplus room : ℕ) →
     AwaitsAll canonical all pods (reverse (take waiting frames)) keyed left behind surplus → OpensInside keyed left inner inside rest →
-    waiting ≤ length frames → length frames ≤ waiting → length frames ≡ room → NestsDeeperInside room all pods
-no_room canonical all keyed inner pods left inside rest frames waiting behind surplus room w x within full e =
-    let l = length-reverse (take waiting frames) ∙ length-take-le waiting frames within in
+    waiting + 1 ≡ length frames → room ≡ waiting → NestsDeeperInside room all pods
+no_room canonical all keyed inner pods left inside rest frames waiting behind surplus room w x full e =
+    let l = length-reverse (take waiting frames) ∙ length-take-le waiting frames (omega arith) in
     subst (λ n. NestsDeeperInside n all pods) (omega arith) (w.deep 0 (deep_here keyed inner left inside rest x))
 
 pub none_own : (keyed : Bool) (left : List ℕ) → length left ≡ 0 → AreCanonicalInside keyed left
@@ -374,16 +345,35 @@ left_waiting [] = 0
 left_waiting (next ∷ outer) = left_waiting outer + (length next.pods.now + 1)
 
 -- a list more waits
-pub pushed : {A : Type 0} (frames new : List A) (waiting : ℕ) (next : A) → new ≡ set frames waiting next → waiting < length frames →
-    reverse (take (waiting + 1) new) ≡ next ∷ reverse (take waiting frames)
-pushed frames new waiting next e l =
-    ap (λ x. reverse (take (waiting + 1) x)) e ∙ ap reverse (take_more_set frames waiting next l) ∙ reverse-append (take waiting frames) (next ∷ [])
+pub pushed : {A : Type 0} (frames new : List A) (waiting more : ℕ) (next : A) → new ≡ set frames waiting next → more ≡ waiting + 1 → waiting < length frames →
+    reverse (take more new) ≡ next ∷ reverse (take waiting frames)
+pushed frames new waiting more next e m l =
+    ap (λ n. reverse (take n new)) m ∙ ap (λ x. reverse (take (waiting + 1) x)) e ∙ ap reverse (take_more_set frames waiting next l)
+    ∙ reverse-append (take waiting frames) (next ∷ [])
 
 -- one less
 pub popped : {A : Type 0} (frames : List A) (waiting fewer : ℕ) (other : A) → fewer + 1 ≡ waiting → fewer < length frames →
     reverse (take waiting frames) ≡ get_or frames fewer other ∷ reverse (take fewer frames)
 popped frames waiting fewer other e l =
     ap (λ n. reverse (take n frames)) (sym e) ∙ ap reverse (take_more frames fewer other l) ∙ reverse-append (take fewer frames) (get_or frames fewer other ∷ [])
+
+-- the first list of an array, around which none waits
+pub first_list : (canonical keyed : Bool) (pods : List ℕ) (left : Bor (List ℕ)) (frames : List Waiting) (here : Waiting) (surplus : ℕ) → 0 < length frames →
+    here ≡ list_of keyed 0 left → Passes keyed canonical pods left.now surplus → Onward canonical keyed pods (reverse (take 1 (set frames 0 here))) surplus
+first_list canonical keyed pods left frames here surplus l e w =
+    subst (λ lists. Onward canonical keyed pods lists surplus) (sym (pushed frames (set frames 0 here) 0 1 here refl refl l))
+    (in_list canonical keyed keyed pods left here [] 0 surplus e w)
+
+-- lists that were copied to the front of a longer array
+pub copied : {A : Type 0} (frames new rest : List A) (n : ℕ) → length frames ≡ n → new ≡ frames → take n (new ++ rest) ≡ frames
+copied frames new rest n l e = take_at new rest n (ap length e ∙ l) ∙ e
+
+-- what is found holds with any array that isn't full
+pub found_with : (canonical keyed : Bool) (pods : List ℕ) (few many : ℕ) (found : Found) → ((n : ℕ) → found ≢ result.Full n) →
+    IsFound canonical few keyed pods found → IsFound canonical many keyed pods found
+found_with canonical keyed pods few many (result.Fits n) other f = f
+found_with canonical keyed pods few many (result.Stops place behind) other f = f
+found_with canonical keyed pods few many (result.Full n) other f = absurd (other n refl)
 
 -- what stands inside and what follows are shorter
 pub opened_shorter : (keyed inner : Bool) (left inside rest : List ℕ) → OpensInside keyed left inner inside rest → length inside + (length rest + 8) ≤ length left
@@ -412,29 +402,6 @@ surround keyed inner left at body rest inside type after k o i e =
     let a = key_long keyed left at k in
     let b = body_long type body inside inner i in
     omega arith
-
--- first pods were passed, and nothing is left
-pub passed_all : (canonical keyed : Bool) (pods left : List ℕ) (n : ℕ) → Passes keyed canonical pods left n → length left ≡ 0 → Fits canonical keyed pods n
-passed_all canonical keyed pods left n p z = subst (Fits canonical keyed pods) (omega arith) (p.fits 0 (none_fits canonical keyed left z))
-
--- what is found behind these
-pub stops_behind : (canonical keyed : Bool) (pods left place : List ℕ) (behind n : ℕ) → Passes keyed canonical pods left n →
-    Stops canonical keyed left place behind → Stops canonical keyed pods place behind
-stops_behind canonical keyed pods left place behind n p w =
-    record {
-      differs = λ t c. w.differs t (p.kept c);
-      room = omega arith;
-      fault = λ f.
-          let s = w.fault f in
-          record {
-            refused = s.refused;
-            alone = s.alone;
-            stands = λ k x. p.stands k place (s.stands k x);
-            room = omega arith;
-            offset = λ k x.
-                subst (λ m. StandsAt k (scope_of keyed) m pods) (omega arith) (p.offset k (length left - (length place + behind)) (s.offset k x));
-          };
-    }
 
 -- of a canonical pod no byte goes
 pub asked_none : (canonical : Bool) (here rest : List ℕ) (n : ℕ) → canonical ≡ true → BeginsAsked canonical here rest n → n ≡ 0

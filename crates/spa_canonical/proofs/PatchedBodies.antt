@@ -21,7 +21,7 @@ use Rattle.spa_format.proofs.WordLemmas.{IsBytes-drop, IsBytes-take, wide_at-dro
 use Rattle.spa_canonical.proofs.Words.{wide_back, word_back, zeros_behind}
 use Rattle.spa_canonical.specs.Canonical.{AreCanonicalElements, bytes_taken}
 use Rattle.spa_canonical.proofs.Parts.{no_elements, whole_elements}
-use Rattle.spa_canonical.specs.Look.{AreTruths}
+use Rattle.spa_canonical.proofs.Truths.{AreTruths}
 use Rattle.spa_canonical.specs.Emit.{Encodes, HoldsWhole, IsPlaced, IsPodOf, TurnsWritten}
 use Rattle.spa_canonical.proofs.Bodies.{enough_bytes, taken_elements}
 use Rattle.spa_canonical.proofs.Patches.{front_bytes, pod_again, says_body, two_words_of}

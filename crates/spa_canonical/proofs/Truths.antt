@@ -9,7 +9,6 @@ use Rattle.spa_format.specs.Pod.{AreElements}
 use Rattle.spa_format.specs.Encoding.{fixed_bodies}
 use Rattle.spa_format.proofs.Elements.{bodies_push, elements_push}
 use Rattle.spa_fixed_sized.specs.Reading.{AreWhole}
-use Rattle.spa_canonical.specs.Look.{AreTruths}
 use Rattle.spa_canonical.proofs.Lengths.{lengths}
 
 -- the first words are as they are written, and the others as they were
@@ -45,6 +44,9 @@ one_turned old now piece word x at k n h w l e four c p m long same =
           ∙ ap (drop 4) h.rest ∙ drop-drop 4 at old ∙ ap (λ i. drop i old) (sym m);
       long = same ∙ h.long;
     }
+
+abbrev pub AreTruths : (words written : List ℕ) → Type 0
+AreTruths words written = (values : List Fixed) × AreElements bool_kind values words × (written ≡ fixed_bodies values)
 
 pub all_turned : (old now : List ℕ) (at : ℕ) → AreTurned old now at → length now ≤ at → AreTruths old now
 all_turned old now at h l = (

@@ -11,7 +11,6 @@ use Rattle.spa_format.specs.Front.{HasFront, front_of}
 use Rattle.spa_canonical.specs.declared.emitting.After.TheVariants as after
 use Rattle.spa_canonical.specs.declared.emitting.After.{After}
 use Rattle.spa_canonical.specs.declared.emitting.OpenList.{OpenList}
-use Rattle.spa_canonical.specs.declared.emitting.Run.{Run}
 
 -- the pod at the front has a body of one word, and isn't a Bool
 pub record BeginsWord (input : List ℕ) : Type 0 where
@@ -82,9 +81,6 @@ abbrev pub IsAfter : Bool → List ℕ → ℕ → After → Type 0
 IsAfter keyed left ended after.More = 0 < ended
 IsAfter keyed left ended (after.Inner inner size) = OpensWhole keyed left inner size
 IsAfter keyed left ended after.End = ArePlaced keyed left []
-
-abbrev pub IsRun : Bool → List ℕ → List ℕ → Run → Type 0
-IsRun keyed old new run = EncodesFirst keyed old new run.kept run.ended × IsAfter keyed (drop run.ended old) run.ended run.after
 
 -- the list around a container
 pub record IsAround (list : OpenList) (bytes : List ℕ) (around : OpenList) : Type 0 where

@@ -1,8 +1,8 @@
 -- What a look at pods finds: docs/FORMAT.md, "The encoding of a value", "Faults" and "Values".
-use Rattle.std.specs.Prelude.{◌≡◌, ◌+◌, ◌-◌, ◌<◌, ◌≤◌, ℕ, List, length, drop, take, Bool, true, false, Decides, ◌≢◌, Option, None, Some, []}
+use Rattle.std.specs.Prelude.{◌≡◌, ◌+◌, ◌-◌, ◌<◌, ◌≤◌, ℕ, List, length, drop, take, Bool, true, false, Decides, ◌≢◌, Option, None, Some, [], ◌∷◌, not, ◌==◌}
 use Rattle.spa_fixed_sized.specs.declared.fault.Refusal.{Refusal}
 use Rattle.spa_format.specs.Front.{Begins, IsRefused, HasFront, rest_of}
-use Rattle.spa_format.specs.Pod.{AreMembers, AreElements}
+use Rattle.spa_format.specs.Pod.{AreMembers}
 use Rattle.spa_format.specs.Tree.{Tree, Trees, Shape, shape_number, object_type, struct_type}
 use Rattle.spa_format.specs.Words.{header_size, body_of, extent, word_at}
 use Rattle.spa_format.specs.Faults.{Fault, StandsAtFront, Short, Stands}
@@ -16,14 +16,14 @@ use Rattle.spa_canonical.specs.Rewriting.{AreShorter, AreShorterInside, BeginsSh
 use Rattle.spa_events.specs.Inside.{IsBehindKey, IsInside, key_size, HoldsPods}
 use Rattle.spa_canonical.specs.declared.inside.Found.{Found}
 use Rattle.spa_canonical.specs.declared.inside.Met.{Met}
+use Rattle.spa_canonical.specs.declared.inside.Waiting.{Waiting}
 use Rattle.spa_canonical.specs.declared.look.AcceptedPod.{AcceptedPod}
 use Rattle.spa_canonical.specs.declared.look.AcceptedPods.{AcceptedPods}
 use Rattle.spa_canonical.specs.declared.look.FrontLook.{FrontLook}
 use Rattle.spa_canonical.specs.declared.look.Rejected.{Rejected}
 use Rattle.spa_fixed_sized.specs.Reading.{AreWhole}
-use Rattle.spa_format.specs.Kind.{Kind, Fixed, body_size, bool_kind, type_number}
+use Rattle.spa_format.specs.Kind.{Kind, body_size, type_number}
 use Rattle.spa_format.specs.Normal.{kept_flags}
-use Rattle.spa_format.specs.Encoding.{fixed_bodies}
 use Rattle.spa_canonical.specs.declared.inside.Found.TheVariants as found
 use Rattle.spa_canonical.specs.declared.inside.Met.TheVariants as met
 use Rattle.spa_canonical.specs.declared.look.FrontLook.TheVariants as front
@@ -99,10 +99,6 @@ IsNoLeafBody canonical type body (Some why) = Says (StandsInBody type body) ⊥ 
 IsNoLeafBody canonical type body None =
     (canonical ≡ false → (keyed : Bool) × HoldsPods type (length body) keyed) × ((c : IsCanonicalBody type body) → 0 < depth_of c.value)
 
--- bodies of truth values, and these as they are written
-abbrev pub AreTruths : (words written : List ℕ) → Type 0
-AreTruths words written = (values : List Fixed) × AreElements bool_kind values words × (written ≡ fixed_bodies values)
-
 -- properties that are as their values are written, or members
 abbrev pub AreCanonicalInside : Bool → List ℕ → Type 0
 AreCanonicalInside true body = AreCanonicalProperties body
@@ -122,8 +118,7 @@ pub record OpensInside (keyed : Bool) (left : List ℕ) (inner : Bool) (inside r
   pub opens : Opens here type body rest
   pub its_inside : IsInside type body inner inside
 
--- No pod begins at this place, which so many bytes of the pods follow, for a fault that is in no member or property of it: a fault that stands at its
--- front stands in them.
+-- No pod begins at this place, which so many bytes of the pods follow, and not for what is inside of one: a fault of its front stands in them.
 pub record StopsAt (keyed : Bool) (pods place : List ℕ) (behind : ℕ) : Type 0 where
   pub refused : IsRefused place
   pub alone : OpensHeaderAlone place
@@ -146,17 +141,27 @@ pub record Stops (canonical keyed : Bool) (pods place : List ℕ) (behind : ℕ)
 abbrev pub IsFound : Bool → ℕ → Bool → List ℕ → Found → Type 0
 IsFound canonical waiting keyed pods (found.Fits surplus) = Fits canonical keyed pods surplus
 IsFound canonical waiting keyed pods (found.Stops place behind) = Stops canonical keyed pods place.now behind
-IsFound canonical waiting keyed pods found.TooDeep = NestsDeeperInside waiting keyed pods
+IsFound canonical waiting keyed pods (found.Full surplus) = NestsDeeperInside waiting keyed pods
 
--- The first members or properties are accepted, or canonical, and were passed, and this follows them: what is found of it holds of all.
-pub record Passes (keyed canonical : Bool) (left rest : List ℕ) (surplus : ℕ) : Type 0 where
-  pub fits : (m : ℕ) → Fits canonical keyed rest m → Fits canonical keyed left (surplus + m)
-  pub kept : AreCanonicalInside keyed left → AreCanonicalInside keyed rest
-  pub stands : (k : Fault) (place : List ℕ) → StandsInside keyed rest place k → StandsInside keyed left place k
-  pub offset : (k : Fault) (at : ℕ) → StandsAt k (scope_of keyed) at rest → StandsAt k (scope_of keyed) (length left - length rest + at) left
-  pub deep : (n : ℕ) → NestsDeeperInside n keyed rest → NestsDeeperInside n keyed left
-  pub bytes : IsBytes rest
-  pub room : surplus + length rest ≤ length left
+-- What is found of what is left of a list holds of all pods: once it fits, and its encodings are shorter by so much, `Then` follows. Around it so many wait.
+pub record Awaits (canonical all : Bool) (pods : List ℕ) (Then : ℕ → Type 0) (waiting : ℕ) (keyed : Bool) (left : List ℕ) (behind surplus : ℕ) : Type 0 where
+  pub bytes : IsBytes left
+  pub ends : (m : ℕ) → Fits canonical keyed left m → Then (surplus + m)
+  pub kept : AreCanonicalInside all pods → AreCanonicalInside keyed left
+  pub stands : (k : Fault) (place : List ℕ) → StandsInside keyed left place k → StandsInside all pods place k
+  pub offset : (k : Fault) (at : ℕ) → StandsAt k (scope_of keyed) at left → StandsAt k (scope_of all) (length pods - (length left + behind) + at) pods
+  pub deep : (n : ℕ) → NestsDeeperInside n keyed left → NestsDeeperInside (n + waiting) all pods
+  pub room : surplus + (length left + behind) ≤ length pods
+
+-- The first members or properties are accepted, or canonical, and were passed, and this follows them.
+abbrev pub Passes : (keyed canonical : Bool) → (pods left : List ℕ) → (surplus : ℕ) → Type 0
+Passes keyed canonical pods left = Awaits canonical keyed pods (Fits canonical keyed pods) 0 keyed left 0
+
+-- What is found of what is left of the first of these lists holds of all pods: the others wait around it, the innermost first.
+abbrev pub Onward : (canonical all : Bool) → (pods : List ℕ) → List Waiting → ℕ → Type 0
+Onward canonical all pods [] = Fits canonical all pods
+Onward canonical all pods (next ∷ outer) =
+    Awaits canonical all pods (Onward canonical all pods outer) (length outer) (not (next.keyed == 0)) next.pods.now next.behind
 
 -- the pod at the front is accepted, and canonical where that is asked: its encoding is so many bytes shorter
 pub record BeginsAsked (canonical : Bool) (input rest : List ℕ) (surplus : ℕ) : Type 0 where
@@ -172,14 +177,12 @@ pub record IsNoLeaf (canonical : Bool) (here : List ℕ) : Type 0 where
 abbrev pub StopsBefore : Bool → Bool → List ℕ → Type 0
 StopsBefore keyed canonical left = (here : List ℕ) → IsBehindKey keyed left here → IsNoLeaf canonical here
 
--- keys and headers stand before what is inside the first of them, and so many bytes behind it
-abbrev pub Surround : Bool → List ℕ → Bool → List ℕ → ℕ → Type 0
-Surround keyed left inner inside behind = length left ≡ key_size keyed + (header_size + (key_size inner + (length inside + behind)))
-
--- The first of members or properties is a struct or an object. Otherwise a look ends there, unless the first is another pod that it passes.
+-- The first of members or properties is a struct or an object, behind whose pods are so many bytes. Otherwise a look ends there, unless the first is
+-- another pod that it passes.
 abbrev pub IsMet : Bool → List ℕ → Met → Type 0
 IsMet keyed left (met.Inner inner rest behind) =
-    OpensInside keyed left inner.keyed inner.pods.now rest.now × Surround keyed left inner.keyed inner.pods.now behind
+    OpensInside keyed left inner.keyed inner.pods.now rest.now
+    × (length left ≡ key_size keyed + (header_size + (key_size inner.keyed + (length inner.pods.now + behind))))
 IsMet keyed left (met.None place) = (canonical : Bool) → StopsBefore keyed canonical left → Stops canonical keyed left place.now 0
 
 -- No pod begins at this place, for a fault that is in no member or property of it, and a fault of its front stands in the input, at this offset.

@@ -3,7 +3,7 @@
 ghost use Rattle.std.specs.Prelude.{[], ◌≡◌, ◌+◌, ◌-◌, ◌/◌, ◌<◌, ◌≤◌, ◌++◌, Bool, IfNone, IfSome, drop, false, length, take};
 ghost use Rattle.spa_format.specs.Words.{header_size, size_limit, word_at, word_bytes};
 ghost use Rattle.spa_events.specs.Inside.{key_size};
-ghost use Rattle.spa_canonical.specs.Emit.{ArePlaced, Begins, Encodes, EncodesFirst, HoldsWhole, IsAround, IsRun, type_inside};
+ghost use Rattle.spa_canonical.specs.Emit.{ArePlaced, Begins, Encodes, EncodesFirst, HoldsWhole, IsAfter, IsAround, type_inside};
 ghost use Rattle.spa_canonical.specs.Look.{AreChanged};
 ghost use Rattle.spa_canonical.specs.Rewriting.{AreRewritten};
 
@@ -108,7 +108,7 @@ fn emit(bytes: &mut [u8]) -> usize
 /// Replaces the first pods of a list by their encodings, where they are: up to a container, or behind a pod that gets shorter.
 #[inline(always)]
 fn encode_leaves(keyed: bool, pods: &mut [u8]) -> Run
-    ensures { IsRun keyed pods.old pods.new result }
+    ensures { EncodesFirst keyed pods.old pods.new result.kept result.ended × IsAfter keyed (drop result.ended pods.old) result.ended result.after }
 {
     let mut at = 0;
     loop {

@@ -1,9 +1,10 @@
 //! Looks at the pods inside a struct or an object. What is left of the structs and objects around a pod waits in an array, or in memory.
-ghost use Rattle.std.specs.Prelude.{◌≡◌, ◌+◌, ◌<◌, ◌≤◌, ◌⊎◌, IfErr, IfNone, IfOk, IfSome, Bool, List, false, length, true, ℕ};
+ghost use Rattle.std.specs.Prelude.{◌≡◌, ◌+◌, ◌-◌, ◌<◌, ◌≤◌, IfNone, IfSome, Bool, List, cond, false, length, reverse, take, true, ℕ};
 ghost use Rattle.spa_format.specs.Words.{size_limit};
 ghost use Rattle.spa_canonical.specs.Canonical.{AreCanonicalProperties};
-ghost use Rattle.spa_canonical.specs.Look.{AreCanonicalInside, Fits, IsFound, IsMet, Passes, Stops, StopsBefore};
-ghost use Rattle.spa_canonical.specs.Depth.{NestsDeeperInside, levels_looked_into};
+ghost use Rattle.spa_canonical.specs.Look.{IsFound, IsMet, Onward, Passes, StopsBefore};
+ghost use Rattle.spa_canonical.specs.Depth.{levels_looked_into};
+ghost use Rattle.spa_canonical.specs.declared.inside.Found.TheVariants as found;
 
 use crate::leaf::{long_leaf, short_leaf};
 use spa_bytes::{HEADER_LEN, SECOND_WORD, open, u32_at};
@@ -16,8 +17,8 @@ pub(crate) enum Found<'a> {
     Fits(usize),
     /// The first pod that isn't is at the front of these bytes, which so many follow of those that are looked at.
     Stops(&'a [u8], usize),
-    /// There is no room for one more list that waits.
-    TooDeep,
+    /// There is no room for one more list that waits. The array has what is left of all, and encodings before that are so many bytes shorter.
+    Full(usize),
 }
 
 /// What stands in a list behind pods that hold no others.
@@ -43,30 +44,37 @@ pub struct Waiting<'a> {
 /// How many structs and objects may stand in one another in a pod that is looked into without memory.
 pub const LEVELS: u32 = 1000;
 
-/// How many lists can wait in the short array.
-pub(crate) const FEW: usize = 16;
+/// How many lists the short array has room for: 16 that wait, and the innermost one.
+pub(crate) const FEW: usize = 17;
 
-/// How many can wait in the next one, inside a struct or an object for which the short one has no room.
-const SOME: usize = 64;
+/// How many the next one has room for, where the short one has none for one more.
+const SOME: usize = 65;
 
 /// An entry of an array in which no list waits.
 #[inline(always)]
 pub fn none_waiting(pods: &[u8]) -> Waiting<'_> {
+    list(false, 0, pods)
+}
+
+/// What is left of a list.
+#[inline(always)]
+fn list(keyed: bool, behind: u32, pods: &[u8]) -> Waiting<'_>
+    ensures { result ≡ record { keyed = cond keyed 1 0; behind = behind; pods = pods.entry } }
+{
     Waiting {
-        keyed: 0,
-        behind: 0,
+        keyed: keyed as u32,
+        behind,
         pods,
     }
 }
 
 /// Looks inside a struct or an object: at its first pods that hold no others, which need no array, and at what follows them.
 #[inline(always)]
-#[tactic(auto, using(crate::proofs::Looks::stops_behind))]
 pub(crate) fn look_into<'a>(
     canonical: bool,
     keyed: bool,
     pods: &'a [u8],
-    frames: &mut [Waiting<'a>],
+    frames: &mut [Waiting<'a>; FEW],
 ) -> Found<'a>
     requires { length pods.now < size_limit }
     ensures { IsFound canonical levels_looked_into keyed pods.now result }
@@ -75,126 +83,127 @@ pub(crate) fn look_into<'a>(
     if left.is_empty() {
         return Found::Fits(surplus);
     }
-    look_behind(canonical, keyed, pods, left, surplus, frames)
+    look_behind(canonical, keyed, left, surplus, frames)
 }
 
 /// Looks at what follows the first pods, which hold no others: a struct or an object, or a pod that isn't accepted, or canonical.
 #[inline(always)]
-#[tactic(auto, using(crate::proofs::Looks::stops_behind))]
 fn look_behind<'a>(
     canonical: bool,
     keyed: bool,
-    pods: &'a [u8],
     left: &'a [u8],
     surplus: usize,
-    frames: &mut [Waiting<'a>],
+    frames: &mut [Waiting<'a>; FEW],
 ) -> Found<'a>
     requires some { 0 < length left.now }
-    requires short { length pods.now < size_limit }
-    requires passed { Passes keyed canonical pods.now left.now surplus }
     requires last { StopsBefore keyed canonical left.now }
-    ensures { IsFound canonical levels_looked_into keyed pods.now result }
+    requires passed { (pods : List ℕ) × (length pods < size_limit) × Passes keyed canonical pods left.now surplus }
+    ensures { (pods : List ℕ) → Passes keyed canonical pods left.now surplus → IsFound canonical levels_looked_into keyed pods result }
 {
     if let Met::None(place) = meet(keyed, left) {
         return Found::Stops(place, 0);
     }
-    match look_inside(canonical, keyed, left, frames) {
-        Found::Fits(more) => Found::Fits(surplus + more),
-        Found::Stops(place, behind) => Found::Stops(place, behind),
-        Found::TooDeep => look_furthest(canonical, keyed, pods),
+    frames[0] = list(keyed, 0, left);
+    let found = look_inside(canonical, surplus, 0, frames);
+    if let Found::Full(more) = found {
+        return look_further(canonical, more, frames);
     }
+    found
 }
 
-/// Looks inside a struct or an object with the long array, whose bytes are set to zeros at each call.
+/// Goes on where the first array is full, with one for 64 lists around one, whose bytes are all written first, and behind it with the long one.
 #[cold]
 #[inline(never)]
-fn look_furthest(canonical: bool, keyed: bool, pods: &[u8]) -> Found<'_>
-    requires { length pods.now < size_limit }
-    ensures { IsFound canonical levels_looked_into keyed pods.now result }
+fn look_further<'a>(canonical: bool, surplus: usize, frames: &[Waiting<'a>; FEW]) -> Found<'a>
+    requires { (all : Bool) × (b : List ℕ) × (length b < size_limit) × Onward canonical all b (reverse frames.now) surplus }
+    ensures { (all : Bool) (b : List ℕ) → Onward canonical all b (reverse frames.now) surplus → IsFound canonical levels_looked_into all b result }
 {
-    let frames = &mut [none_waiting(pods); LEVELS as usize];
-    look_inside(canonical, keyed, pods, frames)
-}
-
-/// By how many bytes the encodings of what is left of a list are shorter, around which as many lists wait as the first array holds: looked at with the
-/// next array. `Err(true)`: not all are canonical, as is asked. `Err(false)`: not all are accepted, or there is no room for one more list that waits.
-#[cold]
-#[cycle(looking)]
-#[inline(never)]
-fn look_further(canonical: bool, keyed: bool, pods: &[u8]) -> Result<usize, bool>
-    requires { length pods.now < size_limit }
-    ensures fits { IfOk result (λ surplus. Fits canonical keyed pods.now surplus) }
-    ensures differs { IfErr result (λ differs. differs ≡ true → (canonical ≡ true) × ¬ (AreCanonicalInside keyed pods.now)) }
-    ensures missed { IfErr result (λ differs. differs ≡ false →
-        ((place : List ℕ) × (behind : ℕ) × Stops false keyed pods.now place behind) ⊎ NestsDeeperInside 64 keyed pods.now) }
-{
-    match look_inside(canonical, keyed, pods, &mut [none_waiting(pods); SOME]) {
-        Found::Fits(surplus) => Ok(surplus),
-        Found::Stops(_, _) => Err(canonical),
-        Found::TooDeep => Err(false),
+    let some = &mut [frames[0]; SOME];
+    some[..FEW].copy_from_slice(frames);
+    let found = look_inside(canonical, surplus, FEW - 1, some);
+    if let Found::Full(more) = found {
+        return look_furthest(canonical, more, some);
     }
+    found
 }
 
-/// Looks inside a struct or an object: whether all pods are canonical, where that is asked, and else whether all are accepted. What is left behind
-/// an inner struct or object waits in the array. Where the first array is full, what is left of the list is looked at with the next one, too.
-#[cycle(looking)]
+/// Goes on with the long array.
 #[inline(never)]
-pub(crate) fn look_inside<'a>(
-    canonical: bool,
-    are_keyed: bool,
+fn look_furthest<'a>(canonical: bool, surplus: usize, frames: &[Waiting<'a>; SOME]) -> Found<'a>
+    requires { (all : Bool) × (b : List ℕ) × (length b < size_limit) × Onward canonical all b (reverse frames.now) surplus }
+    ensures { (all : Bool) (b : List ℕ) → Onward canonical all b (reverse frames.now) surplus → IsFound canonical levels_looked_into all b result }
+{
+    let many = &mut [frames[0]; LEVELS as usize + 1];
+    many[..SOME].copy_from_slice(frames);
+    look_inside(canonical, surplus, SOME - 1, many)
+}
+
+/// Looks inside a struct or an object whether all pods are accepted, with no other array.
+pub(crate) fn accept_inside<'a>(
+    keyed: bool,
     pods: &'a [u8],
     frames: &mut [Waiting<'a>],
 ) -> Found<'a>
-    requires { length pods.now < size_limit }
-    ensures { IsFound canonical (length frames.old) are_keyed pods.now result }
+    requires short { length pods.now < size_limit }
+    requires some { 0 < length frames.old }
+    ensures { IsFound false (length frames.old - 1) keyed pods.now result }
 {
-    let (mut waiting, mut surplus, mut behind) = (0, 0, 0);
-    let mut keyed = are_keyed;
-    let mut left = pods;
+    frames[0] = list(keyed, 0, pods);
+    look_inside(false, 0, 0, frames)
+}
+
+/// Looks inside a struct or an object: whether all pods are canonical, where that is asked, and else whether all are accepted. The array begins with
+/// what is left of so many lists, each in the one before it, and of the innermost one; behind each inner struct or object one more waits.
+#[inline(never)]
+fn look_inside<'a>(
+    canonical: bool,
+    counted: usize,
+    around: usize,
+    frames: &mut [Waiting<'a>],
+) -> Found<'a>
+    requires room { around < length frames.old }
+    requires left { (all : Bool) × (b : List ℕ) × (length b < size_limit) × Onward canonical all b (reverse (take (around + 1) frames.old)) counted }
+    ensures found { (all : Bool) (b : List ℕ) → Onward canonical all b (reverse (take (around + 1) frames.old)) counted →
+        IsFound canonical (length frames.old - 1) all b result × ((n : ℕ) → result ≡ found.Full n → Onward canonical all b (reverse frames.new) n) }
+{
+    let (mut surplus, mut waiting) = (counted, around);
+    let innermost = frames[waiting];
+    let (mut keyed, mut behind) = (innermost.keyed != 0, innermost.behind);
+    let mut left = innermost.pods;
     loop {
         let (next, more) = behind_first(canonical, keyed, left);
         surplus += more;
-        if !next.is_empty() {
-            match meet(keyed, next) {
-                Met::Inner(inner, rest, after) => {
-                    if rest.is_empty() {
-                        keyed = inner.keyed;
-                        left = inner.pods;
-                        behind += after;
-                        continue;
-                    }
-                    if waiting < frames.len() {
-                        frames[waiting] = Waiting {
-                            keyed: keyed as u32,
-                            behind: behind as u32,
-                            pods: rest,
-                        };
-                        waiting += 1;
-                        keyed = inner.keyed;
-                        left = inner.pods;
-                        behind += after;
-                        continue;
-                    }
-                    if frames.len() > FEW {
-                        return Found::TooDeep;
-                    }
-                    match look_further(canonical, keyed, next) {
-                        Ok(all) => surplus += all,
-                        Err(true) => return Found::Stops(next, behind),
-                        Err(false) => return Found::TooDeep,
-                    }
-                }
-                Met::None(place) => return Found::Stops(place, behind),
+        if next.is_empty() {
+            if waiting == 0 {
+                return Found::Fits(surplus);
             }
+            waiting -= 1;
+            let outer = frames[waiting];
+            keyed = outer.keyed != 0;
+            left = outer.pods;
+            behind = outer.behind;
+            continue;
         }
-        if waiting == 0 {
-            return Found::Fits(surplus);
+        match meet(keyed, next) {
+            Met::Inner(inner, rest, after) => {
+                if rest.is_empty() {
+                    keyed = inner.keyed;
+                    left = inner.pods;
+                    behind += after as u32;
+                    continue;
+                }
+                if waiting + 1 == frames.len() {
+                    frames[waiting] = list(keyed, behind, next);
+                    return Found::Full(surplus);
+                }
+                frames[waiting] = list(keyed, behind, rest);
+                waiting += 1;
+                keyed = inner.keyed;
+                left = inner.pods;
+                behind += after as u32;
+            }
+            Met::None(place) => return Found::Stops(place, behind as usize),
         }
-        waiting -= 1;
-        let outer = frames[waiting];
-        keyed = outer.keyed != 0;
-        left = outer.pods;
-        behind = outer.behind as usize;
     }
 }
 
@@ -311,16 +320,13 @@ fn behind_short(canonical: bool, keyed: bool, pods: &[u8]) -> &[u8]
     left
 }
 
-/// The length in bytes of a key, flags and a pod whose body is one or two words.
-const KEYED_LEN: usize = 24;
-
 /// What follows the first pod, where its body is one or two words.
 #[inline(always)]
 fn behind_short_one(canonical: bool, keyed: bool, pods: &[u8]) -> Option<&[u8]>
     ensures passed { IfSome result (λ rest. Passes keyed canonical pods.now rest.now 0) }
     ensures shorter { IfSome result (λ rest. length rest.now + 8 ≤ length pods.now) }
 {
-    if keyed && pods.len() < KEYED_LEN {
+    if keyed && pods.len() < 3 * HEADER_LEN {
         return None;
     }
     let here = behind_key(keyed, pods)?;

@@ -10,7 +10,7 @@ ghost use Rattle.spa_canonical.specs.Rewriting.{ArePodsWithin, BeginsShorter, Is
 ghost use Rattle.spa_canonical.specs.Canonical.{AreCanonical, BeginsCanonical, IsStretch};
 ghost use Rattle.spa_canonical.specs.Depth.{AreShallow, NestsDeeper, depth_of, levels_looked_into};
 
-use crate::inside::{FEW, Found, Waiting, look_inside, look_into, none_waiting};
+use crate::inside::{FEW, Found, Waiting, accept_inside, look_into, none_waiting};
 use crate::leaf::{fault, leaf};
 use spa_bytes::{HEADER_LEN, open};
 use spa_events::inside_of;
@@ -141,7 +141,7 @@ pub fn canonical_stretch(input: &[u8]) -> (&[u8], &[u8])
 
 /// What follows the first canonical pods, with an array in which lists can wait.
 #[inline(always)]
-fn behind_canonical_pods<'a>(pods: &'a [u8], frames: &mut [Waiting<'a>]) -> &'a [u8]
+fn behind_canonical_pods<'a>(pods: &'a [u8], frames: &mut [Waiting<'a>; FEW]) -> &'a [u8]
     ensures stretch { IsStretch pods.now result.now }
     ensures all { AreShallow levels_looked_into pods.now → result.now ≡ [] }
 {
@@ -155,7 +155,7 @@ fn behind_canonical_pods<'a>(pods: &'a [u8], frames: &mut [Waiting<'a>]) -> &'a 
 /// What follows the pod at the front as `canonical_front` says it, with an array in which lists can wait.
 #[inline(always)]
 #[tactic(auto, using(crate::proofs::Depths::deep_begun, crate::proofs::Accepted::less_left))]
-fn next_canonical<'a>(input: &'a [u8], frames: &mut [Waiting<'a>]) -> Option<&'a [u8]>
+fn next_canonical<'a>(input: &'a [u8], frames: &mut [Waiting<'a>; FEW]) -> Option<&'a [u8]>
     ensures taken { IfSome result (λ rest. BeginsCanonical input.now rest.now) }
     ensures shorter { IfSome result (λ rest. length rest.now + 8 ≤ length input.now) }
     ensures missed { IfNone result ((rest : List ℕ) (c : BeginsCanonical input.now rest) → levels_looked_into < depth_of c.value) }
@@ -171,7 +171,7 @@ fn next_canonical<'a>(input: &'a [u8], frames: &mut [Waiting<'a>]) -> Option<&'a
 #[inline(always)]
 fn accept_front<'a>(
     input: &'a [u8],
-    frames: &mut [Waiting<'a>],
+    frames: &mut [Waiting<'a>; FEW],
 ) -> Result<(&'a [u8], usize), Rejected<'a>>
     ensures accepted { IfOk result (λ front. BeginsShorter input.now front.0.now front.1) }
     ensures rejected { IfErr result (IsRejected input.now) }
@@ -185,7 +185,11 @@ fn accept_front<'a>(
 
 /// Looks at the pod at the front: whether it is canonical, where that is asked, and else whether it is accepted.
 #[inline(always)]
-fn look_at_front<'a>(canonical: bool, input: &'a [u8], frames: &mut [Waiting<'a>]) -> FrontLook<'a>
+fn look_at_front<'a>(
+    canonical: bool,
+    input: &'a [u8],
+    frames: &mut [Waiting<'a>; FEW],
+) -> FrontLook<'a>
     ensures { IsFrontLook canonical input.now result }
 {
     let Some(front) = open(input) else {
@@ -203,7 +207,7 @@ fn look_at_front<'a>(canonical: bool, input: &'a [u8], frames: &mut [Waiting<'a>
             let at = HEADER_LEN + front.body.len() - (place.len() + behind);
             FrontLook::Stops(place, at)
         }
-        Found::TooDeep => FrontLook::TooDeep,
+        Found::Full(_) => FrontLook::TooDeep,
     }
 }
 
@@ -229,18 +233,21 @@ pub fn accept_within<'a>(
     // As many entries as the input has bytes are enough.
     ensures full { IfErr result (λ why. why ≡ rejected.TooDeep → length frames.old < length input.now) }
 {
+    if frames.is_empty() {
+        return Err(Rejected::TooDeep);
+    }
     let Some(front) = open(input) else {
         unreachable!();
     };
     let Some(inside) = inside_of(front.type_, front.body) else {
         unreachable!();
     };
-    match look_inside(false, inside.keyed, inside.pods, frames) {
+    match accept_inside(inside.keyed, inside.pods, frames) {
         Found::Fits(surplus) => Ok((front.rest, surplus)),
         Found::Stops(place, behind) => {
             let at = HEADER_LEN + front.body.len() - (place.len() + behind);
             Err(Rejected::Fault(place, at, fault(place)))
         }
-        Found::TooDeep => Err(Rejected::TooDeep),
+        Found::Full(_) => Err(Rejected::TooDeep),
     }
 }

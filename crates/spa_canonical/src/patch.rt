@@ -2,8 +2,9 @@
 ghost use Rattle.std.specs.Prelude.{Bool, List, false, true, ℕ, ◌≡◌, ◌≢◌, ◌+◌, ◌-◌, ◌<◌, ◌≤◌, ◌++◌, ◌*◌, IfNone, IfSome, drop, length, replicate, take};
 ghost use Rattle.spa_fixed_sized.specs.Reading.{AreWhole};
 ghost use Rattle.spa_format.specs.Tree.{choice_type, pointer_type};
-ghost use Rattle.spa_format.specs.Kind.{bool_kind, type_number};
-ghost use Rattle.spa_canonical.specs.Look.{AreTruths};
+ghost use Rattle.spa_format.specs.Kind.{Fixed, bool_kind, type_number};
+ghost use Rattle.spa_format.specs.Encoding.{fixed_bodies};
+ghost use Rattle.spa_format.specs.Pod.{AreElements};
 ghost use Rattle.spa_format.specs.Typed.{IsBytes};
 ghost use Rattle.spa_format.specs.Words.{header_size, size_limit, word_at};
 ghost use Rattle.spa_canonical.specs.Emit.{BeginsWord, Encodes, HoldsWhole, IsPlaced, IsPodOf, TurnsWritten};
@@ -131,7 +132,7 @@ fn patch_elements(type_: u32, len: usize, bytes: &mut [u8])
 /// Makes the bodies of truth values those that are written.
 fn patch_truths(words: &mut [u8])
     requires { AreWhole WORD_LEN words.old }
-    ensures { AreTruths words.old words.new }
+    ensures { (values : List Fixed) × AreElements bool_kind values words.old × (words.new ≡ fixed_bodies values) }
 {
     let mut at = 0;
     while at < words.len() {

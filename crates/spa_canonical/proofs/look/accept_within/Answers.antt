@@ -1,4 +1,5 @@
-use Rattle.std.proofs.Common.{arith, refl}
+use Rattle.std.proofs.Common.{arith, refl, sym, ◌∙◌}
+use Rattle.std.proofs.lemmas.Bool.{eqb-true}
 use Rattle.spa_canonical.specs.Depth.{levels_looked_into}
 use Rattle.spa_canonical.proofs.Deeper.{holds_none, input_deep, its_front}
 use Rattle.spa_canonical.proofs.Accepted.{inside_stops}
@@ -29,9 +30,15 @@ pub returns-in-Stops-clause-rejected : goal.returns-in-Stops-clause-rejected
 returns-in-Stops-clause-rejected c =
     inside_stops _ _ _ _ _ _ _ _ _ _ c.in-Some.ensures.there c.in-Some-inside_of.ensures.there (c.in-Stops.ensures.fault refl) refl c.fault.ensures
 
-pub returns-in-TooDeep-clause-full : goal.returns-in-TooDeep-clause-full
-returns-in-TooDeep-clause-full c = λ _.
-    let deep = nested_long _ _ _ c.in-TooDeep.ensures in
+pub returns-in-Full-clause-full : goal.returns-in-Full-clause-full
+returns-in-Full-clause-full c = λ _.
+    let deep = nested_long _ _ _ c.in-Full.ensures in
     let inside = body_long _ _ _ _ c.in-Some-inside_of.ensures.there in
     let body = c.in-Some.ensures.there.shorter in
+    omega arith
+
+pub returns-then-is_empty-clause-full : goal.returns-then-is_empty-clause-full
+returns-then-is_empty-clause-full c = λ _.
+    let front = (its_front levels_looked_into _ c.requires).header in
+    let none = eqb-true _ _ (sym c.is_empty.ensures ∙ c.if-is_empty.true) in
     omega arith

@@ -46,5 +46,5 @@ returns-in-Stops c =
           record { refused = s.refused; alone = s.alone; named = λ why w. inside_stops _ _ _ _ _ _ _ _ _ why o i s refl w },
     )
 
-pub returns-in-TooDeep : goal.returns-in-TooDeep
-returns-in-TooDeep c = too_deep _ _ _ _ _ _ c.in-Some.ensures.there c.in-Some-inside_of.ensures.there c.in-TooDeep.ensures
+pub returns-in-Full : goal.returns-in-Full
+returns-in-Full c = too_deep _ _ _ _ _ _ c.in-Some.ensures.there c.in-Some-inside_of.ensures.there c.in-Full.ensures

@@ -12,8 +12,8 @@ pub(crate) enum Found<'a> {
     Fits(usize),
     /// The first pod that isn't is at the front of these bytes, which so many follow of those that are looked at.
     Stops(&'a [u8], usize),
-    /// There is no room for one more list that waits.
-    TooDeep,
+    /// There is no room for one more list that waits: what is left of the innermost one, and by how much encodings are shorter before it.
+    Full(Waiting<'a>, usize),
 }
 
 /// What stands in a list behind pods that hold no others.
@@ -62,13 +62,13 @@ pub(crate) fn look_into<'a>(
     canonical: bool,
     keyed: bool,
     pods: &'a [u8],
-    frames: &mut [Waiting<'a>],
+    frames: &mut [Waiting<'a>; FEW],
 ) -> Found<'a> {
     let (left, surplus) = behind_leaves(canonical, keyed, pods);
     if left.is_empty() {
         return Found::Fits(surplus);
     }
-    look_behind(canonical, keyed, pods, left, surplus, frames)
+    look_behind(canonical, keyed, left, surplus, frames)
 }
 
 /// Looks at what follows the first pods, which hold no others: a struct or an object, or a pod that isn't accepted, or canonical.
@@ -76,97 +76,112 @@ pub(crate) fn look_into<'a>(
 fn look_behind<'a>(
     canonical: bool,
     keyed: bool,
-    pods: &'a [u8],
     left: &'a [u8],
     surplus: usize,
-    frames: &mut [Waiting<'a>],
+    frames: &mut [Waiting<'a>; FEW],
 ) -> Found<'a> {
     if let Met::None(place) = meet(keyed, left) {
         return Found::Stops(place, 0);
     }
-    match look_inside(canonical, keyed, left, frames) {
-        Found::Fits(more) => Found::Fits(surplus + more),
-        Found::Stops(place, behind) => Found::Stops(place, behind),
-        Found::TooDeep => look_furthest(canonical, keyed, pods),
+    let list = Waiting {
+        keyed: keyed as u32,
+        behind: 0,
+        pods: left,
+    };
+    match look_inside(canonical, list, surplus, 0, frames) {
+        Found::Full(innermost, more) => look_further(canonical, innermost, more, frames),
+        found => found,
     }
 }
 
-/// Looks inside a struct or an object with the long array, whose bytes are set to zeros at each call.
+/// Goes on where the first array is full, with one of 64, and where that is full, with the long one: all bytes of an array are written at each call.
 #[cold]
 #[inline(never)]
-fn look_furthest(canonical: bool, keyed: bool, pods: &[u8]) -> Found<'_> {
-    let frames = &mut [none_waiting(pods); LEVELS as usize];
-    look_inside(canonical, keyed, pods, frames)
-}
-
-/// By how many bytes the encodings of what is left of a list are shorter, around which as many lists wait as the first array holds: looked at with the
-/// next array. `Err(true)`: not all are canonical, as is asked. `Err(false)`: not all are accepted, or there is no room for one more list that waits.
-#[cold]
-#[inline(never)]
-fn look_further(canonical: bool, keyed: bool, pods: &[u8]) -> Result<usize, bool> {
-    match look_inside(canonical, keyed, pods, &mut [none_waiting(pods); SOME]) {
-        Found::Fits(surplus) => Ok(surplus),
-        Found::Stops(_, _) => Err(canonical),
-        Found::TooDeep => Err(false),
-    }
-}
-
-/// Looks inside a struct or an object: whether all pods are canonical, where that is asked, and else whether all are accepted. What is left behind
-/// an inner struct or object waits in the array. Where the first array is full, what is left of the list is looked at with the next one, too.
-#[inline(never)]
-pub(crate) fn look_inside<'a>(
+fn look_further<'a>(
     canonical: bool,
-    are_keyed: bool,
+    innermost: Waiting<'a>,
+    surplus: usize,
+    frames: &[Waiting<'a>; FEW],
+) -> Found<'a> {
+    let some = &mut [none_waiting(innermost.pods); SOME];
+    some[..FEW].copy_from_slice(frames);
+    match look_inside(canonical, innermost, surplus, FEW, some) {
+        Found::Full(left, more) => look_furthest(canonical, left, more, some),
+        found => found,
+    }
+}
+
+/// Goes on with the long array.
+#[inline(never)]
+fn look_furthest<'a>(
+    canonical: bool,
+    innermost: Waiting<'a>,
+    surplus: usize,
+    frames: &[Waiting<'a>; SOME],
+) -> Found<'a> {
+    let many = &mut [none_waiting(innermost.pods); LEVELS as usize];
+    many[..SOME].copy_from_slice(frames);
+    look_inside(canonical, innermost, surplus, SOME, many)
+}
+
+/// Looks inside a struct or an object whether all pods are accepted, with no other array.
+pub(crate) fn accept_inside<'a>(
+    keyed: bool,
     pods: &'a [u8],
     frames: &mut [Waiting<'a>],
 ) -> Found<'a> {
-    let (mut waiting, mut surplus, mut behind) = (0, 0, 0);
-    let mut keyed = are_keyed;
-    let mut left = pods;
+    let list = Waiting {
+        keyed: keyed as u32,
+        behind: 0,
+        pods,
+    };
+    look_inside(false, list, 0, 0, frames)
+}
+
+/// Looks inside a struct or an object, from what is left of the innermost list on: whether all pods are canonical, where that is asked, and else
+/// whether all are accepted. What is left behind an inner struct or object waits in the array, in which so many wait already.
+#[inline(never)]
+fn look_inside<'a>(
+    canonical: bool,
+    first: Waiting<'a>,
+    counted: usize,
+    around: usize,
+    frames: &mut [Waiting<'a>],
+) -> Found<'a> {
+    let (mut innermost, mut surplus, mut waiting) = (first, counted, around);
     loop {
-        let (next, more) = behind_first(canonical, keyed, left);
+        let Waiting {
+            keyed,
+            behind,
+            pods,
+        } = innermost;
+        let (left, more) = behind_first(canonical, keyed != 0, pods);
         surplus += more;
-        if !next.is_empty() {
-            match meet(keyed, next) {
-                Met::Inner(inner, rest, after) => {
-                    if rest.is_empty() {
-                        keyed = inner.keyed;
-                        left = inner.pods;
-                        behind += after;
-                        continue;
-                    }
-                    if waiting < frames.len() {
-                        frames[waiting] = Waiting {
-                            keyed: keyed as u32,
-                            behind: behind as u32,
-                            pods: rest,
-                        };
-                        waiting += 1;
-                        keyed = inner.keyed;
-                        left = inner.pods;
-                        behind += after;
-                        continue;
-                    }
-                    if frames.len() > FEW {
-                        return Found::TooDeep;
-                    }
-                    match look_further(canonical, keyed, next) {
-                        Ok(all) => surplus += all,
-                        Err(true) => return Found::Stops(next, behind),
-                        Err(false) => return Found::TooDeep,
-                    }
-                }
-                Met::None(place) => return Found::Stops(place, behind),
+        if left.is_empty() {
+            if waiting == 0 {
+                return Found::Fits(surplus);
             }
+            waiting -= 1;
+            innermost = frames[waiting];
+            continue;
         }
-        if waiting == 0 {
-            return Found::Fits(surplus);
+        let (inner, rest, after) = match meet(keyed != 0, left) {
+            Met::Inner(inner, rest, after) => (inner, rest, after),
+            Met::None(place) => return Found::Stops(place, behind as usize),
+        };
+        if !rest.is_empty() {
+            if waiting == frames.len() {
+                let list = Waiting { pods: left, ..innermost };
+                return Found::Full(list, surplus);
+            }
+            frames[waiting] = Waiting { pods: rest, ..innermost };
+            waiting += 1;
         }
-        waiting -= 1;
-        let outer = frames[waiting];
-        keyed = outer.keyed != 0;
-        left = outer.pods;
-        behind = outer.behind as usize;
+        innermost = Waiting {
+            keyed: inner.keyed as u32,
+            behind: behind + after as u32,
+            pods: inner.pods,
+        };
     }
 }
 

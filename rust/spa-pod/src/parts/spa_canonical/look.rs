@@ -2,7 +2,7 @@
 //! Looks at pods: whether they are accepted, whether they are canonical, and how long their encodings are. They write nothing and take no memory, and
 //! their stack doesn't grow with the nesting depth.
 
-use crate::parts::spa_canonical::inside::{FEW, Found, Waiting, look_inside, look_into, none_waiting};
+use crate::parts::spa_canonical::inside::{FEW, Found, Waiting, accept_inside, look_into, none_waiting};
 use crate::parts::spa_canonical::leaf::{fault, leaf};
 use crate::parts::spa_bytes::{HEADER_LEN, open};
 use crate::parts::spa_events::inside_of;
@@ -112,7 +112,7 @@ pub fn canonical_stretch(input: &[u8]) -> (&[u8], &[u8]) {
 
 /// What follows the first canonical pods, with an array in which lists can wait.
 #[cfg_attr(not(debug_assertions), inline(always))]
-fn behind_canonical_pods<'a>(pods: &'a [u8], frames: &mut [Waiting<'a>]) -> &'a [u8] {
+fn behind_canonical_pods<'a>(pods: &'a [u8], frames: &mut [Waiting<'a>; FEW]) -> &'a [u8] {
     let mut left = pods;
     while let Some(rest) = next_canonical(left, frames) {
         left = rest;
@@ -122,7 +122,7 @@ fn behind_canonical_pods<'a>(pods: &'a [u8], frames: &mut [Waiting<'a>]) -> &'a 
 
 /// What follows the pod at the front as `canonical_front` says it, with an array in which lists can wait.
 #[cfg_attr(not(debug_assertions), inline(always))]
-fn next_canonical<'a>(input: &'a [u8], frames: &mut [Waiting<'a>]) -> Option<&'a [u8]> {
+fn next_canonical<'a>(input: &'a [u8], frames: &mut [Waiting<'a>; FEW]) -> Option<&'a [u8]> {
     match look_at_front(true, input, frames) {
         FrontLook::Fits(rest, _) => Some(rest),
         FrontLook::Stops(_, _) => None,
@@ -134,7 +134,7 @@ fn next_canonical<'a>(input: &'a [u8], frames: &mut [Waiting<'a>]) -> Option<&'a
 #[cfg_attr(not(debug_assertions), inline(always))]
 fn accept_front<'a>(
     input: &'a [u8],
-    frames: &mut [Waiting<'a>],
+    frames: &mut [Waiting<'a>; FEW],
 ) -> Result<(&'a [u8], usize), Rejected<'a>> {
     match look_at_front(false, input, frames) {
         FrontLook::Fits(rest, surplus) => Ok((rest, surplus)),
@@ -145,7 +145,7 @@ fn accept_front<'a>(
 
 /// Looks at the pod at the front: whether it is canonical, where that is asked, and else whether it is accepted.
 #[cfg_attr(not(debug_assertions), inline(always))]
-fn look_at_front<'a>(canonical: bool, input: &'a [u8], frames: &mut [Waiting<'a>]) -> FrontLook<'a> {
+fn look_at_front<'a>(canonical: bool, input: &'a [u8], frames: &mut [Waiting<'a>; FEW]) -> FrontLook<'a> {
     let Some(front) = open(input) else {
         return FrontLook::Stops(input, 0);
     };
@@ -161,7 +161,7 @@ fn look_at_front<'a>(canonical: bool, input: &'a [u8], frames: &mut [Waiting<'a>
             let at = HEADER_LEN + front.body.len() - (place.len() + behind);
             FrontLook::Stops(place, at)
         }
-        Found::TooDeep => FrontLook::TooDeep,
+        Found::Full(_, _) => FrontLook::TooDeep,
     }
 }
 
@@ -184,12 +184,12 @@ pub(crate) fn accept_within<'a>(
     let Some(inside) = inside_of(front.type_, front.body) else {
         unreachable!();
     };
-    match look_inside(false, inside.keyed, inside.pods, frames) {
+    match accept_inside(inside.keyed, inside.pods, frames) {
         Found::Fits(surplus) => Ok((front.rest, surplus)),
         Found::Stops(place, behind) => {
             let at = HEADER_LEN + front.body.len() - (place.len() + behind);
             Err(Rejected::Fault(place, at, fault(place)))
         }
-        Found::TooDeep => Err(Rejected::TooDeep),
+        Found::Full(_, _) => Err(Rejected::TooDeep),
     }
 }

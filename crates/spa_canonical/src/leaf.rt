@@ -6,16 +6,13 @@ ghost use Rattle.spa_format.specs.Opened.{OpensHeaderAlone};
 ghost use Rattle.spa_bodies.specs.Refusing.{Says};
 ghost use Rattle.spa_canonical.specs.Look.{BeginsAsked, IsNoLeaf};
 
-use crate::body::leaf_body;
+use crate::body::{WORD_LEN, leaf_body};
 use crate::front::{ONE_WORD, TWO_WORDS, fixed_len, has_zeros, is_word_type};
 use crate::patch::SECOND_HEADER;
 use crate::text::is_padded_text;
 use spa_bytes::{HEADER_LEN, SECOND_WORD, open, u32_at};
 use spa_fixed_sized::Refusal;
 use spa_utils::SpaTypes;
-
-/// Where the second word of a body stands in its pod, or the padding behind a body of one word.
-const SECOND_OF_BODY: usize = 12;
 
 /// What follows the pod at the front, where its body is one or two words and of a kind of fixed size, and it is canonical, where that is asked.
 #[inline(always)]
@@ -48,7 +45,7 @@ fn is_short(canonical: bool, input: &[u8]) -> bool
         }
         return fixed_len(type_) == TWO_WORDS && size == TWO_WORDS;
     }
-    if canonical && u32_at(input, SECOND_OF_BODY) != 0 {
+    if canonical && u32_at(input, HEADER_LEN + WORD_LEN) != 0 {
         return false;
     }
     if is_word_type(type_) {

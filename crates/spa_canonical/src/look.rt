@@ -219,8 +219,7 @@ pub fn accept_pod(input: &[u8]) -> Result<(&[u8], usize), Rejected<'_>>
     accept_front(input, &mut [none_waiting(input); FEW])
 }
 
-/// Does what `accept_pod` does for a pod that nests too deep for that, with this array for what is left of the structs and objects around a pod.
-/// `TooDeep`: there is no room for one more.
+/// Does what `accept_pod` does for a pod that nests too deep for that, with this array. `TooDeep`: it has no room for one more list that waits.
 #[cold]
 #[inline(never)]
 pub fn accept_within<'a>(

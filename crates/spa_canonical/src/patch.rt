@@ -15,15 +15,11 @@ use spa_bytes::{HEADER_LEN, POINTER_LEN, SECOND_WORD, extent_of, joined, two_wor
 use spa_fixed_sized::CanonicalFixedSizedPod;
 use spa_utils::SpaTypes;
 
-/// The length in bytes of a whole pod whose body is one or two words; also where the second header in a pod ends: an object's
-/// type and id, an array's child header, or a choice's shape and flags.
+/// The length in bytes of a pod whose body is one or two words; also where an object's type and id, or a choice's shape and flags, end in it.
 pub(crate) const SECOND_HEADER: usize = 16;
 
 /// Where the child header of a choice ends, and its values begin.
 const VALUES_AT: usize = 24;
-
-/// The length in bytes of a whole pointer.
-const POINTER_POD: usize = 24;
 
 /// Whether the pod at the front has a body of one word, and isn't a Bool. `false` promises nothing.
 #[inline(always)]
@@ -39,8 +35,7 @@ pub(crate) fn begins_word(input: &[u8]) -> bool
     is_word_type(u32_at(input, SECOND_WORD))
 }
 
-/// Replaces a pod that holds no others by its encoding, which is put at its front, and returns how many bytes that takes. Of a pod that no value says it
-/// promises nothing.
+/// Replaces a pod that holds no others by its encoding, at its front, and returns how many bytes that takes. Of a pod of no value it promises nothing.
 #[inline(always)]
 pub(crate) fn encode_leaf(type_: u32, size: usize, pod: &mut [u8]) -> usize
     requires pod { IsPodOf pod.old type_ size }
@@ -104,7 +99,7 @@ fn patch_pointer(size: usize, pod: &mut [u8])
     requires { IsPodOf pod.old pointer_type size }
     ensures { IsPlaced pod.old pod.new }
 {
-    if pod.len() == POINTER_POD {
+    if pod.len() == HEADER_LEN + POINTER_LEN {
         let header = two_words(POINTER_LEN as u32, SpaTypes::Pointer.0);
         let words = two_words(u32_at(pod, HEADER_LEN), 0);
         clear_behind(HEADER_LEN + size, pod);

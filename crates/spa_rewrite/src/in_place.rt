@@ -17,8 +17,7 @@ use std::alloc::Global;
 /// The call is refused exactly as `rewrite_all`, and then no byte is changed. A refusal gives the offset of the refused pod, and its fault;
 /// `Nom` has the offset of the byte at which the fault stands.
 ///
-/// All pods are looked at first. Memory is taken only for a pod in which more than 1000 structs and objects stand in one another: for its open
-/// containers.
+/// All pods are looked at first. Memory is taken only for the open containers of a pod in which more than 1000 of them stand in one another.
 pub fn rewrite_in_place(
     alloc: Global,
     bytes: &mut [u8],

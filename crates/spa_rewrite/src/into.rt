@@ -9,8 +9,7 @@ use spa_canonical::{canonical_stretch, encode_pods, look_at_pods};
 /// The input is copied and replaced there: what is behind as many bytes as the input has stays as it was. To a shorter output it writes nothing, and
 /// answers the length alone. It takes no memory.
 ///
-/// `None` says that the input isn't pods one after another, or that more than `LEVELS` structs and objects stand in one another in them: then it writes
-/// nothing.
+/// `None`, and then it writes nothing: the input isn't pods one after another, or more than `LEVELS` structs and objects stand in one another in it.
 pub fn rewrite_into(input: &[u8], out: &mut [u8]) -> Option<usize>
     ensures counted { IfSome result (λ len. AreRewrittenAs input.now len) }
     ensures rewritten { IfSome result (λ len. length input.now ≤ length out.old

@@ -12,6 +12,6 @@ look_inside-requires-clause-left c =
 
 pub returns : goal.returns
 returns c =
-    let o = first_list _ _ _ _ _ _ _ c.requires.some c.list.ensures (passes_none _ _ _ (bytes_of _ c.type_inv.pods)) in
     let long : length (set c.args.frames.now 0 c.list.result) - 1 ≡ length c.args.frames.now - 1 = omega (arith, length-set {A = Waiting}) in
+    let o = first_list _ _ _ _ _ _ _ c.requires.some c.list.ensures (passes_none _ _ _ (bytes_of _ c.type_inv.pods)) in
     subst (λ n. IsFound false n c.args.keyed c.args.pods.now c.look_inside.result) long (c.look_inside.ensures.found _ _ o).0

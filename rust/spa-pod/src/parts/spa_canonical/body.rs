@@ -4,13 +4,10 @@
 use crate::shims::prelude::*;
 use crate::parts::spa_canonical::front::{ONE_WORD, TWO_WORDS, fixed_len, is_word_type};
 use crate::parts::spa_canonical::text::is_text;
-use crate::parts::spa_bodies::VALUE_TYPE_AT;
+use crate::parts::spa_bodies::{CHOICE_HEADER_LEN, VALUE_TYPE_AT};
 use crate::parts::spa_bytes::{HEADER_LEN, POINTER_LEN, SECOND_WORD, SHORT_POINTER_LEN, u32_at};
 use crate::parts::spa_fixed_sized::{FLAGS_SHAPE, NONE_SHAPE, Refusal, count_taken};
 use crate::parts::spa_utils::SpaTypes;
-
-/// The length in bytes of the four words before the values of a choice.
-pub(crate) const CHOICE_HEADER: usize = 16;
 
 /// The length in bytes of a word.
 pub(crate) const WORD_LEN: usize = 4;
@@ -58,13 +55,13 @@ fn array_body(canonical: bool, body: &[u8]) -> Result<usize, Option<Refusal>> {
 /// By how many bytes the encoding of a choice is shorter: what it holds beyond the values that it takes, and beyond the padding of these.
 #[cfg_attr(not(debug_assertions), inline(always))]
 fn choice_body(canonical: bool, body: &[u8]) -> Result<usize, Option<Refusal>> {
-    if canonical && body.len() <= CHOICE_HEADER {
+    if canonical && body.len() <= CHOICE_HEADER_LEN {
         return Err(None);
     }
-    if body.len() < CHOICE_HEADER {
+    if body.len() < CHOICE_HEADER_LEN {
         return Err(Some(Refusal::WrongSize));
     }
-    let (_, values) = body.split_at(CHOICE_HEADER);
+    let (_, values) = body.split_at(CHOICE_HEADER_LEN);
     let shape = u32_at(body, 0);
     let size = u32_at(body, HEADER_LEN);
     let type_ = u32_at(body, VALUE_TYPE_AT);
@@ -92,7 +89,7 @@ fn choice_body(canonical: bool, body: &[u8]) -> Result<usize, Option<Refusal>> {
     if taken == 0 || taken > values.len() {
         return Err(Some(Refusal::MissingChoiceValues));
     }
-    let kept = CHOICE_HEADER + taken;
+    let kept = CHOICE_HEADER_LEN + taken;
     Ok(((body.len() + 7) / HEADER_LEN - (kept + 7) / HEADER_LEN) * HEADER_LEN)
 }
 

@@ -12,8 +12,8 @@ pub(crate) enum Found<'a> {
     Fits(usize),
     /// The first pod that isn't is at the front of these bytes, which so many follow of those that are looked at.
     Stops(&'a [u8], usize),
-    /// There is no room for one more list that waits: what is left of the innermost one, and by how much encodings are shorter before it.
-    Full(Waiting<'a>, usize),
+    /// There is no room for one more list that waits. The array has what is left of all, and encodings before that are so many bytes shorter.
+    Full(usize),
 }
 
 /// What stands in a list behind pods that hold no others.
@@ -39,19 +39,25 @@ pub struct Waiting<'a> {
 /// How many structs and objects may stand in one another in a pod that is looked into without memory.
 pub const LEVELS: u32 = 1000;
 
-/// How many lists can wait in the short array.
-pub(crate) const FEW: usize = 16;
+/// How many lists the short array has room for: 16 that wait, and the innermost one.
+pub(crate) const FEW: usize = 17;
 
-/// How many can wait in the next one, inside a struct or an object for which the short one has no room.
-const SOME: usize = 64;
+/// How many the next one has room for, where the short one has none for one more.
+const SOME: usize = 65;
 
 /// An entry of an array in which no list waits.
 #[cfg_attr(not(debug_assertions), inline(always))]
 #[must_use]
 pub(crate) fn none_waiting(pods: &[u8]) -> Waiting<'_> {
+    list(false, 0, pods)
+}
+
+/// What is left of a list.
+#[cfg_attr(not(debug_assertions), inline(always))]
+fn list(keyed: bool, behind: u32, pods: &[u8]) -> Waiting<'_> {
     Waiting {
-        keyed: 0,
-        behind: 0,
+        keyed: keyed as u32,
+        behind,
         pods,
     }
 }
@@ -83,45 +89,33 @@ fn look_behind<'a>(
     if let Met::None(place) = meet(keyed, left) {
         return Found::Stops(place, 0);
     }
-    let list = Waiting {
-        keyed: keyed as u32,
-        behind: 0,
-        pods: left,
-    };
-    match look_inside(canonical, list, surplus, 0, frames) {
-        Found::Full(innermost, more) => look_further(canonical, innermost, more, frames),
-        found => found,
+    frames[0] = list(keyed, 0, left);
+    let found = look_inside(canonical, surplus, 0, frames);
+    if let Found::Full(more) = found {
+        return look_further(canonical, more, frames);
     }
+    found
 }
 
-/// Goes on where the first array is full, with one of 64, and where that is full, with the long one: all bytes of an array are written at each call.
+/// Goes on where the first array is full, with one for 64 lists around one, whose bytes are all written first, and behind it with the long one.
 #[cold]
 #[inline(never)]
-fn look_further<'a>(
-    canonical: bool,
-    innermost: Waiting<'a>,
-    surplus: usize,
-    frames: &[Waiting<'a>; FEW],
-) -> Found<'a> {
-    let some = &mut [none_waiting(innermost.pods); SOME];
+fn look_further<'a>(canonical: bool, surplus: usize, frames: &[Waiting<'a>; FEW]) -> Found<'a> {
+    let some = &mut [frames[0]; SOME];
     some[..FEW].copy_from_slice(frames);
-    match look_inside(canonical, innermost, surplus, FEW, some) {
-        Found::Full(left, more) => look_furthest(canonical, left, more, some),
-        found => found,
+    let found = look_inside(canonical, surplus, FEW - 1, some);
+    if let Found::Full(more) = found {
+        return look_furthest(canonical, more, some);
     }
+    found
 }
 
 /// Goes on with the long array.
 #[inline(never)]
-fn look_furthest<'a>(
-    canonical: bool,
-    innermost: Waiting<'a>,
-    surplus: usize,
-    frames: &[Waiting<'a>; SOME],
-) -> Found<'a> {
-    let many = &mut [none_waiting(innermost.pods); LEVELS as usize];
+fn look_furthest<'a>(canonical: bool, surplus: usize, frames: &[Waiting<'a>; SOME]) -> Found<'a> {
+    let many = &mut [frames[0]; LEVELS as usize + 1];
     many[..SOME].copy_from_slice(frames);
-    look_inside(canonical, innermost, surplus, SOME, many)
+    look_inside(canonical, surplus, SOME - 1, many)
 }
 
 /// Looks inside a struct or an object whether all pods are accepted, with no other array.
@@ -130,58 +124,57 @@ pub(crate) fn accept_inside<'a>(
     pods: &'a [u8],
     frames: &mut [Waiting<'a>],
 ) -> Found<'a> {
-    let list = Waiting {
-        keyed: keyed as u32,
-        behind: 0,
-        pods,
-    };
-    look_inside(false, list, 0, 0, frames)
+    frames[0] = list(keyed, 0, pods);
+    look_inside(false, 0, 0, frames)
 }
 
-/// Looks inside a struct or an object, from what is left of the innermost list on: whether all pods are canonical, where that is asked, and else
-/// whether all are accepted. What is left behind an inner struct or object waits in the array, in which so many wait already.
+/// Looks inside a struct or an object: whether all pods are canonical, where that is asked, and else whether all are accepted. The array begins with
+/// what is left of so many lists, each in the one before it, and of the innermost one; behind each inner struct or object one more waits.
 #[inline(never)]
 fn look_inside<'a>(
     canonical: bool,
-    first: Waiting<'a>,
     counted: usize,
     around: usize,
     frames: &mut [Waiting<'a>],
 ) -> Found<'a> {
-    let (mut innermost, mut surplus, mut waiting) = (first, counted, around);
+    let (mut surplus, mut waiting) = (counted, around);
+    let innermost = frames[waiting];
+    let (mut keyed, mut behind) = (innermost.keyed != 0, innermost.behind);
+    let mut left = innermost.pods;
     loop {
-        let Waiting {
-            keyed,
-            behind,
-            pods,
-        } = innermost;
-        let (left, more) = behind_first(canonical, keyed != 0, pods);
+        let (next, more) = behind_first(canonical, keyed, left);
         surplus += more;
-        if left.is_empty() {
+        if next.is_empty() {
             if waiting == 0 {
                 return Found::Fits(surplus);
             }
             waiting -= 1;
-            innermost = frames[waiting];
+            let outer = frames[waiting];
+            keyed = outer.keyed != 0;
+            left = outer.pods;
+            behind = outer.behind;
             continue;
         }
-        let (inner, rest, after) = match meet(keyed != 0, left) {
-            Met::Inner(inner, rest, after) => (inner, rest, after),
-            Met::None(place) => return Found::Stops(place, behind as usize),
-        };
-        if !rest.is_empty() {
-            if waiting == frames.len() {
-                let list = Waiting { pods: left, ..innermost };
-                return Found::Full(list, surplus);
+        match meet(keyed, next) {
+            Met::Inner(inner, rest, after) => {
+                if rest.is_empty() {
+                    keyed = inner.keyed;
+                    left = inner.pods;
+                    behind += after as u32;
+                    continue;
+                }
+                if waiting + 1 == frames.len() {
+                    frames[waiting] = list(keyed, behind, next);
+                    return Found::Full(surplus);
+                }
+                frames[waiting] = list(keyed, behind, rest);
+                waiting += 1;
+                keyed = inner.keyed;
+                left = inner.pods;
+                behind += after as u32;
             }
-            frames[waiting] = Waiting { pods: rest, ..innermost };
-            waiting += 1;
+            Met::None(place) => return Found::Stops(place, behind as usize),
         }
-        innermost = Waiting {
-            keyed: inner.keyed as u32,
-            behind: behind + after as u32,
-            pods: inner.pods,
-        };
     }
 }
 
@@ -272,13 +265,10 @@ fn behind_short(canonical: bool, keyed: bool, pods: &[u8]) -> &[u8] {
     left
 }
 
-/// The length in bytes of a key, flags and a pod whose body is one or two words.
-const KEYED_LEN: usize = 24;
-
 /// What follows the first pod, where its body is one or two words.
 #[cfg_attr(not(debug_assertions), inline(always))]
 fn behind_short_one(canonical: bool, keyed: bool, pods: &[u8]) -> Option<&[u8]> {
-    if keyed && pods.len() < KEYED_LEN {
+    if keyed && pods.len() < 3 * HEADER_LEN {
         return None;
     }
     let here = behind_key(keyed, pods)?;

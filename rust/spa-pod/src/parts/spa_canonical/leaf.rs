@@ -2,16 +2,13 @@
 //! Pods that hold no others, at the front of an input.
 
 use crate::shims::prelude::*;
-use crate::parts::spa_canonical::body::leaf_body;
+use crate::parts::spa_canonical::body::{WORD_LEN, leaf_body};
 use crate::parts::spa_canonical::front::{ONE_WORD, TWO_WORDS, fixed_len, has_zeros, is_word_type};
 use crate::parts::spa_canonical::patch::SECOND_HEADER;
 use crate::parts::spa_canonical::text::is_padded_text;
 use crate::parts::spa_bytes::{HEADER_LEN, SECOND_WORD, open, u32_at};
 use crate::parts::spa_fixed_sized::Refusal;
 use crate::parts::spa_utils::SpaTypes;
-
-/// Where the second word of a body stands in its pod, or the padding behind a body of one word.
-const SECOND_OF_BODY: usize = 12;
 
 /// What follows the pod at the front, where its body is one or two words and of a kind of fixed size, and it is canonical, where that is asked.
 #[cfg_attr(not(debug_assertions), inline(always))]
@@ -38,7 +35,7 @@ fn is_short(canonical: bool, input: &[u8]) -> bool {
         }
         return fixed_len(type_) == TWO_WORDS && size == TWO_WORDS;
     }
-    if canonical && u32_at(input, SECOND_OF_BODY) != 0 {
+    if canonical && u32_at(input, HEADER_LEN + WORD_LEN) != 0 {
         return false;
     }
     if is_word_type(type_) {

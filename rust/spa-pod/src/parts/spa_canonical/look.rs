@@ -145,7 +145,11 @@ fn accept_front<'a>(
 
 /// Looks at the pod at the front: whether it is canonical, where that is asked, and else whether it is accepted.
 #[cfg_attr(not(debug_assertions), inline(always))]
-fn look_at_front<'a>(canonical: bool, input: &'a [u8], frames: &mut [Waiting<'a>; FEW]) -> FrontLook<'a> {
+fn look_at_front<'a>(
+    canonical: bool,
+    input: &'a [u8],
+    frames: &mut [Waiting<'a>; FEW],
+) -> FrontLook<'a> {
     let Some(front) = open(input) else {
         return FrontLook::Stops(input, 0);
     };
@@ -161,7 +165,7 @@ fn look_at_front<'a>(canonical: bool, input: &'a [u8], frames: &mut [Waiting<'a>
             let at = HEADER_LEN + front.body.len() - (place.len() + behind);
             FrontLook::Stops(place, at)
         }
-        Found::Full(_, _) => FrontLook::TooDeep,
+        Found::Full(_) => FrontLook::TooDeep,
     }
 }
 
@@ -170,14 +174,16 @@ pub(crate) fn accept_pod(input: &[u8]) -> Result<(&[u8], usize), Rejected<'_>> {
     accept_front(input, &mut [none_waiting(input); FEW])
 }
 
-/// Does what `accept_pod` does for a pod that nests too deep for that, with this array for what is left of the structs and objects around a pod.
-/// `TooDeep`: there is no room for one more.
+/// Does what `accept_pod` does for a pod that nests too deep for that, with this array. `TooDeep`: it has no room for one more list that waits.
 #[cold]
 #[inline(never)]
 pub(crate) fn accept_within<'a>(
     input: &'a [u8],
     frames: &mut [Waiting<'a>],
 ) -> Result<(&'a [u8], usize), Rejected<'a>> {
+    if frames.is_empty() {
+        return Err(Rejected::TooDeep);
+    }
     let Some(front) = open(input) else {
         unreachable!();
     };
@@ -190,6 +196,6 @@ pub(crate) fn accept_within<'a>(
             let at = HEADER_LEN + front.body.len() - (place.len() + behind);
             Err(Rejected::Fault(place, at, fault(place)))
         }
-        Found::Full(_, _) => Err(Rejected::TooDeep),
+        Found::Full(_) => Err(Rejected::TooDeep),
     }
 }

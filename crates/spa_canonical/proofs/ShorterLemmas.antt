@@ -79,11 +79,6 @@ shorter_room input rest n c =
     let d = ap length p ∙ length-append (front_of input) rest in
     omega arith
 
--- no more bytes go than are there
-pub shorter_within : (keyed : Bool) (pods : List ℕ) (n : ℕ) → AreShorterInside keyed pods n → n ≤ length pods
-shorter_within true pods n s = omega (arith, s.2)
-shorter_within false pods n s = omega (arith, s.long)
-
 -- one pod
 pub front_shorter : (input rest : List ℕ) (n : ℕ) → BeginsShorter input rest n → AreShorter (front_of input) n
 front_shorter input rest n c =

@@ -118,7 +118,7 @@ pub record OpensInside (keyed : Bool) (left : List ℕ) (inner : Bool) (inside r
   pub opens : Opens here type body rest
   pub its_inside : IsInside type body inner inside
 
--- No pod begins at this place, which so many bytes of the pods follow, and not for what is inside of one: a fault of its front stands in them.
+-- No pod begins at this place, which so many bytes of the pods follow, for a fault of its front, which stands in them.
 pub record StopsAt (keyed : Bool) (pods place : List ℕ) (behind : ℕ) : Type 0 where
   pub refused : IsRefused place
   pub alone : OpensHeaderAlone place
@@ -143,7 +143,7 @@ IsFound canonical waiting keyed pods (found.Fits surplus) = Fits canonical keyed
 IsFound canonical waiting keyed pods (found.Stops place behind) = Stops canonical keyed pods place.now behind
 IsFound canonical waiting keyed pods (found.Full surplus) = NestsDeeperInside waiting keyed pods
 
--- What is found of what is left of a list holds of all pods: once it fits, and its encodings are shorter by so much, `Then` follows. Around it so many wait.
+-- What is found in what is left of a list holds of all pods. Once that fits, `Then` holds of how much shorter encodings are; so many lists wait around it.
 pub record Awaits (canonical all : Bool) (pods : List ℕ) (Then : ℕ → Type 0) (waiting : ℕ) (keyed : Bool) (left : List ℕ) (behind surplus : ℕ) : Type 0 where
   pub bytes : IsBytes left
   pub ends : (m : ℕ) → Fits canonical keyed left m → Then (surplus + m)
@@ -157,7 +157,7 @@ pub record Awaits (canonical all : Bool) (pods : List ℕ) (Then : ℕ → Type 
 abbrev pub Passes : (keyed canonical : Bool) → (pods left : List ℕ) → (surplus : ℕ) → Type 0
 Passes keyed canonical pods left = Awaits canonical keyed pods (Fits canonical keyed pods) 0 keyed left 0
 
--- What is found of what is left of the first of these lists holds of all pods: the others wait around it, the innermost first.
+-- What is found in what is left of the first of these lists holds of all pods. The others wait around it, the innermost first.
 abbrev pub Onward : (canonical all : Bool) → (pods : List ℕ) → List Waiting → ℕ → Type 0
 Onward canonical all pods [] = Fits canonical all pods
 Onward canonical all pods (next ∷ outer) =

@@ -111,7 +111,7 @@ fn look_behind<'a>(
     found
 }
 
-/// Goes on where the first array is full, with one for 64 lists around one, whose bytes are all written first, and behind it with the long one.
+/// Goes on where the first array is full, with the next one, which begins with its lists, and where that is full, too, with the long one.
 #[cold]
 #[inline(never)]
 fn look_further<'a>(canonical: bool, surplus: usize, frames: &[Waiting<'a>; FEW]) -> Found<'a>
@@ -127,7 +127,7 @@ fn look_further<'a>(canonical: bool, surplus: usize, frames: &[Waiting<'a>; FEW]
     found
 }
 
-/// Goes on with the long array.
+/// Goes on where the next array is full, with the long one.
 #[inline(never)]
 fn look_furthest<'a>(canonical: bool, surplus: usize, frames: &[Waiting<'a>; SOME]) -> Found<'a>
     requires { (all : Bool) × (b : List ℕ) × (length b < size_limit) × Onward canonical all b (reverse frames.now) surplus }
@@ -152,8 +152,8 @@ pub(crate) fn accept_inside<'a>(
     look_inside(false, 0, 0, frames)
 }
 
-/// Looks inside a struct or an object: whether all pods are canonical, where that is asked, and else whether all are accepted. The array begins with
-/// what is left of so many lists, each in the one before it, and of the innermost one; behind each inner struct or object one more waits.
+/// Looks whether all pods of the innermost list, and then of those around it, are canonical, where that is asked, and else accepted. `frames` begins
+/// with what is left of `around` lists, each around the next one, and of the innermost; encodings before that are `counted` bytes shorter.
 #[inline(never)]
 fn look_inside<'a>(
     canonical: bool,

@@ -54,12 +54,10 @@ emits_none pods y = record {
   links = (refl, refl);
 }
 
-abbrev IsRun : Bool → List ℕ → List ℕ → Run → Type 0
-IsRun keyed old new run = EncodesFirst keyed old new run.kept run.ended × IsAfter keyed (drop run.ended old) run.ended run.after
-
 -- some of the list are replaced, and their encodings moved down
 pub ran : (pods now sub new : List ℕ) (from to : ℕ) (list : OpenList) (run : Run) → Emits pods now from to list →
-    IsRun list.keyed (take (list.end - from) (drop from now)) sub run →
+    EncodesFirst list.keyed (take (list.end - from) (drop from now)) sub run.kept run.ended
+    × IsAfter list.keyed (drop run.ended (take (list.end - from) (drop from now))) run.ended run.after →
     new ≡ take to (put_mid from (list.end - from) now sub)
     ++ (take run.kept (drop from (put_mid from (list.end - from) now sub)) ++ drop (to + run.kept) (put_mid from (list.end - from) now sub)) →
     Emits pods new (from + run.ended) (to + run.kept) list × IsAfter list.keyed (take (list.end - (from + run.ended)) (drop (from + run.ended) pods)) run.ended run.after

@@ -286,13 +286,6 @@ goes_inside canonical all keyed inner pods left inside rest Then waiting more be
     }
 
 -- what follows it waits
-pub goes_in : (canonical all keyed inner : Bool) (pods left inside rest : List ℕ) (Then : ℕ → Type 0) (waiting behind after surplus : ℕ) →
-    Awaits canonical all pods Then waiting keyed left behind surplus → OpensInside keyed left inner inside rest → Surround keyed left inner inside after →
-    Awaits canonical all pods (Awaits canonical all pods Then waiting keyed rest behind) (suc waiting) inner inside (behind + after) surplus
-goes_in canonical all keyed inner pods left inside rest Then waiting behind after surplus w x long =
-    goes_inside canonical all keyed inner pods left inside rest Then waiting (suc waiting) behind after surplus w x long (λ n d.
-    subst (λ m. NestsDeeperInside m all pods) (omega arith) (w.deep (suc n) (deep_inside n keyed inner left inside rest x d)))
-
 pub list_waits : (canonical all keyed inner : Bool) (pods left inside : List ℕ) (rest : Bor (List ℕ)) (next : Waiting) (outer : List Waiting)
     (behind after surplus : ℕ) → next ≡ list_of keyed behind rest → AwaitsAll canonical all pods outer keyed left behind surplus →
     OpensInside keyed left inner inside rest.now → Surround keyed left inner inside after →
@@ -300,7 +293,9 @@ pub list_waits : (canonical all keyed inner : Bool) (pods left inside : List ℕ
 list_waits canonical all keyed inner pods left inside rest next outer behind after surplus e w x long =
     subst (λ l. AwaitsAll canonical all pods (l ∷ outer) inner inside (behind + after) surplus) (sym e)
     (subst (λ k. Awaits canonical all pods (AwaitsAll canonical all pods outer k rest.now behind) (suc (length outer)) inner inside (behind + after) surplus)
-    (word_kept keyed) (goes_in canonical all keyed inner pods left inside rest.now (Onward canonical all pods outer) (length outer) behind after surplus w x long))
+    (word_kept keyed)
+    (goes_inside canonical all keyed inner pods left inside rest.now (Onward canonical all pods outer) (length outer) (suc (length outer)) behind after surplus w x
+    long (λ n d. subst (λ m. NestsDeeperInside m all pods) (omega arith) (w.deep (suc n) (deep_inside n keyed inner left inside rest.now x d)))))
 
 -- there is no room for one more
 pub no_room : (canonical all keyed inner : Bool) (pods left inside rest : List ℕ) (frames : List Waiting) (waiting behind surplus room : ℕ) →
@@ -364,9 +359,17 @@ first_list canonical keyed pods left frames here surplus l e w =
     subst (λ lists. Onward canonical keyed pods lists surplus) (sym (pushed frames (set frames 0 here) 0 1 here refl refl l))
     (in_list canonical keyed keyed pods left here [] 0 surplus e w)
 
--- lists that were copied to the front of a longer array
-pub copied : {A : Type 0} (frames new rest : List A) (n : ℕ) → length frames ≡ n → new ≡ frames → take n (new ++ rest) ≡ frames
-copied frames new rest n l e = take_at new rest n (ap length e ∙ l) ∙ e
+-- what is inside of a pod as such a list
+pub inside_listed : (input body rest : List ℕ) (type : ℕ) (keyed : Bool) (inside : Bor (List ℕ)) (frames : List Waiting) (here : Waiting) → IsBytes input →
+    Opens input type body rest → IsInside type body keyed inside.now → length frames ≢ 0 → here ≡ list_of keyed 0 inside →
+    Onward false keyed inside.now (reverse (take 1 (set frames 0 here))) 0
+inside_listed input body rest type keyed inside frames here h o i n e =
+    let bytes = inside_bytes type body inside.now keyed (body_bytes input body rest type h o) i in
+    first_list false keyed inside.now inside frames here 0 (omega (arith, n)) e (passes_none keyed false inside.now bytes)
+
+-- lists that were put at the front of a longer array
+pub copied : {A : Type 0} (frames new rest : List A) (n : ℕ) → length frames ≡ n → new ≡ frames ++ rest → take n new ≡ frames
+copied frames new rest n l e = ap (take n) e ∙ take_at frames rest n l
 
 -- what is found holds with any array that isn't full
 pub found_with : (canonical keyed : Bool) (pods : List ℕ) (few many : ℕ) (found : Found) → ((n : ℕ) → found ≢ result.Full n) →

@@ -21,7 +21,6 @@ use Rattle.spa_format.proofs.WordLemmas.{IsBytes-drop, IsBytes-take, wide_at-dro
 use Rattle.spa_canonical.proofs.Words.{wide_back, word_back, zeros_behind}
 use Rattle.spa_canonical.specs.Canonical.{AreCanonicalElements, bytes_taken}
 use Rattle.spa_canonical.proofs.Parts.{no_elements, whole_elements}
-use Rattle.spa_canonical.proofs.Truths.{AreTruths}
 use Rattle.spa_canonical.specs.Emit.{Encodes, HoldsWhole, IsPlaced, IsPodOf, TurnsWritten}
 use Rattle.spa_canonical.proofs.Bodies.{enough_bytes, taken_elements}
 use Rattle.spa_canonical.proofs.Patches.{front_bytes, pod_again, says_body, two_words_of}
@@ -31,7 +30,7 @@ use Rattle.spa_canonical.proofs.Lengths.{lengths}
 
 -- elements
 pub truths_written : (old cleared sub new : List ℕ) (number n : ℕ) → number ≡ 2 → n ≤ length old → cleared ≡ take n old ++ replicate (length old - n) 0 →
-    AreTruths (take n cleared) sub → length sub ≡ length (take n cleared) → new ≡ sub ++ drop n cleared → TurnsWritten number n old new
+    (values : List Fixed) × AreElements bool_kind values (take n cleared) × (sub ≡ fixed_bodies values) → length sub ≡ length (take n cleared) → new ≡ sub ++ drop n cleared → TurnsWritten number n old new
 truths_written old cleared sub new number n z b c t l e =
     let zeros : List ℕ = replicate (length old - n) 0 in
     let many = length-take-le n old b in

@@ -45,10 +45,8 @@ one_turned old now piece word x at k n h w l e four c p m long same =
       long = same ∙ h.long;
     }
 
-abbrev pub AreTruths : (words written : List ℕ) → Type 0
-AreTruths words written = (values : List Fixed) × AreElements bool_kind values words × (written ≡ fixed_bodies values)
-
-pub all_turned : (old now : List ℕ) (at : ℕ) → AreTurned old now at → length now ≤ at → AreTruths old now
+pub all_turned : (old now : List ℕ) (at : ℕ) → AreTurned old now at → length now ≤ at →
+    (values : List Fixed) × AreElements bool_kind values old × (now ≡ fixed_bodies values)
 all_turned old now at h l = (
   h.values,
   subst (AreElements bool_kind h.values) (take_all at old (omega arith)) h.its_values,

@@ -1,5 +1,5 @@
 //! Looks at the pods inside a struct or an object. What is left of the structs and objects around a pod waits in an array, or in memory.
-ghost use Rattle.std.specs.Prelude.{◌≡◌, ◌+◌, ◌-◌, ◌<◌, ◌≤◌, IfNone, IfSome, Bool, List, cond, false, length, reverse, take, true, ℕ};
+ghost use Rattle.std.specs.Prelude.{◌≡◌, ◌+◌, ◌-◌, ◌<◌, ◌≤◌, ◌++◌, IfNone, IfSome, Bool, List, cond, drop, false, length, reverse, take, true, ℕ};
 ghost use Rattle.spa_format.specs.Words.{size_limit};
 ghost use Rattle.spa_canonical.specs.Canonical.{AreCanonicalProperties};
 ghost use Rattle.spa_canonical.specs.Look.{IsFound, IsMet, Onward, Passes, StopsBefore};
@@ -58,7 +58,7 @@ pub fn none_waiting(pods: &[u8]) -> Waiting<'_> {
 
 /// What is left of a list.
 #[inline(always)]
-fn list(keyed: bool, behind: u32, pods: &[u8]) -> Waiting<'_>
+pub(crate) fn list(keyed: bool, behind: u32, pods: &[u8]) -> Waiting<'_>
     ensures { result ≡ record { keyed = cond keyed 1 0; behind = behind; pods = pods.entry } }
 {
     Waiting {
@@ -118,8 +118,8 @@ fn look_further<'a>(canonical: bool, surplus: usize, frames: &[Waiting<'a>; FEW]
     requires { (all : Bool) × (b : List ℕ) × (length b < size_limit) × Onward canonical all b (reverse frames.now) surplus }
     ensures { (all : Bool) (b : List ℕ) → Onward canonical all b (reverse frames.now) surplus → IsFound canonical levels_looked_into all b result }
 {
-    let some = &mut [frames[0]; SOME];
-    some[..FEW].copy_from_slice(frames);
+    let some = &mut [none_waiting(frames[0].pods); SOME];
+    take_over(frames, some);
     let found = look_inside(canonical, surplus, FEW - 1, some);
     if let Found::Full(more) = found {
         return look_furthest(canonical, more, some);
@@ -133,29 +133,24 @@ fn look_furthest<'a>(canonical: bool, surplus: usize, frames: &[Waiting<'a>; SOM
     requires { (all : Bool) × (b : List ℕ) × (length b < size_limit) × Onward canonical all b (reverse frames.now) surplus }
     ensures { (all : Bool) (b : List ℕ) → Onward canonical all b (reverse frames.now) surplus → IsFound canonical levels_looked_into all b result }
 {
-    let many = &mut [frames[0]; LEVELS as usize + 1];
-    many[..SOME].copy_from_slice(frames);
+    let many = &mut [none_waiting(frames[0].pods); LEVELS as usize + 1];
+    take_over(frames, many);
     look_inside(canonical, surplus, SOME - 1, many)
 }
 
-/// Looks inside a struct or an object whether all pods are accepted, with no other array.
-pub(crate) fn accept_inside<'a>(
-    keyed: bool,
-    pods: &'a [u8],
-    frames: &mut [Waiting<'a>],
-) -> Found<'a>
-    requires short { length pods.now < size_limit }
-    requires some { 0 < length frames.old }
-    ensures { IsFound false (length frames.old - 1) keyed pods.now result }
+/// Puts lists at the front of an array, by a call, since LLVM would write out each copy.
+#[inline(never)]
+fn take_over<'a>(lists: &[Waiting<'a>], frames: &mut [Waiting<'a>])
+    requires { length lists.now ≤ length frames.old }
+    ensures { frames.new ≡ lists.now ++ drop (length lists.now) frames.old }
 {
-    frames[0] = list(keyed, 0, pods);
-    look_inside(false, 0, 0, frames)
+    frames[..lists.len()].copy_from_slice(lists);
 }
 
 /// Looks whether all pods of the innermost list, and then of those around it, are canonical, where that is asked, and else accepted. `frames` begins
 /// with what is left of `around` lists, each around the next one, and of the innermost; encodings before that are `counted` bytes shorter.
 #[inline(never)]
-fn look_inside<'a>(
+pub(crate) fn look_inside<'a>(
     canonical: bool,
     counted: usize,
     around: usize,

@@ -10,7 +10,7 @@ ghost use Rattle.spa_canonical.specs.Rewriting.{ArePodsWithin, BeginsShorter, Is
 ghost use Rattle.spa_canonical.specs.Canonical.{AreCanonical, BeginsCanonical, IsStretch};
 ghost use Rattle.spa_canonical.specs.Depth.{AreShallow, NestsDeeper, depth_of, levels_looked_into};
 
-use crate::inside::{FEW, Found, Waiting, accept_inside, look_into, none_waiting};
+use crate::inside::{FEW, Found, Waiting, list, look_inside, look_into, none_waiting};
 use crate::leaf::{fault, leaf};
 use spa_bytes::{HEADER_LEN, open};
 use spa_events::inside_of;
@@ -241,7 +241,8 @@ pub fn accept_within<'a>(
     let Some(inside) = inside_of(front.type_, front.body) else {
         unreachable!();
     };
-    match accept_inside(inside.keyed, inside.pods, frames) {
+    frames[0] = list(inside.keyed, 0, inside.pods);
+    match look_inside(false, 0, 0, frames) {
         Found::Fits(surplus) => Ok((front.rest, surplus)),
         Found::Stops(place, behind) => {
             let at = HEADER_LEN + front.body.len() - (place.len() + behind);

@@ -54,7 +54,7 @@ pub(crate) fn none_waiting(pods: &[u8]) -> Waiting<'_> {
 
 /// What is left of a list.
 #[cfg_attr(not(debug_assertions), inline(always))]
-fn list(keyed: bool, behind: u32, pods: &[u8]) -> Waiting<'_> {
+pub(crate) fn list(keyed: bool, behind: u32, pods: &[u8]) -> Waiting<'_> {
     Waiting {
         keyed: keyed as u32,
         behind,
@@ -101,8 +101,8 @@ fn look_behind<'a>(
 #[cold]
 #[inline(never)]
 fn look_further<'a>(canonical: bool, surplus: usize, frames: &[Waiting<'a>; FEW]) -> Found<'a> {
-    let some = &mut [frames[0]; SOME];
-    some[..FEW].copy_from_slice(frames);
+    let some = &mut [none_waiting(frames[0].pods); SOME];
+    take_over(frames, some);
     let found = look_inside(canonical, surplus, FEW - 1, some);
     if let Found::Full(more) = found {
         return look_furthest(canonical, more, some);
@@ -113,25 +113,21 @@ fn look_further<'a>(canonical: bool, surplus: usize, frames: &[Waiting<'a>; FEW]
 /// Goes on where the next array is full, with the long one.
 #[inline(never)]
 fn look_furthest<'a>(canonical: bool, surplus: usize, frames: &[Waiting<'a>; SOME]) -> Found<'a> {
-    let many = &mut [frames[0]; LEVELS as usize + 1];
-    many[..SOME].copy_from_slice(frames);
+    let many = &mut [none_waiting(frames[0].pods); LEVELS as usize + 1];
+    take_over(frames, many);
     look_inside(canonical, surplus, SOME - 1, many)
 }
 
-/// Looks inside a struct or an object whether all pods are accepted, with no other array.
-pub(crate) fn accept_inside<'a>(
-    keyed: bool,
-    pods: &'a [u8],
-    frames: &mut [Waiting<'a>],
-) -> Found<'a> {
-    frames[0] = list(keyed, 0, pods);
-    look_inside(false, 0, 0, frames)
+/// Puts lists at the front of an array, by a call, since LLVM would write out each copy.
+#[inline(never)]
+fn take_over<'a>(lists: &[Waiting<'a>], frames: &mut [Waiting<'a>]) {
+    frames[..lists.len()].copy_from_slice(lists);
 }
 
 /// Looks whether all pods of the innermost list, and then of those around it, are canonical, where that is asked, and else accepted. `frames` begins
 /// with what is left of `around` lists, each around the next one, and of the innermost; encodings before that are `counted` bytes shorter.
 #[inline(never)]
-fn look_inside<'a>(
+pub(crate) fn look_inside<'a>(
     canonical: bool,
     counted: usize,
     around: usize,

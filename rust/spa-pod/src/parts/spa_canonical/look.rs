@@ -2,7 +2,7 @@
 //! Looks at pods: whether they are accepted, whether they are canonical, and how long their encodings are. They write nothing and take no memory, and
 //! their stack doesn't grow with the nesting depth.
 
-use crate::parts::spa_canonical::inside::{FEW, Found, Waiting, accept_inside, look_into, none_waiting};
+use crate::parts::spa_canonical::inside::{FEW, Found, Waiting, list, look_inside, look_into, none_waiting};
 use crate::parts::spa_canonical::leaf::{fault, leaf};
 use crate::parts::spa_bytes::{HEADER_LEN, open};
 use crate::parts::spa_events::inside_of;
@@ -190,7 +190,8 @@ pub(crate) fn accept_within<'a>(
     let Some(inside) = inside_of(front.type_, front.body) else {
         unreachable!();
     };
-    match accept_inside(inside.keyed, inside.pods, frames) {
+    frames[0] = list(inside.keyed, 0, inside.pods);
+    match look_inside(false, 0, 0, frames) {
         Found::Fits(surplus) => Ok((front.rest, surplus)),
         Found::Stops(place, behind) => {
             let at = HEADER_LEN + front.body.len() - (place.len() + behind);

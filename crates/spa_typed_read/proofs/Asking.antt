@@ -62,11 +62,7 @@ named_refuses a b error.InvalidChoiceType n = stands_refuses a InvalidChoiceType
 named_refuses a b error.MissingChoiceValues n = stands_refuses a MissingChoiceValues b n
 named_refuses a b error.WrongSize n = stands_refuses a WrongSize b n
 named_refuses a b error.OutOfMemory n = tt
-named_refuses a b error.PropertyMissing n = absurd n
-named_refuses a b (error.PropertyWrongKey k) n = absurd n
-named_refuses a b error.UnreadMembers n = absurd n
-named_refuses a b error.NoElementLeft n = absurd n
-named_refuses a b error.FailedReader n = absurd n
+named_refuses a b _ n = absurd n
 
 bytes_short : (a : Asked) (b : List ℕ) (k : FaultKind) → NamesBytes a b k → ¬ (HasFront b) → k ≡ fault_kind.Short
 bytes_short a b fault_kind.Short s n = refl
@@ -87,11 +83,7 @@ named_short a m b error.InvalidChoiceType n w s = absurd (s n.1.0)
 named_short a m b error.MissingChoiceValues n w s = absurd (s n.1.0)
 named_short a m b error.WrongSize n w s = absurd (s n.1.0)
 named_short a m b error.OutOfMemory n w s = absurd (s w.1)
-named_short a m b error.PropertyMissing n w s = absurd n
-named_short a m b (error.PropertyWrongKey k) n w s = absurd n
-named_short a m b error.UnreadMembers n w s = absurd n
-named_short a m b error.NoElementLeft n w s = absurd n
-named_short a m b error.FailedReader n w s = absurd n
+named_short a m b _ n w s = absurd n
 
 -- where the refusal names a fault that stands, or is for lack of memory
 pub asked_refused : (a : Asked) (m : Type 0) (b : List ℕ) (e : DeserializeError (Bor (List ℕ))) → NamesAsked a b e →
@@ -117,17 +109,7 @@ lacks_bytes a b fault_kind.Text l = absurd l
 pub front_refused : (a : Asked) (m : Type 0) (b : List ℕ) (e : DeserializeError (Bor (List ℕ))) →
     LacksFront (asked_type a) b e → RefusesAsked a m b e
 front_refused a m b (error.Nom f) l = asked_refused a m b (error.Nom f) (l.0, lacks_bytes a b f.kind l.1) tt
-front_refused a m b error.UnsupportedType l = absurd l
-front_refused a m b error.InvalidType l = absurd l
-front_refused a m b error.InvalidChoiceType l = absurd l
-front_refused a m b error.MissingChoiceValues l = absurd l
-front_refused a m b error.WrongSize l = absurd l
-front_refused a m b error.OutOfMemory l = absurd l
-front_refused a m b error.PropertyMissing l = absurd l
-front_refused a m b (error.PropertyWrongKey k) l = absurd l
-front_refused a m b error.UnreadMembers l = absurd l
-front_refused a m b error.NoElementLeft l = absurd l
-front_refused a m b error.FailedReader l = absurd l
+front_refused a m b _ l = absurd l
 
 stands_asked : (a : Asked) (k : Fault) (b body rest : List ℕ) → Opens b (asked_type a) body rest →
     StandsInBody (asked_type a) body k → StandsAsked a k b

@@ -22,41 +22,16 @@ names_to P Q error.InvalidChoiceType to h = (h.0, to InvalidChoiceType h.0 h.1)
 names_to P Q error.MissingChoiceValues to h = (h.0, to MissingChoiceValues h.0 h.1)
 names_to P Q error.WrongSize to h = (h.0, to WrongSize h.0 h.1)
 names_to P Q error.OutOfMemory to h = tt
-names_to P Q error.UnsupportedType to h = absurd h
-names_to P Q error.PropertyMissing to h = absurd h
-names_to P Q (error.PropertyWrongKey k) to h = absurd h
-names_to P Q error.UnreadMembers to h = absurd h
-names_to P Q error.NoElementLeft to h = absurd h
-names_to P Q error.FailedReader to h = absurd h
+names_to P Q _ to h = absurd h
 
 -- what is short is named so
 pub short_named : (P : Fault → List ℕ → Type 0) (place : List ℕ) (e : DeserializeError (Bor (List ℕ))) → IsShortAt place e →
     P Short place → Names P e
 short_named P place (error.Nom f) s h =
     subst (NamesFaultKind (λ k. P k f.input.now)) (sym s.0) (subst (P Short) (sym s.1) h)
-short_named P place error.UnsupportedType s h = absurd s
-short_named P place error.InvalidType s h = absurd s
-short_named P place error.PropertyMissing s h = absurd s
-short_named P place (error.PropertyWrongKey k) s h = absurd s
-short_named P place error.InvalidChoiceType s h = absurd s
-short_named P place error.MissingChoiceValues s h = absurd s
-short_named P place error.WrongSize s h = absurd s
-short_named P place error.UnreadMembers s h = absurd s
-short_named P place error.NoElementLeft s h = absurd s
-short_named P place error.FailedReader s h = absurd s
-short_named P place error.OutOfMemory s h = absurd s
+short_named P place _ s h = absurd s
 
 -- what is short is no lack of memory
 pub short_no_memory : (A : Type 0) (place : List ℕ) (e : DeserializeError (Bor (List ℕ))) → IsShortAt place e → OnMemory A e
 short_no_memory A place (error.Nom f) s = tt
-short_no_memory A place error.UnsupportedType s = absurd s
-short_no_memory A place error.InvalidType s = absurd s
-short_no_memory A place error.PropertyMissing s = absurd s
-short_no_memory A place (error.PropertyWrongKey k) s = absurd s
-short_no_memory A place error.InvalidChoiceType s = absurd s
-short_no_memory A place error.MissingChoiceValues s = absurd s
-short_no_memory A place error.WrongSize s = absurd s
-short_no_memory A place error.UnreadMembers s = absurd s
-short_no_memory A place error.NoElementLeft s = absurd s
-short_no_memory A place error.FailedReader s = absurd s
-short_no_memory A place error.OutOfMemory s = absurd s
+short_no_memory A place _ s = absurd s

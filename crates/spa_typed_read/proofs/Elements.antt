@@ -18,15 +18,7 @@ use Rattle.spa_bodies.proofs.Steps.{pod_read}
 sized : {C X : Type 0} (k : Kind) (fixed : C → Fixed) (made_of : C → X) (a b : ArrayReader) (x : X) →
     HasElements (body_size k) a → TakesElement k fixed made_of a b x → 0 < body_size k
 sized none_kind fixed made_of a b x h t = absurd (omega (arith, h.units refl, t.counted))
-sized bool_kind fixed made_of a b x h t = omega arith
-sized id_kind fixed made_of a b x h t = omega arith
-sized int_kind fixed made_of a b x h t = omega arith
-sized long_kind fixed made_of a b x h t = omega arith
-sized float_kind fixed made_of a b x h t = omega arith
-sized double_kind fixed made_of a b x h t = omega arith
-sized rectangle_kind fixed made_of a b x h t = omega arith
-sized fraction_kind fixed made_of a b x h t = omega arith
-sized fd_kind fixed made_of a b x h t = omega arith
+sized _ fixed made_of a b x h t = omega arith
 
 -- and whole elements are left behind it
 fewer : {C X : Type 0} (k : Kind) (fixed : C → Fixed) (made_of : C → X) (a b : ArrayReader) (x : X) →

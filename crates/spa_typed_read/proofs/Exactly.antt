@@ -85,16 +85,7 @@ none_opened b error.WrongSize h = λ t i ps g.
     let long = body.0 in
     let short = h.2 in
     absurd (omega (arith, long, short))
-none_opened b error.UnsupportedType h = absurd h
-none_opened b error.InvalidType h = absurd h
-none_opened b error.PropertyMissing h = absurd h
-none_opened b (error.PropertyWrongKey k) h = absurd h
-none_opened b error.InvalidChoiceType h = absurd h
-none_opened b error.MissingChoiceValues h = absurd h
-none_opened b error.UnreadMembers h = absurd h
-none_opened b error.NoElementLeft h = absurd h
-none_opened b error.FailedReader h = absurd h
-none_opened b error.OutOfMemory h = absurd h
+none_opened b _ h = absurd h
 
 lacks_object : {X : Type 0} (type id : ℕ) (reads : Properties → X → Type 0) (b : List ℕ) (e : DeserializeError (Bor (List ℕ))) →
     LacksObject b e → OnFault (IsUnread (λ v (x : X). ReadsObject type id reads v x) b) e
@@ -121,30 +112,11 @@ bytes_short b fault_kind.Text s n = absurd s
 pub lacks_short : (b : List ℕ) (e : DeserializeError (Bor (List ℕ))) → LacksObject b e → ¬ (HasFront b) → IsShortAt b e
 lacks_short b (error.Nom f) h n = (bytes_short b f.kind h.1 n, h.0)
 lacks_short b error.WrongSize h n = absurd (n h.0)
-lacks_short b error.UnsupportedType h n = absurd h
-lacks_short b error.InvalidType h n = absurd h
-lacks_short b error.PropertyMissing h n = absurd h
-lacks_short b (error.PropertyWrongKey k) h n = absurd h
-lacks_short b error.InvalidChoiceType h n = absurd h
-lacks_short b error.MissingChoiceValues h n = absurd h
-lacks_short b error.UnreadMembers h n = absurd h
-lacks_short b error.NoElementLeft h n = absurd h
-lacks_short b error.FailedReader h n = absurd h
-lacks_short b error.OutOfMemory h n = absurd h
+lacks_short b _ h n = absurd h
 
 pub lacks_memory : (b : List ℕ) (e : DeserializeError (Bor (List ℕ))) → LacksObject b e → OnMemory (⊥ × HasFront b) e
-lacks_memory b (error.Nom f) h = tt
-lacks_memory b error.UnsupportedType h = tt
-lacks_memory b error.InvalidType h = tt
-lacks_memory b error.PropertyMissing h = tt
-lacks_memory b (error.PropertyWrongKey k) h = tt
-lacks_memory b error.InvalidChoiceType h = tt
-lacks_memory b error.MissingChoiceValues h = tt
-lacks_memory b error.WrongSize h = tt
-lacks_memory b error.UnreadMembers h = tt
-lacks_memory b error.NoElementLeft h = tt
-lacks_memory b error.FailedReader h = tt
 lacks_memory b error.OutOfMemory h = absurd h
+lacks_memory b _ h = tt
 
 -- the front is no object, or lacks its type or its id
 pub object_unopened : {X : Type 0} (type id : ℕ) (reads : Properties → X → Type 0) (b : List ℕ) (e : DeserializeError (Bor (List ℕ))) →

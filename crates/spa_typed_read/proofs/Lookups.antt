@@ -236,30 +236,33 @@ none_behind a b e f good some refuses =
     (λ n. none_further a b f good (none_refused b.reader.left some n)) (refuses long).refused)
     (cases_lt (length b.reader.left) header_size)
 
+-- nothing is read of properties that is not read where the first value under the key is not
+under_refused : {A Y : Type 0} (reads : Tree → A → Type 0) (refuses : List ℕ → DeserializeError (Bor (List ℕ)) → Type 0)
+    (takes : List ℕ → Type 0) (key : ℕ) (Reads : Properties → Y → Type 0) (b : List ℕ) (e : DeserializeError (Bor (List ℕ))) →
+    ((place : List ℕ) (f : DeserializeError (Bor (List ℕ))) → refuses place f → RefusesExactly reads (takes place) place f) →
+    ((place : List ℕ) (ps : Properties) (y : Y) → IsUnread reads place → HasFirst key (λ v. Begins place v) ps → ¬ (Reads ps y)) →
+    RefusesUnder refuses key b e → OnFault (NoneRead Reads b) e
+under_refused reads refuses takes key Reads b e law unread (short_key left l n s i) =
+    fault_there (NoneRead Reads b) e (λ ps y m r. cut_key key b left (leads_passes key left b l) n s ps m)
+under_refused reads refuses takes key Reads b e law unread (short_pod left l long s i) =
+    fault_there (NoneRead Reads b) e (λ ps y m r. cut_pod key b left (leads_passes key left b l) (some_long left long) s ps m)
+under_refused reads refuses takes key Reads b e law unread (under_key left l long k r) =
+    let place = drop header_size left in
+    fault_to (IsUnread reads place) (NoneRead Reads b) e
+    (λ n ps y m.
+    unread place ps y n
+    (found_first key b left (λ v. Begins place v) (leads_passes key left b l) (some_long left long) k (λ v g. g) ps m)) (law place e r).unread
+
 -- the value that has to be there, or may be, is refused
 pub required_refused : {A R X : Type 0} (reads : Tree → A → Type 0) (refuses : List ℕ → DeserializeError (Bor (List ℕ)) → Type 0)
     (takes : List ℕ → Type 0) (key : ℕ) (made : X → A) (others : Properties → R → Type 0) (b : List ℕ) (e : DeserializeError (Bor (List ℕ))) →
     ((place : List ℕ) (f : DeserializeError (Bor (List ℕ))) → refuses place f → RefusesExactly reads (takes place) place f) →
     RefusesUnder refuses key b e →
     OnFault (NoneRead (λ ps (x : X × R). HasFirst key (λ v. reads v (made x.0)) ps × others ps x.1) b) e
-required_refused {R = R} {X = X} reads refuses takes key made others b e law refusal = by_cause refusal
-  where
-    Reads : Properties → X × R → Type 0
-    Reads ps x = HasFirst key (λ v. reads v (made x.0)) ps × others ps x.1
-
-    by_cause : RefusesUnder refuses key b e → OnFault (NoneRead Reads b) e
-    by_cause (short_key left l n s i) =
-        fault_there (NoneRead Reads b) e (λ ps x m r. cut_key key b left (leads_passes key left b l) n s ps m)
-    by_cause (short_pod left l long s i) =
-        fault_there (NoneRead Reads b) e
-        (λ ps x m r. cut_pod key b left (leads_passes key left b l) (some_long left long) s ps m)
-    by_cause (under_key left l long k r) =
-        let place = drop header_size left in
-        fault_to (IsUnread reads place) (NoneRead Reads b) e
-        (λ n ps x m q.
-        no_first key (λ v. Begins place v) (λ v. reads v (made x.0)) ps
-        (found_first key b left (λ v. Begins place v) (leads_passes key left b l) (some_long left long) k (λ v g. g) ps m) q.0
-        (λ v g i. n v (made x.0) g i)) (law place e r).unread
+required_refused {R = R} {X = X} reads refuses takes key made others b e law =
+    under_refused reads refuses takes key (λ ps (x : X × R). HasFirst key (λ v. reads v (made x.0)) ps × others ps x.1) b e law
+    (λ place ps x n h q.
+    no_first key (λ v. Begins place v) (λ v. reads v (made x.0)) ps h q.0 (λ v g i. n v (made x.0) g i))
 
 pub optional_refused : {A R X : Type 0} (reads : Tree → A → Type 0) (refuses : List ℕ → DeserializeError (Bor (List ℕ)) → Type 0)
     (takes : List ℕ → Type 0) (key : ℕ) (made : X → Option A) (others : Properties → R → Type 0) (b : List ℕ) (e : DeserializeError (Bor (List ℕ))) →
@@ -269,29 +272,15 @@ pub optional_refused : {A R X : Type 0} (reads : Tree → A → Type 0) (refuses
     (NoneRead
     (λ ps (x : X × R). MatchOption (made x.0) (LacksProperty key ps) (λ a. HasFirst key (λ v. reads v a) ps) × others ps x.1)
     b) e
-optional_refused {A = A} {R = R} {X = X} reads refuses takes key made others b e law refusal = by_cause refusal
+optional_refused {A = A} {R = R} {X = X} reads refuses takes key made others b e law =
+    under_refused reads refuses takes key
+    (λ ps (x : X × R). MatchOption (made x.0) (LacksProperty key ps) (λ a. HasFirst key (λ v. reads v a) ps) × others ps x.1)
+    b e law (λ place ps x n h q. unread ps place (made x.0) n h q.0)
   where
-    Reads : Properties → X × R → Type 0
-    Reads ps x = MatchOption (made x.0) (LacksProperty key ps) (λ a. HasFirst key (λ v. reads v a) ps) × others ps x.1
-
     unread : (ps : Properties) (place : List ℕ) (o : Option A) → IsUnread reads place → HasFirst key (λ v. Begins place v) ps →
         ¬ (MatchOption o (LacksProperty key ps) (λ a. HasFirst key (λ v. reads v a) ps))
     unread ps place None n h q = no_none key (λ v. Begins place v) ps h q
     unread ps place (Some a) n h q = no_first key (λ v. Begins place v) (λ v. reads v a) ps h q (λ v g i. n v a g i)
-
-    by_cause : RefusesUnder refuses key b e → OnFault (NoneRead Reads b) e
-    by_cause (short_key left l n s i) =
-        fault_there (NoneRead Reads b) e (λ ps x m r. cut_key key b left (leads_passes key left b l) n s ps m)
-    by_cause (short_pod left l long s i) =
-        fault_there (NoneRead Reads b) e
-        (λ ps x m r. cut_pod key b left (leads_passes key left b l) (some_long left long) s ps m)
-    by_cause (under_key left l long k r) =
-        let place = drop header_size left in
-        fault_to (IsUnread reads place) (NoneRead Reads b) e
-        (λ n ps x m q.
-        unread ps place (made x.0) n
-        (found_first key b left (λ v. Begins place v) (leads_passes key left b l) (some_long left long) k (λ v g. g) ps m) q.0)
-        (law place e r).unread
 
 -- memory runs out only as for its type
 pub under_memory : {A : Type 0} (reads : Tree → A → Type 0) (refuses : List ℕ → DeserializeError (Bor (List ℕ)) → Type 0)

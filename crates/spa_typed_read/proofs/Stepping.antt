@@ -38,21 +38,6 @@ further_same r = record {
   ahead = λ good. record { members = no_trees; seen = []; good = good; left = refl; are = refl; after = refl };
 }
 
-pub further_field : (a b : Reader) (P : Tree → Type 0) → TakesField a b P → Further a b
-further_field a b P f =
-    let front = front_of a.left in
-    let whole = parted a.left f.field.value b.left (begun_with a.left b.left P f.field) in
-    record {
-      ahead = λ good. record {
-        members = member f.field.value no_trees;
-        seen = front;
-        good = f.was_good;
-        left = whole;
-        are = (front, [], sym (append-nil front), f.field.begins.pod, refl);
-        after = f.after;
-      };
-    }
-
 pub further_trans : (a b c : Reader) → Further a b → Further b c → Further a c
 further_trans a b c f g = record {
   ahead = λ good.
@@ -177,6 +162,18 @@ took_field a b c vs v t f = record {
       };
 }
 
+pub further_field : (a b : Reader) (P : Tree → Type 0) → TakesField a b P → Further a b
+further_field a b P f =
+    let v = f.field in
+    took_further a b _
+    (took_field a a b no_trees v.value (took_none a)
+    (record {
+      was_good = f.was_good;
+      good = f.good;
+      field = record { value = v.value; begins = v.begins; follows = v.follows; holds = refl };
+      after = f.after;
+    }))
+
 -- Properties of an object.
 
 pub same_object : (r : ObjectReader) → IsOfObject r r
@@ -190,24 +187,6 @@ further_in_same r = record {
   ahead = λ good. record { properties = no_properties; seen = []; good = good; left = refl; are = refl; after = refl; object = same_object r };
   object = same_object r;
 }
-
-pub further_property : (a b : ObjectReader) (key flags : ℕ) (P : Tree → Type 0) → TakesProperty a b key flags P → FurtherIn a b
-further_property a b key flags P t =
-    let behind = drop header_size a.reader.left in
-    let h : HasKey a.reader.left behind key flags = record { long = t.header; is_behind = refl; key = t.its_key; flags = t.its_flags } in
-    let one = first_property a.reader.left behind b.reader.left key flags t.value.value h (begun_with behind b.reader.left P t.value) in
-    record {
-      ahead = λ good. record {
-        properties = property key flags t.value.value no_properties;
-        seen = one.here;
-        good = t.was_good;
-        left = one.parts;
-        are = one.its_bytes;
-        after = t.after;
-        object = t.object;
-      };
-      object = t.object;
-    }
 
 pub further_in_trans : (a b c : ObjectReader) → FurtherIn a b → FurtherIn b c → FurtherIn a c
 further_in_trans a b c f g = record {
@@ -316,6 +295,22 @@ took_property a b c ps key flags v t f = record {
       };
   object = object_trans a b c t.object f.object;
 }
+
+pub further_property : (a b : ObjectReader) (key flags : ℕ) (P : Tree → Type 0) → TakesProperty a b key flags P → FurtherIn a b
+further_property a b key flags P t =
+    let v = t.value in
+    took_further_in a b _
+    (took_property a a b no_properties key flags v.value (took_none_in a)
+    (record {
+      was_good = t.was_good;
+      good = t.good;
+      header = t.header;
+      its_key = t.its_key;
+      its_flags = t.its_flags;
+      value = record { value = v.value; begins = v.begins; follows = v.follows; holds = refl };
+      after = t.after;
+      object = t.object;
+    }))
 
 -- where what is left of them is refused, what was left before is refused as properties
 pub properties_refused : (a b : ObjectReader) (e : DeserializeError (Bor (List ℕ))) → FurtherIn a b → b.reader.failed ≡ false →

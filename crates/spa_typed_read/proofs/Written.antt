@@ -35,18 +35,8 @@ read_back reads v rest left x t w r = (
 
 -- a refusal that can only be for lack of memory
 lacked : (A B : Type 0) (e : DeserializeError (Bor (List ℕ))) → OnFault ⊥ e → OnMemory (A × B) e → (e ≡ error.OutOfMemory) × A
-lacked A B (error.Nom f) n m = absurd n
-lacked A B error.UnsupportedType n m = absurd n
-lacked A B error.InvalidType n m = absurd n
-lacked A B error.PropertyMissing n m = absurd n
-lacked A B (error.PropertyWrongKey k) n m = absurd n
-lacked A B error.InvalidChoiceType n m = absurd n
-lacked A B error.MissingChoiceValues n m = absurd n
-lacked A B error.WrongSize n m = absurd n
-lacked A B error.UnreadMembers n m = absurd n
-lacked A B error.NoElementLeft n m = absurd n
-lacked A B error.FailedReader n m = absurd n
 lacked A B error.OutOfMemory n m = (refl, m.0)
+lacked A B _ n m = absurd n
 
 -- where the normal form is read as something, memory is all that a read can lack
 pub refused_back : {X : Type 0} (reads : Tree → X → Type 0) (takes : Type 0) (v : Tree) (rest : List ℕ) (x : X)

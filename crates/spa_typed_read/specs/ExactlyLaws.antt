@@ -20,75 +20,25 @@ use Rattle.spa_bodies.specs.Reading.{MayLackMemory, OnFault, OnMemory, RefusesIn
 
 -- a weaker fact than the one that a refusal says
 pub fault_to : {I : Type 0} (A B : Type 0) (e : DeserializeError I) → (A → B) → OnFault A e → OnFault B e
-fault_to A B (error.Nom f) to h = to h
-fault_to A B error.UnsupportedType to h = to h
-fault_to A B error.InvalidType to h = to h
-fault_to A B error.PropertyMissing to h = to h
-fault_to A B (error.PropertyWrongKey k) to h = to h
-fault_to A B error.InvalidChoiceType to h = to h
-fault_to A B error.MissingChoiceValues to h = to h
-fault_to A B error.WrongSize to h = to h
-fault_to A B error.UnreadMembers to h = to h
-fault_to A B error.NoElementLeft to h = to h
-fault_to A B error.FailedReader to h = to h
 fault_to A B error.OutOfMemory to h = h
+fault_to A B _ to h = to h
 
 pub memory_to : {I : Type 0} (A B : Type 0) (e : DeserializeError I) → (A → B) → OnMemory A e → OnMemory B e
-memory_to A B (error.Nom f) to h = h
-memory_to A B error.UnsupportedType to h = h
-memory_to A B error.InvalidType to h = h
-memory_to A B error.PropertyMissing to h = h
-memory_to A B (error.PropertyWrongKey k) to h = h
-memory_to A B error.InvalidChoiceType to h = h
-memory_to A B error.MissingChoiceValues to h = h
-memory_to A B error.WrongSize to h = h
-memory_to A B error.UnreadMembers to h = h
-memory_to A B error.NoElementLeft to h = h
-memory_to A B error.FailedReader to h = h
 memory_to A B error.OutOfMemory to h = to h
+memory_to A B _ to h = h
 
 -- a fact that holds whatever the refusal is
 pub fault_there : {I : Type 0} (A : Type 0) (e : DeserializeError I) → A → OnFault A e
-fault_there A (error.Nom f) h = h
-fault_there A error.UnsupportedType h = h
-fault_there A error.InvalidType h = h
-fault_there A error.PropertyMissing h = h
-fault_there A (error.PropertyWrongKey k) h = h
-fault_there A error.InvalidChoiceType h = h
-fault_there A error.MissingChoiceValues h = h
-fault_there A error.WrongSize h = h
-fault_there A error.UnreadMembers h = h
-fault_there A error.NoElementLeft h = h
-fault_there A error.FailedReader h = h
 fault_there A error.OutOfMemory h = tt
+fault_there A _ h = h
 
 pub memory_there : {I : Type 0} (A : Type 0) (e : DeserializeError I) → A → OnMemory A e
-memory_there A (error.Nom f) h = tt
-memory_there A error.UnsupportedType h = tt
-memory_there A error.InvalidType h = tt
-memory_there A error.PropertyMissing h = tt
-memory_there A (error.PropertyWrongKey k) h = tt
-memory_there A error.InvalidChoiceType h = tt
-memory_there A error.MissingChoiceValues h = tt
-memory_there A error.WrongSize h = tt
-memory_there A error.UnreadMembers h = tt
-memory_there A error.NoElementLeft h = tt
-memory_there A error.FailedReader h = tt
 memory_there A error.OutOfMemory h = h
+memory_there A _ h = tt
 
 pub both_on_memory : {I : Type 0} (A B : Type 0) (e : DeserializeError I) → OnMemory A e → OnMemory B e → OnMemory (A × B) e
-both_on_memory A B (error.Nom f) h k = tt
-both_on_memory A B error.UnsupportedType h k = tt
-both_on_memory A B error.InvalidType h k = tt
-both_on_memory A B error.PropertyMissing h k = tt
-both_on_memory A B (error.PropertyWrongKey n) h k = tt
-both_on_memory A B error.InvalidChoiceType h k = tt
-both_on_memory A B error.MissingChoiceValues h k = tt
-both_on_memory A B error.WrongSize h k = tt
-both_on_memory A B error.UnreadMembers h k = tt
-both_on_memory A B error.NoElementLeft h k = tt
-both_on_memory A B error.FailedReader h k = tt
 both_on_memory A B error.OutOfMemory h k = (h, k)
+both_on_memory A B _ h k = tt
 
 -- a type whose values are those that the read asks for is refused exactly
 pub asked_exactly : {X : Type 0} (a : Asked) (m : Type 0) (reads : Tree → X → Type 0) →

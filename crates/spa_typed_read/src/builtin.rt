@@ -7,8 +7,8 @@ ghost use Rattle.spa_format.specs.Tree.{array, bitmap, bitmap_type, bytes, bytes
 ghost use Rattle.spa_typed_read.specs.Asking.{RefusesAsked, array_of, choice_of, of_type};
 
 use crate::array_element::ArrayElement;
-use crate::deserializer::{DeserializeSuccess, PodDeserialize, PodDeserializer};
-use spa_fixed_sized::{ChoiceElement, DeserializeError};
+use crate::deserializer::{PodDeserialize, PodDeserializer, ReadResult};
+use spa_fixed_sized::ChoiceElement;
 use spa_utils::{Choice, Fd, Float32, Float64, Fraction, Id, Rectangle};
 use spa_value::Bitmap;
 
@@ -18,9 +18,7 @@ impl<'de> PodDeserialize<'de> for &'de str {
 
     ghost refuses = { RefusesAsked (of_type string_type) ⊥ };
 
-    fn deserialize(
-        deserializer: PodDeserializer<'de>,
-    ) -> Result<(&'de str, DeserializeSuccess<'de>), DeserializeError<&'de [u8]>> {
+    fn deserialize(deserializer: PodDeserializer<'de>) -> ReadResult<'de, &'de str> {
         deserializer.text_pod()
     }
 }
@@ -31,9 +29,7 @@ impl<'de> PodDeserialize<'de> for String {
 
     ghost refuses = { RefusesAsked (of_type string_type) ⊤ };
 
-    fn deserialize(
-        deserializer: PodDeserializer<'de>,
-    ) -> Result<(String, DeserializeSuccess<'de>), DeserializeError<&'de [u8]>> {
+    fn deserialize(deserializer: PodDeserializer<'de>) -> ReadResult<'de, String> {
         let alloc = deserializer.alloc;
         let (text, success) = deserializer.text_pod()?;
         Ok((String::from_str(alloc, text)?, success))
@@ -46,9 +42,7 @@ impl<'de> PodDeserialize<'de> for &'de [u8] {
 
     ghost refuses = { RefusesAsked (of_type bytes_type) ⊥ };
 
-    fn deserialize(
-        deserializer: PodDeserializer<'de>,
-    ) -> Result<(&'de [u8], DeserializeSuccess<'de>), DeserializeError<&'de [u8]>> {
+    fn deserialize(deserializer: PodDeserializer<'de>) -> ReadResult<'de, &'de [u8]> {
         deserializer.bytes_pod()
     }
 }
@@ -59,9 +53,7 @@ impl<'de> PodDeserialize<'de> for Vec<u8> {
 
     ghost refuses = { RefusesAsked (of_type bytes_type) ⊤ };
 
-    fn deserialize(
-        deserializer: PodDeserializer<'de>,
-    ) -> Result<(Vec<u8>, DeserializeSuccess<'de>), DeserializeError<&'de [u8]>> {
+    fn deserialize(deserializer: PodDeserializer<'de>) -> ReadResult<'de, Vec<u8>> {
         let alloc = deserializer.alloc;
         let (bytes, success) = deserializer.bytes_pod()?;
         Ok((Vec::from_slice(alloc, bytes)?, success))
@@ -74,9 +66,7 @@ impl<'de> PodDeserialize<'de> for Bitmap<'de> {
 
     ghost refuses = { RefusesAsked (of_type bitmap_type) ⊥ };
 
-    fn deserialize(
-        deserializer: PodDeserializer<'de>,
-    ) -> Result<(Bitmap<'de>, DeserializeSuccess<'de>), DeserializeError<&'de [u8]>> {
+    fn deserialize(deserializer: PodDeserializer<'de>) -> ReadResult<'de, Bitmap<'de>> {
         let (bytes, success) = deserializer.bitmap_pod()?;
         Ok((Bitmap(bytes), success))
     }
@@ -88,9 +78,7 @@ impl<'de> PodDeserialize<'de> for (u32, u64) {
 
     ghost refuses = { RefusesAsked (of_type pointer_type) ⊥ };
 
-    fn deserialize(
-        deserializer: PodDeserializer<'de>,
-    ) -> Result<((u32, u64), DeserializeSuccess<'de>), DeserializeError<&'de [u8]>> {
+    fn deserialize(deserializer: PodDeserializer<'de>) -> ReadResult<'de, (u32, u64)> {
         deserializer.pointer_pod()
     }
 }
@@ -101,9 +89,7 @@ impl<'de> PodDeserialize<'de> for () {
 
     ghost refuses = { RefusesAsked (of_type (type_number k.none_kind)) ⊥ };
 
-    fn deserialize(
-        deserializer: PodDeserializer<'de>,
-    ) -> Result<((), DeserializeSuccess<'de>), DeserializeError<&'de [u8]>> {
+    fn deserialize(deserializer: PodDeserializer<'de>) -> ReadResult<'de, ()> {
         deserializer.fixed_pod::<()>()
     }
 }
@@ -114,9 +100,7 @@ impl<'de> PodDeserialize<'de> for bool {
 
     ghost refuses = { RefusesAsked (of_type (type_number k.bool_kind)) ⊥ };
 
-    fn deserialize(
-        deserializer: PodDeserializer<'de>,
-    ) -> Result<(bool, DeserializeSuccess<'de>), DeserializeError<&'de [u8]>> {
+    fn deserialize(deserializer: PodDeserializer<'de>) -> ReadResult<'de, bool> {
         deserializer.fixed_pod::<bool>()
     }
 }
@@ -127,9 +111,7 @@ impl<'de> PodDeserialize<'de> for Id {
 
     ghost refuses = { RefusesAsked (of_type (type_number k.id_kind)) ⊥ };
 
-    fn deserialize(
-        deserializer: PodDeserializer<'de>,
-    ) -> Result<(Id, DeserializeSuccess<'de>), DeserializeError<&'de [u8]>> {
+    fn deserialize(deserializer: PodDeserializer<'de>) -> ReadResult<'de, Id> {
         deserializer.fixed_pod::<Id>()
     }
 }
@@ -140,9 +122,7 @@ impl<'de> PodDeserialize<'de> for i32 {
 
     ghost refuses = { RefusesAsked (of_type (type_number k.int_kind)) ⊥ };
 
-    fn deserialize(
-        deserializer: PodDeserializer<'de>,
-    ) -> Result<(i32, DeserializeSuccess<'de>), DeserializeError<&'de [u8]>> {
+    fn deserialize(deserializer: PodDeserializer<'de>) -> ReadResult<'de, i32> {
         deserializer.fixed_pod::<i32>()
     }
 }
@@ -153,9 +133,7 @@ impl<'de> PodDeserialize<'de> for i64 {
 
     ghost refuses = { RefusesAsked (of_type (type_number k.long_kind)) ⊥ };
 
-    fn deserialize(
-        deserializer: PodDeserializer<'de>,
-    ) -> Result<(i64, DeserializeSuccess<'de>), DeserializeError<&'de [u8]>> {
+    fn deserialize(deserializer: PodDeserializer<'de>) -> ReadResult<'de, i64> {
         deserializer.fixed_pod::<i64>()
     }
 }
@@ -166,9 +144,7 @@ impl<'de> PodDeserialize<'de> for Float32 {
 
     ghost refuses = { RefusesAsked (of_type (type_number k.float_kind)) ⊥ };
 
-    fn deserialize(
-        deserializer: PodDeserializer<'de>,
-    ) -> Result<(Float32, DeserializeSuccess<'de>), DeserializeError<&'de [u8]>> {
+    fn deserialize(deserializer: PodDeserializer<'de>) -> ReadResult<'de, Float32> {
         deserializer.fixed_pod::<Float32>()
     }
 }
@@ -179,9 +155,7 @@ impl<'de> PodDeserialize<'de> for Float64 {
 
     ghost refuses = { RefusesAsked (of_type (type_number k.double_kind)) ⊥ };
 
-    fn deserialize(
-        deserializer: PodDeserializer<'de>,
-    ) -> Result<(Float64, DeserializeSuccess<'de>), DeserializeError<&'de [u8]>> {
+    fn deserialize(deserializer: PodDeserializer<'de>) -> ReadResult<'de, Float64> {
         deserializer.fixed_pod::<Float64>()
     }
 }
@@ -192,9 +166,7 @@ impl<'de> PodDeserialize<'de> for Rectangle {
 
     ghost refuses = { RefusesAsked (of_type (type_number k.rectangle_kind)) ⊥ };
 
-    fn deserialize(
-        deserializer: PodDeserializer<'de>,
-    ) -> Result<(Rectangle, DeserializeSuccess<'de>), DeserializeError<&'de [u8]>> {
+    fn deserialize(deserializer: PodDeserializer<'de>) -> ReadResult<'de, Rectangle> {
         deserializer.fixed_pod::<Rectangle>()
     }
 }
@@ -205,9 +177,7 @@ impl<'de> PodDeserialize<'de> for Fraction {
 
     ghost refuses = { RefusesAsked (of_type (type_number k.fraction_kind)) ⊥ };
 
-    fn deserialize(
-        deserializer: PodDeserializer<'de>,
-    ) -> Result<(Fraction, DeserializeSuccess<'de>), DeserializeError<&'de [u8]>> {
+    fn deserialize(deserializer: PodDeserializer<'de>) -> ReadResult<'de, Fraction> {
         deserializer.fixed_pod::<Fraction>()
     }
 }
@@ -218,9 +188,7 @@ impl<'de> PodDeserialize<'de> for Fd {
 
     ghost refuses = { RefusesAsked (of_type (type_number k.fd_kind)) ⊥ };
 
-    fn deserialize(
-        deserializer: PodDeserializer<'de>,
-    ) -> Result<(Fd, DeserializeSuccess<'de>), DeserializeError<&'de [u8]>> {
+    fn deserialize(deserializer: PodDeserializer<'de>) -> ReadResult<'de, Fd> {
         deserializer.fixed_pod::<Fd>()
     }
 }
@@ -231,9 +199,7 @@ impl<'de, T: ArrayElement> PodDeserialize<'de> for Vec<T> {
 
     ghost refuses = { RefusesAsked (array_of T.kind) ⊤ };
 
-    fn deserialize(
-        deserializer: PodDeserializer<'de>,
-    ) -> Result<(Vec<T>, DeserializeSuccess<'de>), DeserializeError<&'de [u8]>> {
+    fn deserialize(deserializer: PodDeserializer<'de>) -> ReadResult<'de, Vec<T>> {
         deserializer.array_pod()
     }
 }
@@ -244,9 +210,7 @@ impl<'de, T: ChoiceElement> PodDeserialize<'de> for Choice<T> {
 
     ghost refuses = { RefusesAsked (choice_of T.kind) ⊤ };
 
-    fn deserialize(
-        deserializer: PodDeserializer<'de>,
-    ) -> Result<(Choice<T>, DeserializeSuccess<'de>), DeserializeError<&'de [u8]>> {
+    fn deserialize(deserializer: PodDeserializer<'de>) -> ReadResult<'de, Choice<T>> {
         deserializer.choice_pod()
     }
 }

@@ -10,7 +10,7 @@ ghost use Rattle.spa_typed_read.specs.ExactlyLaws.{made_exactly};
 ghost use Rattle.spa_typed_read.specs.Members.{AllMembers, AtEnd, Further};
 ghost use Rattle.spa_bodies.specs.Reading.{OnFault, OnMemory};
 
-use crate::deserializer::{DeserializeSuccess, PodDeserialize, PodDeserializer};
+use crate::deserializer::{PodDeserialize, PodDeserializer, ReadResult};
 use crate::exact::ExactDeserialize;
 use crate::members::StructPodDeserializer;
 use spa_fixed_sized::DeserializeError;
@@ -41,9 +41,7 @@ where
 
     ghost refuses = { λ input e. T.Content.refuses input e };
 
-    fn deserialize(
-        deserializer: PodDeserializer<'de>,
-    ) -> Result<(T, DeserializeSuccess<'de>), DeserializeError<&'de [u8]>> {
+    fn deserialize(deserializer: PodDeserializer<'de>) -> ReadResult<'de, T> {
         match T::Content::deserialize(deserializer) {
             Ok((content, success)) => Ok((T::of_content(content), success)),
             Err(e) => Err(e),
@@ -149,9 +147,7 @@ impl<'de, M: DeserializeMembers<'de>> PodDeserialize<'de> for StructOf<M> {
 
     ghost refuses = { λ input e. RefusesStructOf M.refuses_members input e × RefusesExactly (λ value (members : M). ReadsStruct M.reads_members value members) (M.takes_memory (body_of input)) input e };
 
-    fn deserialize(
-        deserializer: PodDeserializer<'de>,
-    ) -> Result<(StructOf<M>, DeserializeSuccess<'de>), DeserializeError<&'de [u8]>> {
+    fn deserialize(deserializer: PodDeserializer<'de>) -> ReadResult<'de, StructOf<M>> {
         let mut reader = match StructPodDeserializer::open(deserializer) {
             Ok(reader) => reader,
             Err(e) => return Err(e),

@@ -17,6 +17,9 @@ use spa_value::Value;
 use std::alloc::Global;
 use std::marker::Model;
 
+/// The answer of a typed read: the value, and the bytes that follow its pod; or the refusal, which may name bytes of the input.
+pub type ReadResult<'de, T> = Result<(T, DeserializeSuccess<'de>), DeserializeError<&'de [u8]>>;
+
 /// A type that is read from a pod.
 pub trait PodDeserialize<'de>: Sized + Drop {
     /// The results as which a value may be read.
@@ -26,9 +29,7 @@ pub trait PodDeserialize<'de>: Sized + Drop {
     ghost refuses: { List ℕ → ReadRefusal → Type 0 } = { λ _ _. ⊤ };
 
     /// Reads the pod at the front of the deserializer's input. `refuses` states the refusals.
-    fn deserialize(
-        deserializer: PodDeserializer<'de>,
-    ) -> Result<(Self, DeserializeSuccess<'de>), DeserializeError<&'de [u8]>>
+    fn deserialize(deserializer: PodDeserializer<'de>) -> ReadResult<'de, Self>
         ensures read { IfOk result (λ read. IsRead deserializer.entry read.1 (λ value. reads value read.0)) }
         ensures refused { IfErr result (λ e. refuses deserializer.entry e) };
 }
@@ -39,9 +40,7 @@ impl<'de> PodDeserialize<'de> for Value {
 
     ghost refuses = { RefusesInput };
 
-    fn deserialize(
-        deserializer: PodDeserializer<'de>,
-    ) -> Result<(Value, DeserializeSuccess<'de>), DeserializeError<&'de [u8]>> {
+    fn deserialize(deserializer: PodDeserializer<'de>) -> ReadResult<'de, Value> {
         deserializer.deserialize_any()
     }
 }
@@ -210,9 +209,7 @@ impl<'de> PodDeserializer<'de> {
     }
 
     /// Reads the pod at the front of the remaining bytes, of any type. The refusals are those of `deserialize_any_from`.
-    pub fn deserialize_any(
-        self,
-    ) -> Result<(Value, DeserializeSuccess<'de>), DeserializeError<&'de [u8]>>
+    pub fn deserialize_any(self) -> ReadResult<'de, Value>
         ensures value { IfOk result (λ read. Begins self.entry (view read.0)) }
         ensures one { IfOk result (λ read. (w : Tree) → Begins self.entry w → w ≡ view read.0) }
         ensures rest { IfOk result (λ read. read.1 ≡ rest_of self.entry) }

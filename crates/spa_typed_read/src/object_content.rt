@@ -9,7 +9,7 @@ ghost use Rattle.spa_typed_read.specs.ExactlyLaws.{made_exactly};
 ghost use Rattle.spa_typed_read.specs.Lookup.{FindsIn, FindsUnder, HasFirst, IsUnder, LacksProperty, LeadsToAll, NoneRead, ReadsObject, RefusesObjectOf, RefusesRequired, RefusesUnder, TakesIn};
 ghost use Rattle.spa_bodies.specs.Reading.{OnFault, OnMemory};
 
-use crate::deserializer::{DeserializeSuccess, PodDeserialize, PodDeserializer};
+use crate::deserializer::{PodDeserialize, PodDeserializer, ReadResult};
 use crate::exact::ExactDeserialize;
 use crate::properties::ObjectPodDeserializer;
 use spa_fixed_sized::DeserializeError;
@@ -173,9 +173,7 @@ impl<'de, const TYPE: u32, const ID: u32, P: DeserializeProperties<'de>> PodDese
 
     ghost refuses = { λ input e. RefusesObjectOf TYPE ID P.refuses_properties input e × RefusesExactly (λ value (properties : P). ReadsObject TYPE ID P.reads_properties value properties) (TakesIn P.takes_memory input) input e };
 
-    fn deserialize(
-        deserializer: PodDeserializer<'de>,
-    ) -> Result<(ObjectOf<TYPE, ID, P>, DeserializeSuccess<'de>), DeserializeError<&'de [u8]>> {
+    fn deserialize(deserializer: PodDeserializer<'de>) -> ReadResult<'de, ObjectOf<TYPE, ID, P>> {
         let mut reader = match ObjectPodDeserializer::open(deserializer) {
             Ok(reader) => reader,
             Err(e) => return Err(e),

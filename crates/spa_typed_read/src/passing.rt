@@ -4,11 +4,10 @@ ghost use Rattle.spa_bodies.specs.Reading.{OnMemory, RefusesInput};
 ghost use Rattle.spa_canonical.specs.Depth.{NestsDeeper, levels_looked_into};
 ghost use Rattle.spa_typed_read.specs.ExactlyLaws.{passed_exactly};
 
-use crate::deserializer::{DeserializeSuccess, PodDeserialize, PodDeserializer};
+use crate::deserializer::{PodDeserialize, PodDeserializer, ReadResult};
 use crate::exact::ExactDeserialize;
 use spa_bodies::error_at;
 use spa_canonical::{Rejected, look_at_pod};
-use spa_fixed_sized::DeserializeError;
 use spa_value::discard;
 
 /// Any value, which is checked in the borrowed input and not kept. Memory is asked for only where the nesting depth, without containers in tail
@@ -21,9 +20,7 @@ impl<'de> PodDeserialize<'de> for Skipped {
 
     ghost refuses = { λ input e. RefusesInput input e × OnMemory (NestsDeeper levels_looked_into input) e };
 
-    fn deserialize(
-        deserializer: PodDeserializer<'de>,
-    ) -> Result<(Skipped, DeserializeSuccess<'de>), DeserializeError<&'de [u8]>> {
+    fn deserialize(deserializer: PodDeserializer<'de>) -> ReadResult<'de, Skipped> {
         match look_at_pod(deserializer.input) {
             Ok(pod) => Ok((Skipped, deserializer.after(pod.rest))),
             Err(Rejected::Fault(place, _, why)) => Err(error_at(place, why)),

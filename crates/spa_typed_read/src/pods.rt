@@ -6,7 +6,7 @@ ghost use Rattle.spa_format.specs.Tree.{array, bitmap, bitmap_type, bytes, bytes
 ghost use Rattle.spa_typed_read.specs.Asking.{RefusesAsked, array_of, choice_of, of_type};
 ghost use Rattle.spa_bodies.specs.Reading.{IsRead};
 
-use crate::deserializer::{DeserializeSuccess, PodDeserializer};
+use crate::deserializer::{PodDeserializer, ReadResult};
 use crate::items::open_array_of;
 use crate::typed::open_as;
 use spa_bodies::{
@@ -21,9 +21,7 @@ use spa_utils::{Choice, SpaTypes};
 impl<'de> PodDeserializer<'de> {
     /// Reads a value of one of the ten types of fixed size.
     #[inline(always)]
-    pub(crate) fn fixed_pod<T: CanonicalFixedSizedPod>(
-        self,
-    ) -> Result<(T, DeserializeSuccess<'de>), DeserializeError<&'de [u8]>>
+    pub(crate) fn fixed_pod<T: CanonicalFixedSizedPod>(self) -> ReadResult<'de, T>
         ensures read { IfOk result (λ read. IsRead self.entry read.1 (λ value. value ≡ fixed (T.fixed read.0))) }
         ensures refused { IfErr result (RefusesAsked (of_type (type_number T.kind)) ⊥ self.entry) }
     {
@@ -35,9 +33,7 @@ impl<'de> PodDeserializer<'de> {
     }
 
     /// Reads the borrowed text of a string.
-    pub(crate) fn text_pod(
-        self,
-    ) -> Result<(&'de str, DeserializeSuccess<'de>), DeserializeError<&'de [u8]>>
+    pub(crate) fn text_pod(self) -> ReadResult<'de, &'de str>
         ensures read { IfOk result (λ read. IsRead self.entry read.1 (λ value. value ≡ string read.0.now)) }
         ensures refused { IfErr result (RefusesAsked (of_type string_type) ⊥ self.entry) }
     {
@@ -49,9 +45,7 @@ impl<'de> PodDeserializer<'de> {
     }
 
     /// Reads the borrowed bytes of a pod of bytes.
-    pub(crate) fn bytes_pod(
-        self,
-    ) -> Result<(&'de [u8], DeserializeSuccess<'de>), DeserializeError<&'de [u8]>>
+    pub(crate) fn bytes_pod(self) -> ReadResult<'de, &'de [u8]>
         ensures read { IfOk result (λ read. IsRead self.entry read.1 (λ value. value ≡ bytes read.0.now)) }
         ensures refused { IfErr result (RefusesAsked (of_type bytes_type) ⊥ self.entry) }
     {
@@ -60,9 +54,7 @@ impl<'de> PodDeserializer<'de> {
     }
 
     /// Reads the borrowed bytes of a bitmap.
-    pub(crate) fn bitmap_pod(
-        self,
-    ) -> Result<(&'de [u8], DeserializeSuccess<'de>), DeserializeError<&'de [u8]>>
+    pub(crate) fn bitmap_pod(self) -> ReadResult<'de, &'de [u8]>
         ensures read { IfOk result (λ read. IsRead self.entry read.1 (λ value. value ≡ bitmap read.0.now)) }
         ensures refused { IfErr result (RefusesAsked (of_type bitmap_type) ⊥ self.entry) }
     {
@@ -71,9 +63,7 @@ impl<'de> PodDeserializer<'de> {
     }
 
     /// Reads a pointer's type and address.
-    pub(crate) fn pointer_pod(
-        self,
-    ) -> Result<((u32, u64), DeserializeSuccess<'de>), DeserializeError<&'de [u8]>>
+    pub(crate) fn pointer_pod(self) -> ReadResult<'de, (u32, u64)>
         ensures read { IfOk result (λ read. IsRead self.entry read.1 (λ value. value ≡ pointer read.0.0 read.0.1)) }
         ensures refused { IfErr result (RefusesAsked (of_type pointer_type) ⊥ self.entry) }
     {
@@ -85,9 +75,7 @@ impl<'de> PodDeserializer<'de> {
     }
 
     /// Reads the elements of an array over one of the ten types.
-    pub(crate) fn array_pod<T: CanonicalFixedSizedPod>(
-        self,
-    ) -> Result<(Vec<T>, DeserializeSuccess<'de>), DeserializeError<&'de [u8]>>
+    pub(crate) fn array_pod<T: CanonicalFixedSizedPod>(self) -> ReadResult<'de, Vec<T>>
         ensures read { IfOk result (λ read. IsRead self.entry read.1
             (λ value. value ≡ array T.kind (map T.fixed read.0.items))) }
         ensures refused { IfErr result (RefusesAsked (array_of T.kind) ⊤ self.entry) }
@@ -100,9 +88,7 @@ impl<'de> PodDeserializer<'de> {
     }
 
     /// Reads a choice over one of the nine types that have bytes. A choice over another of the nine is refused as `UnsupportedType`.
-    pub(crate) fn choice_pod<T: ChoiceElement>(
-        self,
-    ) -> Result<(Choice<T>, DeserializeSuccess<'de>), DeserializeError<&'de [u8]>>
+    pub(crate) fn choice_pod<T: ChoiceElement>(self) -> ReadResult<'de, Choice<T>>
         ensures read { IfOk result (λ read. IsRead self.entry read.1
             (λ value. value ≡ choice_tree T.kind T.fixed read.0)) }
         ensures refused { IfErr result (RefusesAsked (choice_of T.kind) ⊤ self.entry) }

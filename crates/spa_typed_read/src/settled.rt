@@ -7,7 +7,7 @@ ghost use Rattle.spa_typed_read.specs.ExactlyLaws.{made_exactly, settled_exactly
 ghost use Rattle.spa_view.specs.Settled.{settled_of};
 ghost use Rattle.spa_view.specs.View.{pod_bytes};
 
-use crate::deserializer::{DeserializeSuccess, PodDeserialize, PodDeserializer};
+use crate::deserializer::{PodDeserialize, PodDeserializer, ReadResult};
 use crate::exact::ExactDeserialize;
 use spa_bodies::error_at;
 use spa_canonical::{Rejected, look_at_pod};
@@ -44,9 +44,7 @@ impl<'de, T: FixedPod> PodDeserialize<'de> for Settled<T> {
 
     ghost refuses = { RefusesSettled T.kind (λ value (x : T). settled_of value ≡ fixed (T.fixed x)) };
 
-    fn deserialize(
-        deserializer: PodDeserializer<'de>,
-    ) -> Result<(Settled<T>, DeserializeSuccess<'de>), DeserializeError<&'de [u8]>> {
+    fn deserialize(deserializer: PodDeserializer<'de>) -> ReadResult<'de, Settled<T>> {
         let Some(pod) = choice_at(deserializer.input) else {
             return match deserializer.fixed_pod::<T>() {
                 Ok((value, success)) => Ok((Settled(value), success)),

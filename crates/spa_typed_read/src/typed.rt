@@ -12,7 +12,7 @@ ghost use Rattle.spa_bodies.specs.Refusing.{RefusesBody};
 ghost use Rattle.spa_typed_read.specs.Visiting.{IsVisited, RefusesArrayVisit, RefusesObject, RefusesStruct, RefusesVisit, SaysBody};
 ghost use Rattle.spa_typed_read.specs.declared.visitor.Visit.TheVariants as visit;
 
-use crate::deserializer::{DeserializeSuccess, PodDeserializer};
+use crate::deserializer::{PodDeserializer, ReadResult};
 use crate::items::ArrayPodDeserializer;
 use crate::members::StructPodDeserializer;
 use crate::properties::ObjectPodDeserializer;
@@ -92,11 +92,7 @@ fn content<'de, E>(alloc: Global, type_: u32, body: &'de [u8]) -> Result<Visit<'
 
 impl<'de> PodDeserializer<'de> {
     /// Reads the pod at the front, which has to be of this type, and hands its content to the visitor.
-    fn deserialize_as<V: Visitor<'de>>(
-        self,
-        type_: u32,
-        visitor: V,
-    ) -> Result<(V::Value, DeserializeSuccess<'de>), DeserializeError<&'de [u8]>>
+    fn deserialize_as<V: Visitor<'de>>(self, type_: u32, visitor: V) -> ReadResult<'de, V::Value>
         requires no_array { type_ ≢ array_type }
         requires no_struct { type_ ≢ struct_type }
         requires no_object { type_ ≢ object_type }
@@ -116,10 +112,7 @@ impl<'de> PodDeserializer<'de> {
     ///
     /// Refusals: `Nom` with `Short` where the front isn't there, `Nom` with `Tag` where it is of another type,
     /// `WrongSize` where the body has another size; else the visitor's.
-    pub fn deserialize_none<V: Visitor<'de>>(
-        self,
-        visitor: V,
-    ) -> Result<(V::Value, DeserializeSuccess<'de>), DeserializeError<&'de [u8]>>
+    pub fn deserialize_none<V: Visitor<'de>>(self, visitor: V) -> ReadResult<'de, V::Value>
         ensures read { IfOk result
             (λ read. IsVisited (type_number k.none_kind) (V.visits visitor) self.entry read.1 read.0) }
         ensures refused { IfErr result (RefusesVisit (type_number k.none_kind) (V.declines visitor) self.entry) }
@@ -131,10 +124,7 @@ impl<'de> PodDeserializer<'de> {
     ///
     /// Refusals: `Nom` with `Short` where the front isn't there, `Nom` with `Tag` where it is of another type,
     /// `WrongSize` where the body has another size; else the visitor's.
-    pub fn deserialize_bool<V: Visitor<'de>>(
-        self,
-        visitor: V,
-    ) -> Result<(V::Value, DeserializeSuccess<'de>), DeserializeError<&'de [u8]>>
+    pub fn deserialize_bool<V: Visitor<'de>>(self, visitor: V) -> ReadResult<'de, V::Value>
         ensures read { IfOk result
             (λ read. IsVisited (type_number k.bool_kind) (V.visits visitor) self.entry read.1 read.0) }
         ensures refused { IfErr result (RefusesVisit (type_number k.bool_kind) (V.declines visitor) self.entry) }
@@ -146,10 +136,7 @@ impl<'de> PodDeserializer<'de> {
     ///
     /// Refusals: `Nom` with `Short` where the front isn't there, `Nom` with `Tag` where it is of another type,
     /// `WrongSize` where the body has another size; else the visitor's.
-    pub fn deserialize_int<V: Visitor<'de>>(
-        self,
-        visitor: V,
-    ) -> Result<(V::Value, DeserializeSuccess<'de>), DeserializeError<&'de [u8]>>
+    pub fn deserialize_int<V: Visitor<'de>>(self, visitor: V) -> ReadResult<'de, V::Value>
         ensures read { IfOk result
             (λ read. IsVisited (type_number k.int_kind) (V.visits visitor) self.entry read.1 read.0) }
         ensures refused { IfErr result (RefusesVisit (type_number k.int_kind) (V.declines visitor) self.entry) }
@@ -161,10 +148,7 @@ impl<'de> PodDeserializer<'de> {
     ///
     /// Refusals: `Nom` with `Short` where the front isn't there, `Nom` with `Tag` where it is of another type,
     /// `WrongSize` where the body has another size; else the visitor's.
-    pub fn deserialize_long<V: Visitor<'de>>(
-        self,
-        visitor: V,
-    ) -> Result<(V::Value, DeserializeSuccess<'de>), DeserializeError<&'de [u8]>>
+    pub fn deserialize_long<V: Visitor<'de>>(self, visitor: V) -> ReadResult<'de, V::Value>
         ensures read { IfOk result
             (λ read. IsVisited (type_number k.long_kind) (V.visits visitor) self.entry read.1 read.0) }
         ensures refused { IfErr result (RefusesVisit (type_number k.long_kind) (V.declines visitor) self.entry) }
@@ -176,10 +160,7 @@ impl<'de> PodDeserializer<'de> {
     ///
     /// Refusals: `Nom` with `Short` where the front isn't there, `Nom` with `Tag` where it is of another type,
     /// `WrongSize` where the body has another size; else the visitor's.
-    pub fn deserialize_float<V: Visitor<'de>>(
-        self,
-        visitor: V,
-    ) -> Result<(V::Value, DeserializeSuccess<'de>), DeserializeError<&'de [u8]>>
+    pub fn deserialize_float<V: Visitor<'de>>(self, visitor: V) -> ReadResult<'de, V::Value>
         ensures read { IfOk result
             (λ read. IsVisited (type_number k.float_kind) (V.visits visitor) self.entry read.1 read.0) }
         ensures refused { IfErr result (RefusesVisit (type_number k.float_kind) (V.declines visitor) self.entry) }
@@ -191,10 +172,7 @@ impl<'de> PodDeserializer<'de> {
     ///
     /// Refusals: `Nom` with `Short` where the front isn't there, `Nom` with `Tag` where it is of another type,
     /// `WrongSize` where the body has another size; else the visitor's.
-    pub fn deserialize_double<V: Visitor<'de>>(
-        self,
-        visitor: V,
-    ) -> Result<(V::Value, DeserializeSuccess<'de>), DeserializeError<&'de [u8]>>
+    pub fn deserialize_double<V: Visitor<'de>>(self, visitor: V) -> ReadResult<'de, V::Value>
         ensures read { IfOk result
             (λ read. IsVisited (type_number k.double_kind) (V.visits visitor) self.entry read.1 read.0) }
         ensures refused { IfErr result (RefusesVisit (type_number k.double_kind) (V.declines visitor) self.entry) }
@@ -206,10 +184,7 @@ impl<'de> PodDeserializer<'de> {
     ///
     /// Refusals: `Nom` with `Short` where the front isn't there, `Nom` with `Tag` where it is of another type, `Nom`
     /// with `Text` where the body is no text with one NUL behind it; else the visitor's.
-    pub fn deserialize_str<V: Visitor<'de>>(
-        self,
-        visitor: V,
-    ) -> Result<(V::Value, DeserializeSuccess<'de>), DeserializeError<&'de [u8]>>
+    pub fn deserialize_str<V: Visitor<'de>>(self, visitor: V) -> ReadResult<'de, V::Value>
         ensures read { IfOk result (λ read. IsVisited string_type (V.visits visitor) self.entry read.1 read.0) }
         ensures refused { IfErr result (RefusesVisit string_type (V.declines visitor) self.entry) }
     {
@@ -220,10 +195,7 @@ impl<'de> PodDeserializer<'de> {
     ///
     /// Refusals: `Nom` with `Short` where the front isn't there, `Nom` with `Tag` where it is of another type; else the
     /// visitor's.
-    pub fn deserialize_bytes<V: Visitor<'de>>(
-        self,
-        visitor: V,
-    ) -> Result<(V::Value, DeserializeSuccess<'de>), DeserializeError<&'de [u8]>>
+    pub fn deserialize_bytes<V: Visitor<'de>>(self, visitor: V) -> ReadResult<'de, V::Value>
         ensures read { IfOk result (λ read. IsVisited bytes_type (V.visits visitor) self.entry read.1 read.0) }
         ensures refused { IfErr result (RefusesVisit bytes_type (V.declines visitor) self.entry) }
     {
@@ -234,10 +206,7 @@ impl<'de> PodDeserializer<'de> {
     ///
     /// Refusals: `Nom` with `Short` where the front isn't there, `Nom` with `Tag` where it is of another type; else the
     /// visitor's.
-    pub fn deserialize_bitmap<V: Visitor<'de>>(
-        self,
-        visitor: V,
-    ) -> Result<(V::Value, DeserializeSuccess<'de>), DeserializeError<&'de [u8]>>
+    pub fn deserialize_bitmap<V: Visitor<'de>>(self, visitor: V) -> ReadResult<'de, V::Value>
         ensures read { IfOk result (λ read. IsVisited bitmap_type (V.visits visitor) self.entry read.1 read.0) }
         ensures refused { IfErr result (RefusesVisit bitmap_type (V.declines visitor) self.entry) }
     {
@@ -248,10 +217,7 @@ impl<'de> PodDeserializer<'de> {
     ///
     /// Refusals: `Nom` with `Short` where the front isn't there, `Nom` with `Tag` where it is of another type,
     /// `WrongSize` where the body has another size; else the visitor's.
-    pub fn deserialize_rectangle<V: Visitor<'de>>(
-        self,
-        visitor: V,
-    ) -> Result<(V::Value, DeserializeSuccess<'de>), DeserializeError<&'de [u8]>>
+    pub fn deserialize_rectangle<V: Visitor<'de>>(self, visitor: V) -> ReadResult<'de, V::Value>
         ensures read { IfOk result
             (λ read. IsVisited (type_number k.rectangle_kind) (V.visits visitor) self.entry read.1 read.0) }
         ensures refused { IfErr result (RefusesVisit (type_number k.rectangle_kind) (V.declines visitor) self.entry) }
@@ -263,10 +229,7 @@ impl<'de> PodDeserializer<'de> {
     ///
     /// Refusals: `Nom` with `Short` where the front isn't there, `Nom` with `Tag` where it is of another type,
     /// `WrongSize` where the body has another size; else the visitor's.
-    pub fn deserialize_fraction<V: Visitor<'de>>(
-        self,
-        visitor: V,
-    ) -> Result<(V::Value, DeserializeSuccess<'de>), DeserializeError<&'de [u8]>>
+    pub fn deserialize_fraction<V: Visitor<'de>>(self, visitor: V) -> ReadResult<'de, V::Value>
         ensures read { IfOk result
             (λ read. IsVisited (type_number k.fraction_kind) (V.visits visitor) self.entry read.1 read.0) }
         ensures refused { IfErr result (RefusesVisit (type_number k.fraction_kind) (V.declines visitor) self.entry) }
@@ -278,10 +241,7 @@ impl<'de> PodDeserializer<'de> {
     ///
     /// Refusals: `Nom` with `Short` where the front isn't there, `Nom` with `Tag` where it is of another type,
     /// `WrongSize` where the body has another size; else the visitor's.
-    pub fn deserialize_id<V: Visitor<'de>>(
-        self,
-        visitor: V,
-    ) -> Result<(V::Value, DeserializeSuccess<'de>), DeserializeError<&'de [u8]>>
+    pub fn deserialize_id<V: Visitor<'de>>(self, visitor: V) -> ReadResult<'de, V::Value>
         ensures read { IfOk result
             (λ read. IsVisited (type_number k.id_kind) (V.visits visitor) self.entry read.1 read.0) }
         ensures refused { IfErr result (RefusesVisit (type_number k.id_kind) (V.declines visitor) self.entry) }
@@ -293,10 +253,7 @@ impl<'de> PodDeserializer<'de> {
     ///
     /// Refusals: `Nom` with `Short` where the front isn't there, `Nom` with `Tag` where it is of another type,
     /// `WrongSize` where the body has another size; else the visitor's.
-    pub fn deserialize_fd<V: Visitor<'de>>(
-        self,
-        visitor: V,
-    ) -> Result<(V::Value, DeserializeSuccess<'de>), DeserializeError<&'de [u8]>>
+    pub fn deserialize_fd<V: Visitor<'de>>(self, visitor: V) -> ReadResult<'de, V::Value>
         ensures read { IfOk result
             (λ read. IsVisited (type_number k.fd_kind) (V.visits visitor) self.entry read.1 read.0) }
         ensures refused { IfErr result (RefusesVisit (type_number k.fd_kind) (V.declines visitor) self.entry) }
@@ -308,10 +265,7 @@ impl<'de> PodDeserializer<'de> {
     ///
     /// Refusals: `Nom` with `Short` where the front isn't there, `Nom` with `Tag` where it is of another type,
     /// `WrongSize` where the body has neither 12 nor 16 bytes; else the visitor's.
-    pub fn deserialize_pointer<V: Visitor<'de>>(
-        self,
-        visitor: V,
-    ) -> Result<(V::Value, DeserializeSuccess<'de>), DeserializeError<&'de [u8]>>
+    pub fn deserialize_pointer<V: Visitor<'de>>(self, visitor: V) -> ReadResult<'de, V::Value>
         ensures read { IfOk result (λ read. IsVisited pointer_type (V.visits visitor) self.entry read.1 read.0) }
         ensures refused { IfErr result (RefusesVisit pointer_type (V.declines visitor) self.entry) }
     {
@@ -323,10 +277,7 @@ impl<'de> PodDeserializer<'de> {
     /// Refusals: `Nom` with `Short` where the front isn't there, `Nom` with `Tag` where it is of another type;
     /// `WrongSize`, `InvalidChoiceType` and `MissingChoiceValues` as its body has them, `InvalidType` where its values
     /// are of another type than these nine; `OutOfMemory`; else the visitor's.
-    pub fn deserialize_choice<V: Visitor<'de>>(
-        self,
-        visitor: V,
-    ) -> Result<(V::Value, DeserializeSuccess<'de>), DeserializeError<&'de [u8]>>
+    pub fn deserialize_choice<V: Visitor<'de>>(self, visitor: V) -> ReadResult<'de, V::Value>
         ensures read { IfOk result (λ read. IsVisited choice_type (V.visits visitor) self.entry read.1 read.0) }
         ensures refused { IfErr result (RefusesVisit choice_type (V.declines visitor) self.entry) }
     {
@@ -337,10 +288,7 @@ impl<'de> PodDeserializer<'de> {
     ///
     /// Refusals: `Nom` with `Short` where the front isn't there, `Nom` with `Tag` where it is of another type or its elements
     /// are, `WrongSize` where the child size isn't the type's or the elements aren't whole, `OutOfMemory`; else the visitor's.
-    pub fn deserialize_array<V, T>(
-        self,
-        visitor: V,
-    ) -> Result<(V::Value, DeserializeSuccess<'de>), DeserializeError<&'de [u8]>>
+    pub fn deserialize_array<V, T>(self, visitor: V) -> ReadResult<'de, V::Value>
     where
         V: Visitor<'de, ArrayElem = T>,
         T: CanonicalFixedSizedPod,
@@ -358,10 +306,7 @@ impl<'de> PodDeserializer<'de> {
     ///
     /// Refusals: `Nom` with `Short` where the front isn't there, `Nom` with `Tag` where it is of another type; else the
     /// visitor's, `FailedReader` where a member was refused, and `UnreadMembers` where one is left.
-    pub fn deserialize_struct<V: Visitor<'de>>(
-        self,
-        visitor: V,
-    ) -> Result<(V::Value, DeserializeSuccess<'de>), DeserializeError<&'de [u8]>>
+    pub fn deserialize_struct<V: Visitor<'de>>(self, visitor: V) -> ReadResult<'de, V::Value>
         ensures read { IfOk result (λ read. IsRead self.entry read.1
             (λ value. (members : Trees) × (value ≡ struct members) × V.visits_struct visitor members read.0)) }
         ensures refused { IfErr result (RefusesStruct (V.declines_struct visitor)
@@ -378,10 +323,7 @@ impl<'de> PodDeserializer<'de> {
     /// Refusals: `Nom` with `Short` where the front isn't there, `Nom` with `Tag` where it is of another type, `WrongSize`
     /// where its body lacks the object's type or id; else the visitor's, `FailedReader` where a property was refused, and
     /// `UnreadMembers` where one is left.
-    pub fn deserialize_object<V: Visitor<'de>>(
-        self,
-        visitor: V,
-    ) -> Result<(V::Value, DeserializeSuccess<'de>), DeserializeError<&'de [u8]>>
+    pub fn deserialize_object<V: Visitor<'de>>(self, visitor: V) -> ReadResult<'de, V::Value>
         ensures read { IfOk result (λ read. IsRead self.entry read.1
             (λ value. (type : ℕ) × (id : ℕ) × (properties : Properties) × (value ≡ object type id properties)
             × V.visits_object visitor type id properties read.0)) }

@@ -1,5 +1,6 @@
 //! Visitors, which make a value of the pod that a typed read finds.
-ghost use Rattle.std.specs.Prelude.{⊤, ℕ, IfErr, IfOk, OnOk};
+ghost use Rattle.std.specs.Prelude.{⊤, ◌≡◌, ◌≢◌, ℕ, IfErr, IfNone, IfOk, IfSome, OnOk};
+ghost use Rattle.spa_fixed_sized.specs.declared.fault.DeserializeError.TheVariants as error;
 ghost use Rattle.spa_format.specs.Tree.{Properties, Trees};
 ghost use Rattle.spa_typed_read.specs.Asking.{ReadRefusal};
 ghost use Rattle.spa_typed_read.specs.Members.{AllMembers, AllProperties, AtEnd, Further, FurtherIn, ObjectReader, Reader};
@@ -116,4 +117,70 @@ pub trait Visitor<'de>: Sized + Drop {
         ensures left { OnOk result (leaves_object self.now reader.old reader.new) }
         ensures made { IfOk result (λ x. AtEnd reader.new.reader →
             AllProperties reader.old (λ properties. visits_object self.now reader.old.type reader.old.id properties x)) };
+}
+
+/// A visitor that takes the contents of one variant of `Visit`, and declines any other, each struct and each object as `UnsupportedType`. It is a
+/// `Visitor`.
+pub trait VariantVisitor<'de>: Sized + Drop {
+    /// The type of the values in that variant.
+    type Made: Drop;
+
+    /// The element type of the arrays that the visitor takes; `Never` where it takes none.
+    type Element;
+
+    /// The variant, of a value.
+    ghost handed: { Self.Made → Visit Self.Element };
+
+    /// The value in that variant. None: the content is of another one.
+    fn of_visit(given: Visit<'de, Self::Element>) -> Option<Self::Made>
+        ensures there { IfSome result (λ x. given.entry ≡ handed x) }
+        ensures other { IfNone result ((x : Self.Made) → given.entry ≢ handed x) };
+}
+
+impl<'de, V: VariantVisitor<'de>> Visitor<'de> for V {
+    type Value = V::Made;
+
+    type ArrayElem = V::Element;
+
+    ghost visits = { λ _ given x. given ≡ V.handed x };
+
+    ghost visits_struct = { λ _ _ _. ⊥ };
+
+    ghost visits_object = { λ _ _ _ _ _. ⊥ };
+
+    ghost declines = { λ _ given e. (e ≡ error.UnsupportedType) × ((x : V.Made) → given ≢ V.handed x) };
+
+    ghost declines_struct = { λ _ _ _ e. e ≡ error.UnsupportedType };
+
+    ghost leaves_struct = { λ _ _ _. ⊥ };
+
+    ghost declines_object = { λ _ _ _ e. e ≡ error.UnsupportedType };
+
+    ghost leaves_object = { λ _ _ _. ⊥ };
+
+    fn visit(&self, given: Visit<'de, V::Element>) -> Result<V::Made, DeserializeError<&'de [u8]>>
+        ensures made { IfOk result (λ x. given.entry ≡ V.handed x) }
+        ensures declined { IfErr result (λ e. (e ≡ error.UnsupportedType) × ((x : V.Made) → given.entry ≢ V.handed x)) }
+    {
+        match V::of_visit(given) {
+            Some(x) => Ok(x),
+            None => Err(DeserializeError::UnsupportedType),
+        }
+    }
+
+    #[tactic(auto, using(crate::proofs::Stepping::further_same))]
+    fn visit_struct(
+        &self,
+        _reader: &mut StructPodDeserializer<'de>,
+    ) -> Result<V::Made, DeserializeError<&'de [u8]>> {
+        Err(DeserializeError::UnsupportedType)
+    }
+
+    #[tactic(auto, using(crate::proofs::Stepping::further_in_same))]
+    fn visit_object(
+        &self,
+        _reader: &mut ObjectPodDeserializer<'de>,
+    ) -> Result<V::Made, DeserializeError<&'de [u8]>> {
+        Err(DeserializeError::UnsupportedType)
+    }
 }

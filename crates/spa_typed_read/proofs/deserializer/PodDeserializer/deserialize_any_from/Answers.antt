@@ -8,26 +8,9 @@ use Rattle.spa_typed_read.proofs.deserializer.PodDeserializer.deserialize_any_fr
 pub returns-in-Ok-clause-one : goal.returns-in-Ok-clause-one
 returns-in-Ok-clause-one c = only_value _ _ _ c.in-Ok.ensures.read.begins
 
-pub returns-in-Err-clause-refused : goal.returns-in-Err-clause-refused
-returns-in-Err-clause-refused c =
+pub returns-in-Err : goal.returns-in-Err
+returns-in-Err c =
     let e = c.in-Err.refused in
-    (subst (RefusesInput c.args.input.now) (sym c.error_at.ensures)
-    (refused_as _ e.place e.why (without_count _ _ _ _ c.in-Err.ensures.refused))).refused
-
-pub returns-in-Err-clause-named : goal.returns-in-Err-clause-named
-returns-in-Err-clause-named c =
-    let e = c.in-Err.refused in
-    (subst (RefusesInput c.args.input.now) (sym c.error_at.ensures)
-    (refused_as _ e.place e.why (without_count _ _ _ _ c.in-Err.ensures.refused))).named
-
-pub returns-in-Err-clause-short_first : goal.returns-in-Err-clause-short_first
-returns-in-Err-clause-short_first c =
-    let e = c.in-Err.refused in
-    (subst (RefusesInput c.args.input.now) (sym c.error_at.ensures)
-    (refused_as _ e.place e.why (without_count _ _ _ _ c.in-Err.ensures.refused))).short_first
-
-pub returns-in-Err-clause-memory : goal.returns-in-Err-clause-memory
-returns-in-Err-clause-memory c =
-    let e = c.in-Err.refused in
-    (subst (RefusesInput c.args.input.now) (sym c.error_at.ensures)
-    (refused_as _ e.place e.why (without_count _ _ _ _ c.in-Err.ensures.refused))).memory
+    let r = subst (RefusesInput c.args.input.now) (sym c.error_at.ensures)
+    (refused_as _ e.place e.why (without_count _ _ _ _ c.in-Err.ensures.refused)) in
+    record { value = tt; one = tt; rest = tt; refused = r.refused; named = r.named; short_first = r.short_first; memory = r.memory }

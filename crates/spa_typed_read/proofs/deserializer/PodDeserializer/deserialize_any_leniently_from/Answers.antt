@@ -9,22 +9,17 @@ returns-in-Ok-clause-one c = λ w h. only_conveyed _ _ w c.in-Ok.ensures.read.be
 pub returns-in-Ok-clause-same : goal.returns-in-Ok-clause-same
 returns-in-Ok-clause-same c = λ w h. only_conveyed _ _ w c.in-Ok.ensures.read.begins (conveys_pod _ w h)
 
-pub returns-in-Err-clause-refused : goal.returns-in-Err-clause-refused
-returns-in-Err-clause-refused c =
+pub returns-in-Err : goal.returns-in-Err
+returns-in-Err c =
     let e = c.in-Err.fault in
-    (subst (RefusesInput c.args.input.now) (sym c.error_at.ensures) (refused_as _ e.place e.why c.in-Err.ensures.refused)).refused
-
-pub returns-in-Err-clause-named : goal.returns-in-Err-clause-named
-returns-in-Err-clause-named c =
-    let e = c.in-Err.fault in
-    (subst (RefusesInput c.args.input.now) (sym c.error_at.ensures) (refused_as _ e.place e.why c.in-Err.ensures.refused)).named
-
-pub returns-in-Err-clause-short_first : goal.returns-in-Err-clause-short_first
-returns-in-Err-clause-short_first c =
-    let e = c.in-Err.fault in
-    (subst (RefusesInput c.args.input.now) (sym c.error_at.ensures) (refused_as _ e.place e.why c.in-Err.ensures.refused)).short_first
-
-pub returns-in-Err-clause-memory : goal.returns-in-Err-clause-memory
-returns-in-Err-clause-memory c =
-    let e = c.in-Err.fault in
-    (subst (RefusesInput c.args.input.now) (sym c.error_at.ensures) (refused_as _ e.place e.why c.in-Err.ensures.refused)).memory
+    let r = subst (RefusesInput c.args.input.now) (sym c.error_at.ensures) (refused_as _ e.place e.why c.in-Err.ensures.refused) in
+    record {
+      value = tt;
+      one = tt;
+      same = tt;
+      rest = tt;
+      refused = r.refused;
+      named = r.named;
+      short_first = r.short_first;
+      memory = r.memory;
+    }

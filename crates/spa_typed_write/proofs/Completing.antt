@@ -3,7 +3,7 @@ use Rattle.std.proofs.Common.{◌≡◌, ℕ, ◌+◌, ◌<◌, ◌≤◌, inl, 
 use Rattle.std.specs.Prelude.{drop, max}
 use Rattle.std.proofs.lemmas.List.{append-nil, take-append-drop}
 use Rattle.spa_sink.specs.declared.gen_error.GenError.{GenError}
-use Rattle.spa_sink.specs.declared.gen_error.GenError.TheVariants.{Full, TooLarge, NulInText, WrongCount, Failed, Io, OutOfMemory}
+use Rattle.spa_sink.specs.declared.gen_error.GenError.TheVariants.{TooLarge, NulInText}
 use Rattle.spa_sink.specs.Writing.{Begun, MayRefuse, RefusedFor, Sent, none_sent, some_sent}
 use Rattle.spa_format.specs.Words.{header_size, size_limit, word_bytes}
 use Rattle.spa_format.specs.Tree.{Tree, Trees, Properties, member, no_trees, no_properties, object, object_type, property, struct, struct_type}
@@ -108,13 +108,9 @@ lacks_deeper d d' le e r = (r.0, omega (arith, le, r.1))
 -- a refusal for other facts
 refused_to : (nul nul' large large' : Type 0) (d d' : ℕ) → (nul → nul') → (large → large') → d ≤ d' → (e : GenError) →
     RefusedFor nul large (LacksMemory d) e → RefusedFor nul' large' (LacksMemory d') e
-refused_to n n' l l' d d' f g le Full r = lacks_deeper d d' le Full r
 refused_to n n' l l' d d' f g le TooLarge r = g r
 refused_to n n' l l' d d' f g le NulInText r = f r
-refused_to n n' l l' d d' f g le WrongCount r = lacks_deeper d d' le WrongCount r
-refused_to n n' l l' d d' f g le Failed r = lacks_deeper d d' le Failed r
-refused_to n n' l l' d d' f g le Io r = lacks_deeper d d' le Io r
-refused_to n n' l l' d d' f g le OutOfMemory r = lacks_deeper d d' le OutOfMemory r
+refused_to n n' l l' d d' f g le e r = lacks_deeper d d' le e r
 
 -- of bytes that are a part of others
 pub bytes_refused : {S : Type 0} {refuses : Refusing S} (a b : S) (nul nul' large large' : Type 0) (d d' m n : ℕ) (e : GenError) →

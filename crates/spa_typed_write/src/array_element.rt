@@ -2,7 +2,8 @@
 ghost use Rattle.std.specs.Prelude.{map};
 ghost use Rattle.spa_format.specs.Tree as tree;
 
-use crate::exact::{SerializeAs, write_elements, write_number};
+use crate::exact::{SerializeAs, write_elements};
+use spa_bodies::put_number;
 use spa_fixed_sized::CanonicalFixedSizedPod;
 use spa_sink::{GenError, PodOutput};
 use spa_utils::{Fd, Float32, Float64, Fraction, Id, Rectangle};
@@ -36,7 +37,7 @@ impl<T: ArrayElement> SerializeAs for T {
 
     #[inline(always)]
     fn write_as<O: PodOutput>(&self, out: &mut O) -> Result<(), GenError> {
-        write_number(out, self)
+        put_number(out, self)
     }
 }
 

@@ -1,7 +1,8 @@
 //! Writes borrowed texts, bytes and bitmaps, and pointers.
 ghost use Rattle.spa_format.specs.Tree as tree;
 
-use crate::exact::{SerializeAs, write_bitmap, write_bytes, write_pointer, write_text};
+use crate::exact::{SerializeAs, write_bytes, write_text};
+use spa_bodies::{put_bitmap, put_pointer};
 use spa_sink::{GenError, PodOutput};
 use spa_value::Bitmap;
 
@@ -26,7 +27,7 @@ impl SerializeAs for Bitmap<'_> {
 
     fn write_as<O: PodOutput>(&self, out: &mut O) -> Result<(), GenError> {
         let Bitmap(bytes) = self;
-        write_bitmap(out, bytes)
+        put_bitmap(out, bytes)
     }
 }
 
@@ -35,6 +36,6 @@ impl SerializeAs for (u32, u64) {
 
     fn write_as<O: PodOutput>(&self, out: &mut O) -> Result<(), GenError> {
         let (type_, address) = *self;
-        write_pointer(out, type_, address)
+        put_pointer(out, type_, address)
     }
 }

@@ -1,6 +1,5 @@
 //! Types whose write is refused only where their value can't be written or the output refuses it.
 ghost use Rattle.std.specs.Prelude.{◌≡◌, ◌≤◌, IfErr, OnErr, OnOk, length, map};
-ghost use Rattle.spa_fixed_sized.specs.Choices.{choice_tree};
 ghost use Rattle.spa_format.specs.Tree as tree;
 ghost use Rattle.spa_format.specs.Tree.{Tree};
 ghost use Rattle.spa_value.specs.View.{view};
@@ -9,12 +8,9 @@ ghost use Rattle.spa_typed_write.specs.Complete.{IsWritten, KeepsBytes, RefusesV
 
 use crate::serializer::{PodSerialize, PodSerializer, SerializeSuccess};
 use crate::whole::written_since;
-use spa_bodies::{
-    put_alternatives, put_bitmap, put_bytes, put_elements, put_number, put_pointer, put_text,
-};
-use spa_fixed_sized::{CanonicalFixedSizedPod, ChoiceElement};
+use spa_bodies::{put_bytes, put_elements, put_text};
+use spa_fixed_sized::CanonicalFixedSizedPod;
 use spa_sink::{GenError, PodOutput};
-use spa_utils::Choice;
 use spa_value::Value;
 use spa_write::write_sized;
 
@@ -84,19 +80,6 @@ impl SerializeAs for Value {
     }
 }
 
-/// Appends the encoding of a value of a type of fixed size.
-#[inline(always)]
-pub(crate) fn write_number<T: CanonicalFixedSizedPod, O: PodOutput>(
-    out: &mut O,
-    value: &T,
-) -> Result<(), GenError>
-    ensures written { OnOk result (IsWritten O.content O.refuses out.old (tree.fixed (T.fixed value.now)) out.new) }
-    ensures refused { IfErr result (RefusesValue O.refuses out.old (tree.fixed (T.fixed value.now))) }
-    ensures keeps { OnErr result (KeepsBytes O.content out.old (IsPart (tree.fixed (T.fixed value.now))) out.new) }
-{
-    put_number(out, value)
-}
-
 /// Appends the encoding of an array of these elements.
 pub(crate) fn write_elements<T: CanonicalFixedSizedPod, O: PodOutput>(
     out: &mut O,
@@ -109,20 +92,6 @@ pub(crate) fn write_elements<T: CanonicalFixedSizedPod, O: PodOutput>(
         (IsPart (tree.array T.kind (map T.fixed values.now))) out.new) }
 {
     put_elements(out, values)
-}
-
-/// Appends the encoding of a choice over one type of fixed size.
-pub(crate) fn write_alternatives<T: ChoiceElement, O: PodOutput>(
-    out: &mut O,
-    choice: &Choice<T>,
-) -> Result<(), GenError>
-    ensures written { OnOk result (IsWritten O.content O.refuses out.old
-        (choice_tree T.kind T.fixed choice.now) out.new) }
-    ensures refused { IfErr result (RefusesValue O.refuses out.old (choice_tree T.kind T.fixed choice.now)) }
-    ensures keeps { OnErr result (KeepsBytes O.content out.old
-        (IsPart (choice_tree T.kind T.fixed choice.now)) out.new) }
-{
-    put_alternatives(out, choice)
 }
 
 /// Appends the encoding of a text.
@@ -141,26 +110,4 @@ pub(crate) fn write_bytes<O: PodOutput>(out: &mut O, bytes: &[u8]) -> Result<(),
     ensures keeps { OnErr result (KeepsBytes O.content out.old (IsPart (tree.bytes bytes.now)) out.new) }
 {
     put_bytes(out, bytes)
-}
-
-/// Appends the encoding of a bitmap.
-pub(crate) fn write_bitmap<O: PodOutput>(out: &mut O, bytes: &[u8]) -> Result<(), GenError>
-    ensures written { OnOk result (IsWritten O.content O.refuses out.old (tree.bitmap bytes.now) out.new) }
-    ensures refused { IfErr result (RefusesValue O.refuses out.old (tree.bitmap bytes.now)) }
-    ensures keeps { OnErr result (KeepsBytes O.content out.old (IsPart (tree.bitmap bytes.now)) out.new) }
-{
-    put_bitmap(out, bytes)
-}
-
-/// Appends the encoding of a pointer.
-pub(crate) fn write_pointer<O: PodOutput>(
-    out: &mut O,
-    type_: u32,
-    address: u64,
-) -> Result<(), GenError>
-    ensures written { OnOk result (IsWritten O.content O.refuses out.old (tree.pointer type_ address) out.new) }
-    ensures refused { IfErr result (RefusesValue O.refuses out.old (tree.pointer type_ address)) }
-    ensures keeps { OnErr result (KeepsBytes O.content out.old (IsPart (tree.pointer type_ address)) out.new) }
-{
-    put_pointer(out, type_, address)
 }

@@ -108,9 +108,6 @@ given_back : {X : Type 0} (f : X → X) → ((x : X) → f x ≡ x) → (xs : Li
 given_back f h [] = refl
 given_back f h (x ∷ xs) = ap (λ y. y ∷ map f xs) (h x) ∙ ap (λ l. x ∷ l) (given_back f h xs)
 
-array_elements : (k : Kind) (xs ys : List Fixed) → array k xs ≡ array k ys → xs ≡ ys
-array_elements k xs ys e = cc e
-
 -- what each of a list says
 abbrev pub says_all : {C X : Type 0} → (C → Fixed) → (X → C) → List X → List Fixed
 says_all fixed stands_for xs = map (λ x. fixed (stands_for x)) xs
@@ -123,8 +120,8 @@ comes_back k fixed stands_for made_of same input xs ys first last lawful b o t z
     let says = map (λ x. fixed (stands_for x)) xs in
     let one : array k (map fixed made.elements) ≡ array k says =
     sym made.value ∙ one_value (front_of input) all.value (array k says) all.begins.pod b.pod in
-    let same_elements = same_list fixed same made.elements (map stands_for xs)
-    (array_elements k (map fixed made.elements) says one ∙ sym (map_twice stands_for fixed xs)) in
+    let said : map fixed made.elements ≡ says = cc one in
+    let same_elements = same_list fixed same made.elements (map stands_for xs) (said ∙ sym (map_twice stands_for fixed xs)) in
     made.made ∙ ap (map made_of) same_elements ∙ map_twice stands_for made_of xs
     ∙ given_back (λ x. made_of (stands_for x)) lawful xs
 
@@ -141,16 +138,13 @@ no_units k fixed made_of input (y ∷ ys) first last z o t =
 
 -- Values that come back.
 
-fixed_content : (x y : Fixed) → tree.fixed x ≡ tree.fixed y → x ≡ y
-fixed_content x y e = cc e
-
 pub single_back : {C X : Type 0} (says : C → Fixed) (stands_for : X → C) (made_of : C → X) →
     ((c d : C) → says c ≡ says d → c ≡ d) → (input rest : List ℕ) (x : X) (c : C) → made_of (stands_for x) ≡ x →
     Begins input (single_tree says stands_for x) → IsRead input rest (λ v. v ≡ tree.fixed (says c)) → made_of c ≡ x
 single_back says stands_for made_of same input rest x c lawful b r =
     let one : tree.fixed (says c) ≡ tree.fixed (says (stands_for x)) =
     sym r.holds ∙ one_value (front_of input) r.value (single_tree says stands_for x) r.begins.pod b.pod in
-    ap made_of (same c (stands_for x) (fixed_content (says c) (says (stands_for x)) one)) ∙ lawful
+    ap made_of (same c (stands_for x) (cc one)) ∙ lawful
 
 pub single_begins : (x : Fixed) (rest : List ℕ) → IsTyped (tree.fixed x) → Begins (encoding_of (tree.fixed x) ++ rest) (tree.fixed x)
 single_begins x rest t = (encoding_begins (tree.fixed x) rest t (record { no_nul = λ n. n; fits = λ n. n })).1

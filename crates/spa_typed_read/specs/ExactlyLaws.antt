@@ -2,7 +2,7 @@
 use Rattle.std.specs.Prelude.{◌≡◌, ◌≢◌, ℕ, List, ⊤, refl}
 use Rattle.std.proofs.Common.{sym, ap, ◌∙◌, subst}
 use Rattle.std.specs.Borrow.{Bor}
-use Rattle.spa_format.specs.Tree.{Tree, fixed, string, bytes, bitmap, array, choice, pointer, struct, object, choice_type, type_of}
+use Rattle.spa_format.specs.Tree.{Tree, fixed, choice, choice_type, type_of}
 use Rattle.spa_format.specs.Front.{Begins, HasFront, IsRefused}
 use Rattle.spa_format.proofs.Refused as format
 use Rattle.spa_format.specs.Words.{word_at}
@@ -92,15 +92,8 @@ choice_asked k f v c h = of_values k f v c.0.0 c.1 h
 
 -- a value that is no choice stays itself when it is settled
 itself : (v : Tree) → type_of v ≢ choice_type → settled_of v ≡ v
-itself (fixed x) n = refl
-itself (string s) n = refl
-itself (bytes s) n = refl
-itself (bitmap s) n = refl
-itself (array k xs) n = refl
 itself (choice s f k x xs) n = absurd (n refl)
-itself (pointer t a) n = refl
-itself (struct vs) n = refl
-itself (object t i ps) n = refl
+itself _ n = refl
 
 -- where the front is no choice, a value that is read settled is of the kind
 of_its_kind : (k : Kind) (x : Fixed) (b : List ℕ) (v : Tree) → kind_of x ≡ k → ¬ (BeginsChoice b) → Begins b v → settled_of v ≡ fixed x →

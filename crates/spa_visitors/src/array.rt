@@ -1,10 +1,8 @@
 //! The visitor of arrays.
-ghost use Rattle.std.specs.Prelude.{◌≡◌, IfErr, IfOk};
+ghost use Rattle.std.specs.Prelude.{◌≡◌, ◌≢◌, IfNone, IfSome};
 ghost use Rattle.spa_typed_read.specs.declared.visitor.Visit.TheVariants as visit;
-ghost use Rattle.spa_visitors.specs.Declining.{DeclinesAll, DeclinesOthers};
 
-use spa_fixed_sized::DeserializeError;
-use spa_typed_read::{ObjectPodDeserializer, StructPodDeserializer, Visit, Visitor};
+use spa_typed_read::{VariantVisitor, Visit};
 use std::marker::PhantomData;
 
 /// Answers the elements that it is given.
@@ -21,53 +19,20 @@ impl<E> Default for VecVisitor<E> {
     }
 }
 
-impl<'de, E: Drop> Visitor<'de> for VecVisitor<E> {
-    type Value = Vec<E>;
+impl<'de, E: Drop> VariantVisitor<'de> for VecVisitor<E> {
+    type Made = Vec<E>;
 
-    type ArrayElem = E;
+    type Element = E;
 
-    ghost visits = { λ _ given x. given ≡ visit.Array x };
+    ghost handed = { λ items. visit.Array items };
 
-    ghost visits_struct = { λ _ _ _. ⊥ };
-
-    ghost visits_object = { λ _ _ _ _ _. ⊥ };
-
-    ghost declines = { λ _ given e. DeclinesOthers visit.Array given e };
-
-    ghost declines_struct = { λ _ lent now e. DeclinesAll lent now e };
-
-    ghost leaves_struct = { λ _ _ _. ⊥ };
-
-    ghost declines_object = { λ _ lent now e. DeclinesAll lent now e };
-
-    ghost leaves_object = { λ _ _ _. ⊥ };
-
-    fn visit(&self, given: Visit<'de, E>) -> Result<Vec<E>, DeserializeError<&'de [u8]>>
-        ensures made { IfOk result (λ x. given.entry ≡ visit.Array x) }
-        ensures declined { IfErr result (DeclinesOthers visit.Array given.entry) }
+    fn of_visit(given: Visit<'de, E>) -> Option<Vec<E>>
+        ensures there { IfSome result (λ items. given.entry ≡ visit.Array items) }
+        ensures other { IfNone result ((items : _) → given.entry ≢ visit.Array items) }
     {
         match given {
-            Visit::Array(items) => Ok(items),
-            other => {
-                drop(other);
-                Err(DeserializeError::UnsupportedType)
-            }
+            Visit::Array(items) => Some(items),
+            _ => None,
         }
-    }
-
-    #[tactic(auto, using(spa_typed_read::proofs::Stepping::further_same))]
-    fn visit_struct(
-        &self,
-        _reader: &mut StructPodDeserializer<'de>,
-    ) -> Result<Vec<E>, DeserializeError<&'de [u8]>> {
-        Err(DeserializeError::UnsupportedType)
-    }
-
-    #[tactic(auto, using(spa_typed_read::proofs::Stepping::further_in_same))]
-    fn visit_object(
-        &self,
-        _reader: &mut ObjectPodDeserializer<'de>,
-    ) -> Result<Vec<E>, DeserializeError<&'de [u8]>> {
-        Err(DeserializeError::UnsupportedType)
     }
 }

@@ -1,63 +1,28 @@
 //! Visitors of texts, bytes, bitmaps and pointers.
-ghost use Rattle.std.specs.Prelude.{◌≡◌, ℕ, IfErr, IfOk};
+ghost use Rattle.std.specs.Prelude.{◌≡◌, ◌≢◌, ℕ, IfNone, IfSome};
 ghost use Rattle.spa_typed_read.specs.declared.visitor.Visit.TheVariants as visit;
-ghost use Rattle.spa_visitors.specs.Declining.{DeclinesAll, DeclinesOthers};
 
-use spa_fixed_sized::DeserializeError;
-use spa_typed_read::{Never, ObjectPodDeserializer, StructPodDeserializer, Visit, Visitor};
+use spa_typed_read::{Never, VariantVisitor, Visit};
 
 /// Answers the text that it is given, borrowed from the input.
 #[derive(Drop)]
 pub struct StringVisitor;
 
-impl<'de> Visitor<'de> for StringVisitor {
-    type Value = &'de str;
+impl<'de> VariantVisitor<'de> for StringVisitor {
+    type Made = &'de str;
 
-    type ArrayElem = Never;
+    type Element = Never;
 
-    ghost visits = { λ _ given x. given ≡ visit.String x };
+    ghost handed = { λ x. visit.String x };
 
-    ghost visits_struct = { λ _ _ _. ⊥ };
-
-    ghost visits_object = { λ _ _ _ _ _. ⊥ };
-
-    ghost declines = { λ _ given e. DeclinesOthers visit.String given e };
-
-    ghost declines_struct = { λ _ lent now e. DeclinesAll lent now e };
-
-    ghost leaves_struct = { λ _ _ _. ⊥ };
-
-    ghost declines_object = { λ _ lent now e. DeclinesAll lent now e };
-
-    ghost leaves_object = { λ _ _ _. ⊥ };
-
-    fn visit(&self, given: Visit<'de, Never>) -> Result<&'de str, DeserializeError<&'de [u8]>>
-        ensures made { IfOk result (λ x. given.entry ≡ visit.String x) }
-        ensures declined { IfErr result (DeclinesOthers visit.String given.entry) }
+    fn of_visit(given: Visit<'de, Never>) -> Option<&'de str>
+        ensures there { IfSome result (λ x. given.entry ≡ visit.String x) }
+        ensures other { IfNone result ((x : _) → given.entry ≢ visit.String x) }
     {
         match given {
-            Visit::String(x) => Ok(x),
-            other => {
-                drop(other);
-                Err(DeserializeError::UnsupportedType)
-            }
+            Visit::String(x) => Some(x),
+            _ => None,
         }
-    }
-
-    #[tactic(auto, using(spa_typed_read::proofs::Stepping::further_same))]
-    fn visit_struct(
-        &self,
-        _reader: &mut StructPodDeserializer<'de>,
-    ) -> Result<&'de str, DeserializeError<&'de [u8]>> {
-        Err(DeserializeError::UnsupportedType)
-    }
-
-    #[tactic(auto, using(spa_typed_read::proofs::Stepping::further_in_same))]
-    fn visit_object(
-        &self,
-        _reader: &mut ObjectPodDeserializer<'de>,
-    ) -> Result<&'de str, DeserializeError<&'de [u8]>> {
-        Err(DeserializeError::UnsupportedType)
     }
 }
 
@@ -65,54 +30,21 @@ impl<'de> Visitor<'de> for StringVisitor {
 #[derive(Drop)]
 pub struct BytesVisitor;
 
-impl<'de> Visitor<'de> for BytesVisitor {
-    type Value = &'de [u8];
+impl<'de> VariantVisitor<'de> for BytesVisitor {
+    type Made = &'de [u8];
 
-    type ArrayElem = Never;
+    type Element = Never;
 
-    ghost visits = { λ _ given x. given ≡ visit.Bytes x };
+    ghost handed = { λ x. visit.Bytes x };
 
-    ghost visits_struct = { λ _ _ _. ⊥ };
-
-    ghost visits_object = { λ _ _ _ _ _. ⊥ };
-
-    ghost declines = { λ _ given e. DeclinesOthers visit.Bytes given e };
-
-    ghost declines_struct = { λ _ lent now e. DeclinesAll lent now e };
-
-    ghost leaves_struct = { λ _ _ _. ⊥ };
-
-    ghost declines_object = { λ _ lent now e. DeclinesAll lent now e };
-
-    ghost leaves_object = { λ _ _ _. ⊥ };
-
-    fn visit(&self, given: Visit<'de, Never>) -> Result<&'de [u8], DeserializeError<&'de [u8]>>
-        ensures made { IfOk result (λ x. given.entry ≡ visit.Bytes x) }
-        ensures declined { IfErr result (DeclinesOthers visit.Bytes given.entry) }
+    fn of_visit(given: Visit<'de, Never>) -> Option<&'de [u8]>
+        ensures there { IfSome result (λ x. given.entry ≡ visit.Bytes x) }
+        ensures other { IfNone result ((x : _) → given.entry ≢ visit.Bytes x) }
     {
         match given {
-            Visit::Bytes(x) => Ok(x),
-            other => {
-                drop(other);
-                Err(DeserializeError::UnsupportedType)
-            }
+            Visit::Bytes(x) => Some(x),
+            _ => None,
         }
-    }
-
-    #[tactic(auto, using(spa_typed_read::proofs::Stepping::further_same))]
-    fn visit_struct(
-        &self,
-        _reader: &mut StructPodDeserializer<'de>,
-    ) -> Result<&'de [u8], DeserializeError<&'de [u8]>> {
-        Err(DeserializeError::UnsupportedType)
-    }
-
-    #[tactic(auto, using(spa_typed_read::proofs::Stepping::further_in_same))]
-    fn visit_object(
-        &self,
-        _reader: &mut ObjectPodDeserializer<'de>,
-    ) -> Result<&'de [u8], DeserializeError<&'de [u8]>> {
-        Err(DeserializeError::UnsupportedType)
     }
 }
 
@@ -120,54 +52,21 @@ impl<'de> Visitor<'de> for BytesVisitor {
 #[derive(Drop)]
 pub struct BitmapVisitor;
 
-impl<'de> Visitor<'de> for BitmapVisitor {
-    type Value = &'de [u8];
+impl<'de> VariantVisitor<'de> for BitmapVisitor {
+    type Made = &'de [u8];
 
-    type ArrayElem = Never;
+    type Element = Never;
 
-    ghost visits = { λ _ given x. given ≡ visit.Bitmap x };
+    ghost handed = { λ x. visit.Bitmap x };
 
-    ghost visits_struct = { λ _ _ _. ⊥ };
-
-    ghost visits_object = { λ _ _ _ _ _. ⊥ };
-
-    ghost declines = { λ _ given e. DeclinesOthers visit.Bitmap given e };
-
-    ghost declines_struct = { λ _ lent now e. DeclinesAll lent now e };
-
-    ghost leaves_struct = { λ _ _ _. ⊥ };
-
-    ghost declines_object = { λ _ lent now e. DeclinesAll lent now e };
-
-    ghost leaves_object = { λ _ _ _. ⊥ };
-
-    fn visit(&self, given: Visit<'de, Never>) -> Result<&'de [u8], DeserializeError<&'de [u8]>>
-        ensures made { IfOk result (λ x. given.entry ≡ visit.Bitmap x) }
-        ensures declined { IfErr result (DeclinesOthers visit.Bitmap given.entry) }
+    fn of_visit(given: Visit<'de, Never>) -> Option<&'de [u8]>
+        ensures there { IfSome result (λ x. given.entry ≡ visit.Bitmap x) }
+        ensures other { IfNone result ((x : _) → given.entry ≢ visit.Bitmap x) }
     {
         match given {
-            Visit::Bitmap(x) => Ok(x),
-            other => {
-                drop(other);
-                Err(DeserializeError::UnsupportedType)
-            }
+            Visit::Bitmap(x) => Some(x),
+            _ => None,
         }
-    }
-
-    #[tactic(auto, using(spa_typed_read::proofs::Stepping::further_same))]
-    fn visit_struct(
-        &self,
-        _reader: &mut StructPodDeserializer<'de>,
-    ) -> Result<&'de [u8], DeserializeError<&'de [u8]>> {
-        Err(DeserializeError::UnsupportedType)
-    }
-
-    #[tactic(auto, using(spa_typed_read::proofs::Stepping::further_in_same))]
-    fn visit_object(
-        &self,
-        _reader: &mut ObjectPodDeserializer<'de>,
-    ) -> Result<&'de [u8], DeserializeError<&'de [u8]>> {
-        Err(DeserializeError::UnsupportedType)
     }
 }
 
@@ -175,53 +74,20 @@ impl<'de> Visitor<'de> for BitmapVisitor {
 #[derive(Default, Drop)]
 pub struct PointerVisitor;
 
-impl<'de> Visitor<'de> for PointerVisitor {
-    type Value = (u32, u64);
+impl<'de> VariantVisitor<'de> for PointerVisitor {
+    type Made = (u32, u64);
 
-    type ArrayElem = Never;
+    type Element = Never;
 
-    ghost visits = { λ _ given x. given ≡ visit.Pointer x.0 x.1 };
+    ghost handed = { λ x. visit.Pointer x.0 x.1 };
 
-    ghost visits_struct = { λ _ _ _. ⊥ };
-
-    ghost visits_object = { λ _ _ _ _ _. ⊥ };
-
-    ghost declines = { λ _ given e. DeclinesOthers (λ (x : ℕ × ℕ). visit.Pointer x.0 x.1) given e };
-
-    ghost declines_struct = { λ _ lent now e. DeclinesAll lent now e };
-
-    ghost leaves_struct = { λ _ _ _. ⊥ };
-
-    ghost declines_object = { λ _ lent now e. DeclinesAll lent now e };
-
-    ghost leaves_object = { λ _ _ _. ⊥ };
-
-    fn visit(&self, given: Visit<'de, Never>) -> Result<(u32, u64), DeserializeError<&'de [u8]>>
-        ensures made { IfOk result (λ x. given.entry ≡ visit.Pointer x.0 x.1) }
-        ensures declined { IfErr result (DeclinesOthers (λ (x : ℕ × ℕ). visit.Pointer x.0 x.1) given.entry) }
+    fn of_visit(given: Visit<'de, Never>) -> Option<(u32, u64)>
+        ensures there { IfSome result (λ x. given.entry ≡ visit.Pointer x.0 x.1) }
+        ensures other { IfNone result ((x : ℕ × ℕ) → given.entry ≢ visit.Pointer x.0 x.1) }
     {
         match given {
-            Visit::Pointer(type_, address) => Ok((type_, address)),
-            other => {
-                drop(other);
-                Err(DeserializeError::UnsupportedType)
-            }
+            Visit::Pointer(type_, address) => Some((type_, address)),
+            _ => None,
         }
-    }
-
-    #[tactic(auto, using(spa_typed_read::proofs::Stepping::further_same))]
-    fn visit_struct(
-        &self,
-        _reader: &mut StructPodDeserializer<'de>,
-    ) -> Result<(u32, u64), DeserializeError<&'de [u8]>> {
-        Err(DeserializeError::UnsupportedType)
-    }
-
-    #[tactic(auto, using(spa_typed_read::proofs::Stepping::further_in_same))]
-    fn visit_object(
-        &self,
-        _reader: &mut ObjectPodDeserializer<'de>,
-    ) -> Result<(u32, u64), DeserializeError<&'de [u8]>> {
-        Err(DeserializeError::UnsupportedType)
     }
 }

@@ -14,10 +14,7 @@ impl Handed for Choice<bool> {
     fn of_visit(given: Visit<'_, Never>) -> Option<Choice<bool>> {
         match given {
             Visit::Choice(ChoiceValue::Bool(x)) => Some(x),
-            other => {
-                drop(other);
-                None
-            }
+            _ => None,
         }
     }
 }
@@ -28,10 +25,7 @@ impl Handed for Choice<i32> {
     fn of_visit(given: Visit<'_, Never>) -> Option<Choice<i32>> {
         match given {
             Visit::Choice(ChoiceValue::Int(x)) => Some(x),
-            other => {
-                drop(other);
-                None
-            }
+            _ => None,
         }
     }
 }
@@ -42,10 +36,7 @@ impl Handed for Choice<i64> {
     fn of_visit(given: Visit<'_, Never>) -> Option<Choice<i64>> {
         match given {
             Visit::Choice(ChoiceValue::Long(x)) => Some(x),
-            other => {
-                drop(other);
-                None
-            }
+            _ => None,
         }
     }
 }
@@ -56,10 +47,7 @@ impl Handed for Choice<Float32> {
     fn of_visit(given: Visit<'_, Never>) -> Option<Choice<Float32>> {
         match given {
             Visit::Choice(ChoiceValue::Float(x)) => Some(x),
-            other => {
-                drop(other);
-                None
-            }
+            _ => None,
         }
     }
 }
@@ -70,10 +58,7 @@ impl Handed for Choice<Float64> {
     fn of_visit(given: Visit<'_, Never>) -> Option<Choice<Float64>> {
         match given {
             Visit::Choice(ChoiceValue::Double(x)) => Some(x),
-            other => {
-                drop(other);
-                None
-            }
+            _ => None,
         }
     }
 }
@@ -84,10 +69,7 @@ impl Handed for Choice<Id> {
     fn of_visit(given: Visit<'_, Never>) -> Option<Choice<Id>> {
         match given {
             Visit::Choice(ChoiceValue::Id(x)) => Some(x),
-            other => {
-                drop(other);
-                None
-            }
+            _ => None,
         }
     }
 }
@@ -98,10 +80,7 @@ impl Handed for Choice<Rectangle> {
     fn of_visit(given: Visit<'_, Never>) -> Option<Choice<Rectangle>> {
         match given {
             Visit::Choice(ChoiceValue::Rectangle(x)) => Some(x),
-            other => {
-                drop(other);
-                None
-            }
+            _ => None,
         }
     }
 }
@@ -112,10 +91,7 @@ impl Handed for Choice<Fraction> {
     fn of_visit(given: Visit<'_, Never>) -> Option<Choice<Fraction>> {
         match given {
             Visit::Choice(ChoiceValue::Fraction(x)) => Some(x),
-            other => {
-                drop(other);
-                None
-            }
+            _ => None,
         }
     }
 }
@@ -126,10 +102,7 @@ impl Handed for Choice<Fd> {
     fn of_visit(given: Visit<'_, Never>) -> Option<Choice<Fd>> {
         match given {
             Visit::Choice(ChoiceValue::Fd(x)) => Some(x),
-            other => {
-                drop(other);
-                None
-            }
+            _ => None,
         }
     }
 }

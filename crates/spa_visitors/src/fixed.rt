@@ -12,10 +12,7 @@ impl Handed for () {
     fn of_visit(given: Visit<'_, Never>) -> Option<()> {
         match given {
             Visit::None => Some(()),
-            other => {
-                drop(other);
-                None
-            }
+            _ => None,
         }
     }
 }
@@ -26,10 +23,7 @@ impl Handed for bool {
     fn of_visit(given: Visit<'_, Never>) -> Option<bool> {
         match given {
             Visit::Bool(x) => Some(x),
-            other => {
-                drop(other);
-                None
-            }
+            _ => None,
         }
     }
 }
@@ -40,10 +34,7 @@ impl Handed for i32 {
     fn of_visit(given: Visit<'_, Never>) -> Option<i32> {
         match given {
             Visit::Int(x) => Some(x),
-            other => {
-                drop(other);
-                None
-            }
+            _ => None,
         }
     }
 }
@@ -54,10 +45,7 @@ impl Handed for i64 {
     fn of_visit(given: Visit<'_, Never>) -> Option<i64> {
         match given {
             Visit::Long(x) => Some(x),
-            other => {
-                drop(other);
-                None
-            }
+            _ => None,
         }
     }
 }
@@ -68,10 +56,7 @@ impl Handed for Float32 {
     fn of_visit(given: Visit<'_, Never>) -> Option<Float32> {
         match given {
             Visit::Float(x) => Some(x),
-            other => {
-                drop(other);
-                None
-            }
+            _ => None,
         }
     }
 }
@@ -82,10 +67,7 @@ impl Handed for Float64 {
     fn of_visit(given: Visit<'_, Never>) -> Option<Float64> {
         match given {
             Visit::Double(x) => Some(x),
-            other => {
-                drop(other);
-                None
-            }
+            _ => None,
         }
     }
 }
@@ -96,10 +78,7 @@ impl Handed for Rectangle {
     fn of_visit(given: Visit<'_, Never>) -> Option<Rectangle> {
         match given {
             Visit::Rectangle(x) => Some(x),
-            other => {
-                drop(other);
-                None
-            }
+            _ => None,
         }
     }
 }
@@ -110,10 +89,7 @@ impl Handed for Fraction {
     fn of_visit(given: Visit<'_, Never>) -> Option<Fraction> {
         match given {
             Visit::Fraction(x) => Some(x),
-            other => {
-                drop(other);
-                None
-            }
+            _ => None,
         }
     }
 }
@@ -124,10 +100,7 @@ impl Handed for Id {
     fn of_visit(given: Visit<'_, Never>) -> Option<Id> {
         match given {
             Visit::Id(x) => Some(x),
-            other => {
-                drop(other);
-                None
-            }
+            _ => None,
         }
     }
 }
@@ -138,10 +111,7 @@ impl Handed for Fd {
     fn of_visit(given: Visit<'_, Never>) -> Option<Fd> {
         match given {
             Visit::Fd(x) => Some(x),
-            other => {
-                drop(other);
-                None
-            }
+            _ => None,
         }
     }
 }

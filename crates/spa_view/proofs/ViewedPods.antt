@@ -7,7 +7,7 @@ use Rattle.std.proofs.lemmas.List.Sums.{take_while-cons}
 use Rattle.std.specs.List.{take_while}
 use Rattle.spa_format.specs.Words.{word_at, body_of}
 use Rattle.spa_format.specs.Kind.{Kind, Fixed, kind_of, content}
-use Rattle.spa_format.specs.Tree.{Shape, Trees, Properties, fixed, string, bytes, bitmap, array, choice, pointer, struct, object}
+use Rattle.spa_format.specs.Tree.{Shape, Trees, Properties, fixed, string, bytes, array, choice, pointer, struct, object}
 use Rattle.spa_format.specs.Pod.{IsPod}
 use Rattle.spa_format.proofs.Short.{length_of_body}
 use Rattle.spa_view.specs.Tests as t
@@ -45,12 +45,6 @@ bytes_test b s h = h.its_type
 
 pub bytes_value : (b s : List ℕ) → IsPod b (bytes s) → body_of b ≡ s
 bytes_value b s h = h.content
-
-pub bitmap_test : (b s : List ℕ) → IsPod b (bitmap s) → t.IsBitmapPod b
-bitmap_test b s h = h.its_type
-
-pub bitmap_value : (b s : List ℕ) → IsPod b (bitmap s) → body_of b ≡ s
-bitmap_value b s h = h.content
 
 pub pointer_test : (b : List ℕ) (type a : ℕ) → IsPod b (pointer type a) → t.IsPointerPod b
 pointer_test b type a h =

@@ -1,8 +1,5 @@
 use Rattle.spa_view.proofs.ViewedPods as lemmas
 use Rattle.spa_view.proofs.laws.bytes_are_read.Goals as goal
 
-pub returns-clause-test : goal.returns-clause-test
-returns-clause-test c = lemmas.bytes_test
-
-pub returns-clause-value : goal.returns-clause-value
-returns-clause-value c = lemmas.bytes_value
+pub returns : goal.returns
+returns c = record { test = lemmas.bytes_test; value = lemmas.bytes_value }

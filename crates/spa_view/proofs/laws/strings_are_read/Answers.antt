@@ -1,8 +1,5 @@
 use Rattle.spa_view.proofs.ViewedPods as lemmas
 use Rattle.spa_view.proofs.laws.strings_are_read.Goals as goal
 
-pub returns-clause-test : goal.returns-clause-test
-returns-clause-test c = lemmas.string_test
-
-pub returns-clause-value : goal.returns-clause-value
-returns-clause-value c = lemmas.string_value
+pub returns : goal.returns
+returns c = record { test = lemmas.string_test; value = lemmas.string_value }

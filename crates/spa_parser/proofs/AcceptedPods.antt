@@ -8,7 +8,7 @@ use Rattle.spa_format.specs.Pod.{IsPod, AreMembers}
 use Rattle.spa_format.specs.Front.{HasFront, front_of, Begins}
 use Rattle.spa_format.proofs.Fronts.{front_of_whole}
 use Rattle.spa_view.specs.Tests as t
-use Rattle.spa_view.proofs.ViewedPods as views
+use Rattle.spa_view.proofs.ViewedPods.{bytes_test, bytes_value, fixed_test, fixed_value, object_id, object_test, object_type, pointer_address, pointer_test, pointer_type, string_test, string_value, struct_test}
 use Rattle.spa_parser.specs.State.{ParserState, next_pod, state_behind}
 use Rattle.spa_parser.specs.Steps.{IsTextPod, NextIs, HoldsMembers}
 use Rattle.spa_parser.proofs.NextPods.{next_of-there, next_of-end}
@@ -19,63 +19,14 @@ next_is_there s v e h = subst (λ o. IsSomeAnd o (λ pod. IsPod pod v)) e h
 pub next_is : (s : ParserState) (pod : List ℕ) (v : Tree) → next_pod s ≡ Some pod → NextIs v s → IsPod pod v
 next_is s pod v e h = subst (λ o. IsSomeAnd o (λ p. IsPod p v)) e h
 
-pub fixed_passes : (s : ParserState) (pod : List ℕ) (x : Fixed) → next_pod s ≡ Some pod → NextIs (fixed x) s →
-    t.IsOfKind (kind_of x) pod
-fixed_passes s pod x e h = views.fixed_test pod x (next_is s pod (fixed x) e h)
-
-pub fixed_is : (s : ParserState) (pod : List ℕ) (x : Fixed) → next_pod s ≡ Some pod → NextIs (fixed x) s →
-    content (kind_of x) (body_of pod) ≡ x
-fixed_is s pod x e h = views.fixed_value pod x (next_is s pod (fixed x) e h)
-
-pub string_passes : (s : ParserState) (pod b : List ℕ) → next_pod s ≡ Some pod → NextIs (string b) s → t.IsNulEnded pod
-string_passes s pod b e h = views.string_test pod b (next_is s pod (string b) e h)
-
-pub string_is : (s : ParserState) (pod b : List ℕ) → next_pod s ≡ Some pod → NextIs (string b) s →
-    t.before_nul (body_of pod) ≡ b
-string_is s pod b e h = views.string_value pod b (next_is s pod (string b) e h)
-
 pub string_is_text : (s : ParserState) (pod b : List ℕ) → next_pod s ≡ Some pod → NextIs (string b) s →
     IsTextPod pod
 string_is_text s pod b e h = let p = next_is s pod (string b) e h in let c = p.content in
-    (string_passes s pod b e h, subst IsUtf8 (sym (string_is s pod b e h)) c.0.utf8)
-
-pub bytes_pass : (s : ParserState) (pod b : List ℕ) → next_pod s ≡ Some pod → NextIs (bytes b) s → t.IsBytesPod pod
-bytes_pass s pod b e h = views.bytes_test pod b (next_is s pod (bytes b) e h)
-
-pub bytes_are : (s : ParserState) (pod b : List ℕ) → next_pod s ≡ Some pod → NextIs (bytes b) s → body_of pod ≡ b
-bytes_are s pod b e h = views.bytes_value pod b (next_is s pod (bytes b) e h)
-
-pub pointer_passes : (s : ParserState) (pod : List ℕ) (type a : ℕ) → next_pod s ≡ Some pod → NextIs (pointer type a) s →
-    t.IsPointerPod pod
-pointer_passes s pod type a e h = views.pointer_test pod type a (next_is s pod (pointer type a) e h)
-
-pub pointer_type_is : (s : ParserState) (pod : List ℕ) (type a : ℕ) → next_pod s ≡ Some pod → NextIs (pointer type a) s →
-    word_at (body_of pod) 0 ≡ type
-pointer_type_is s pod type a e h = views.pointer_type pod type a (next_is s pod (pointer type a) e h)
-
-pub address_is : (s : ParserState) (pod : List ℕ) (type a c : ℕ) → next_pod s ≡ Some pod → NextIs (pointer type a) s →
-    t.IsAddress c pod → c ≡ a
-address_is s pod type a c e h = views.pointer_address pod type a c (next_is s pod (pointer type a) e h)
-
-pub struct_passes : (s : ParserState) (pod : List ℕ) (vs : Trees) → next_pod s ≡ Some pod → NextIs (struct vs) s →
-    t.IsStructPod pod
-struct_passes s pod vs e h = views.struct_test pod vs (next_is s pod (struct vs) e h)
+    (string_test pod b p, subst IsUtf8 (sym (string_value pod b p)) c.0.utf8)
 
 pub struct_holds : (s : ParserState) (pod : List ℕ) (vs : Trees) → next_pod s ≡ Some pod → NextIs (struct vs) s →
     AreMembers vs (body_of pod)
 struct_holds s pod vs e h = let p = next_is s pod (struct vs) e h in p.content
-
-pub object_passes : (s : ParserState) (pod : List ℕ) (type id : ℕ) (ps : Properties) → next_pod s ≡ Some pod →
-    NextIs (object type id ps) s → t.IsObjectPod pod
-object_passes s pod type id ps e h = views.object_test pod type id ps (next_is s pod (object type id ps) e h)
-
-pub object_type_is : (s : ParserState) (pod : List ℕ) (type id : ℕ) (ps : Properties) → next_pod s ≡ Some pod →
-    NextIs (object type id ps) s → word_at (body_of pod) 0 ≡ type
-object_type_is s pod type id ps e h = views.object_type pod type id ps (next_is s pod (object type id ps) e h)
-
-pub object_id_is : (s : ParserState) (pod : List ℕ) (type id : ℕ) (ps : Properties) → next_pod s ≡ Some pod →
-    NextIs (object type id ps) s → word_at (body_of pod) 4 ≡ id
-object_id_is s pod type id ps e h = views.object_id pod type id ps (next_is s pod (object type id ps) e h)
 
 -- the front of what is innermost is the next pod
 pub front_is_next : (s : ParserState) (v : Tree) → s.innermost.of_object ≡ false → Begins s.innermost.bytes v → NextIs v s
@@ -100,31 +51,32 @@ none_is_left s h =
     next_of-end s.innermost h.0 (λ (f : HasFront s.innermost.bytes). let l = f.header in absurd (omega arith))
 
 -- what a get of a value of fixed size finds
-pub ruleset accepted_fixed = (next_is_there, fixed_passes, fixed_is)
+pub ruleset accepted_fixed = (next_is_there, next_is, fixed_test, fixed_value)
 
 -- what the other gets find
 pub ruleset accepted_others = (
   next_is_there,
   next_is,
-  string_passes,
-  string_is,
+  string_test,
+  string_value,
   string_is_text,
-  bytes_pass,
-  bytes_are,
-  pointer_passes,
-  pointer_type_is,
-  address_is,
-  object_passes,
-  object_type_is,
+  bytes_test,
+  bytes_value,
+  pointer_test,
+  pointer_type,
+  pointer_address,
+  object_test,
+  object_type,
 )
 
 -- what a parser begins with, and what its pushes find
 pub ruleset accepted_parts = (
   next_is_there,
+  next_is,
   front_is_next,
-  struct_passes,
+  struct_test,
   struct_holds,
-  object_passes,
-  object_type_is,
-  object_id_is,
+  object_test,
+  object_type,
+  object_id,
 )

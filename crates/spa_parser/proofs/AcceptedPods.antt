@@ -1,13 +1,11 @@
 -- What the calls of a parser find where the next pod is accepted.
 use Rattle.std.proofs.Common.{◌≡◌, ℕ, List, Some, None, length, refl, sym, ap, subst, arith}
 use Rattle.std.specs.Prelude.{IsSomeAnd, IsUtf8, false}
-use Rattle.spa_format.specs.Words.{word_at, body_of}
-use Rattle.spa_format.specs.Kind.{Fixed, kind_of, content}
-use Rattle.spa_format.specs.Tree.{Tree, Trees, no_trees, member, Properties, fixed, string, bytes, pointer, struct, object}
+use Rattle.spa_format.specs.Words.{body_of}
+use Rattle.spa_format.specs.Tree.{Tree, Trees, no_trees, member, string, bytes, struct}
 use Rattle.spa_format.specs.Pod.{IsPod, AreMembers}
 use Rattle.spa_format.specs.Front.{HasFront, front_of, Begins}
 use Rattle.spa_format.proofs.Fronts.{front_of_whole}
-use Rattle.spa_view.specs.Tests as t
 use Rattle.spa_view.proofs.ViewedPods.{bytes_test, bytes_value, fixed_test, fixed_value, object_id, object_test, object_type, pointer_address, pointer_test, pointer_type, string_test, string_value, struct_test}
 use Rattle.spa_parser.specs.State.{ParserState, next_pod, state_behind}
 use Rattle.spa_parser.specs.Steps.{IsTextPod, NextIs, HoldsMembers}

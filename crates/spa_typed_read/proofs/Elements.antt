@@ -1,6 +1,6 @@
 -- What is taken of an array, element by element.
 use Rattle.std.proofs.Common.{◌≡◌, ℕ, ◌*◌, ◌<◌, List, [], ◌∷◌, ◌++◌, length, map, refl, sym, subst, ◌∙◌, ap, arith, length-drop}
-use Rattle.spa_format.specs.Kind.{Kind, Fixed, body_size, none_kind, bool_kind, id_kind, int_kind, long_kind, float_kind, double_kind, rectangle_kind, fraction_kind, fd_kind}
+use Rattle.spa_format.specs.Kind.{Kind, Fixed, body_size, none_kind}
 use Rattle.spa_format.specs.Tree.{array, array_type}
 use Rattle.spa_format.specs.Tree as tree
 use Rattle.spa_format.specs.Pod.{AreElements, IsArray}

@@ -4,6 +4,8 @@ use Rattle.std.specs.Prelude.{if◌then◌else◌, nat_eq}
 use Rattle.std.proofs.lemmas.Bool.{cases_lt}
 use Rattle.std.proofs.lemmas.Bool.Decides.{leb_tells}
 use Rattle.std.proofs.lemmas.List.{drop-append-le, drop-drop, drop-take, drop_at, drop_all, length-take-le, take-append-drop, take-append-le, take_all, take_at}
+use Rattle.spa_events.specs.Inside.{OpensFirst, key_size}
+use Rattle.spa_events.proofs.Firsts.{behind_word}
 use Rattle.spa_format.specs.Fixation.{walk_size}
 use Rattle.spa_format.specs.Front.{HasFront, rest_of}
 use Rattle.spa_format.specs.Tree.{object_type, struct_type}
@@ -23,6 +25,19 @@ behind_next k b h =
     ap (λ ps. drop (walk_size ps) b) (walk_behind-there k b h)
     ∙ ap (λ m. drop (m + walk_size (walk_behind k (drop n b))) b) t
     ∙ sym (drop-drop (walk_size (walk_behind k (drop n b))) n b)
+
+-- the first pod is there, and is passed
+pub first_passed : (keyed : Bool) (b body rest : List ℕ) (type : ℕ) → OpensFirst keyed b type body rest →
+    let k = key_size keyed in (extent_behind k b ≤ length b) × (rest ≡ drop (extent_behind k b) b)
+first_passed keyed b body rest type o =
+    let k = key_size keyed in
+    let key = o.key in
+    let whole = o.opens.there.whole in
+    let d = length-drop k b in
+    let s = ap extent (behind_word k b) in (
+      omega (arith, key, whole, d, s),
+      o.opens.its_rest ∙ drop-drop (extent (word_at (drop k b) 0)) k b ∙ ap (λ n. drop (k + n) b) s,
+    )
 
 pub behind_last : (k : ℕ) (b : List ℕ) → length b < extent_behind k b → behind_whole k b ≡ b
 behind_last k b h = ap (λ ps. drop (walk_size ps) b) (walk_behind-end k b h)

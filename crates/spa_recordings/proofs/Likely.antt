@@ -1,15 +1,17 @@
 -- Where pods plausibly begin.
 use Rattle.std.proofs.Common.{◌≡◌, ◌≢◌, ◌∙◌, ◌+◌, ◌%◌, ◌<◌, ◌≤◌, suc, zero, ℕ, Bool, true, false, true≢false, List, [], ◌∷◌, ap, arith, drop, inl, inr, length, length-drop, length-take, refl, subst, sym, take}
-use Rattle.std.specs.Prelude.{Decides, if◌then◌else◌}
+use Rattle.std.specs.Prelude.{Decides, if◌then◌else◌, nat_eq}
 use Rattle.std.proofs.lemmas.Bool.{cases_lt}
-use Rattle.std.proofs.lemmas.Bool.Decides.{leb_tells}
+use Rattle.std.proofs.lemmas.Bool.Decides.{eqb_tells, leb_tells}
 use Rattle.std.proofs.lemmas.List.{length-take-le}
+use Rattle.spa_events.specs.Inside.{OpensFirst, key_size}
 use Rattle.spa_format.specs.Fixation.{walk_size}
 use Rattle.spa_format.specs.Tree.{object_type, struct_type}
 use Rattle.spa_format.specs.Walk.{HasObject, extent_behind, properties_of, walk_at_most}
 use Rattle.spa_format.specs.Words.{header_size, word_at}
 use Rattle.spa_format.proofs.WalkLemmas.{walk_at_most-there}
 use Rattle.spa_bytes.specs.Opening.{Opens}
+use Rattle.spa_recordings.proofs.Ended.{first_passed}
 use Rattle.spa_recordings.specs.Plausible.{AreWholeFirst, IsNextPlausible, IsNoneBehind, IsNoneBetween, IsParameter, IsPlausible, a_struct, an_object, looked_at}
 
 -- ---- The first pods inside one
@@ -71,16 +73,20 @@ empty_by : (k i more : ℕ) (left : List ℕ) → i + more ≡ looked_at → i <
 empty_by k i zero left e l none = absurd (omega (arith, e, l))
 empty_by k i (suc n) left e l none = whole_empty n k left none
 
-pub look_empty : (k : ℕ) (pods left : List ℕ) (i : ℕ) → i < looked_at → length left ≡ 0 → LooksSoFar k pods left i → AreWholeFirst looked_at k pods
-look_empty k pods left i l none so = so.back (empty_by k i so.more left so.counted l none)
-
 short_by : (k i more : ℕ) (left : List ℕ) → i + more ≡ looked_at → i < looked_at → length left ≢ 0 → length left < extent_behind k left → ¬ (AreWholeFirst more k left)
 short_by k i zero left e l some short = absurd (omega (arith, e, l))
 short_by k i (suc n) left e l some short = whole_short n k left some short
 
-pub look_short : (k : ℕ) (pods left : List ℕ) (i : ℕ) → i < looked_at → length left ≢ 0 → length left < extent_behind k left → LooksSoFar k pods left i →
-    ¬ (AreWholeFirst looked_at k pods)
-look_short k pods left i l some short so h = short_by k i so.more left so.counted l some short (so.on h)
+pub yes : {P : Type 0} → P → Decides true P
+yes p = (λ e. p, λ q. refl)
+
+-- no whole pod is left
+pub look_none : (k : ℕ) (pods left : List ℕ) (i : ℕ) (is : Bool) → i < looked_at → is ≡ nat_eq (length left) 0 → length left < extent_behind k left →
+    LooksSoFar k pods left i → Decides is (AreWholeFirst looked_at k pods)
+look_none k pods left i is l empty short so = elim (eqb_tells (length left) 0) [
+  | inl t ↦ subst (λ z. Decides z (AreWholeFirst looked_at k pods)) (sym (empty ∙ t.0)) (yes (so.back (empty_by k i so.more left so.counted l t.1)))
+  | inr f ↦ (λ e. absurd (true≢false (sym e ∙ empty ∙ f.0)), λ h. absurd (short_by k i so.more left so.counted l f.1 short (so.on h)))
+]
 
 next_by : (k : ℕ) (pods left : List ℕ) (i more : ℕ) → i + more ≡ looked_at → i < looked_at → extent_behind k left ≤ length left →
     (AreWholeFirst more k left → AreWholeFirst looked_at k pods) → (AreWholeFirst looked_at k pods → AreWholeFirst more k left) →
@@ -93,11 +99,12 @@ next_by k pods left i (suc n) e l there back on = record {
   on = λ h. whole_rest n k left there (on h);
 }
 
-pub look_next : (k : ℕ) (pods left rest : List ℕ) (i taken : ℕ) → i < looked_at → taken ≡ extent_behind k left → taken ≤ length left → rest ≡ drop taken left →
-    LooksSoFar k pods left i → LooksSoFar k pods rest (i + 1)
-look_next k pods left rest i taken l e there r so =
-    subst (λ z. LooksSoFar k pods z (i + 1)) (sym (r ∙ ap (λ n. drop n left) e))
-    (next_by k pods left i so.more so.counted l (omega (arith, e, there)) so.back so.on)
+pub look_next : (keyed : Bool) (pods left body rest : List ℕ) (i type : ℕ) → i < looked_at → OpensFirst keyed left type body rest →
+    LooksSoFar (key_size keyed) pods left i → LooksSoFar (key_size keyed) pods rest (i + 1)
+look_next keyed pods left body rest i type l o so =
+    let k = key_size keyed in
+    let passed = first_passed keyed left body rest type o in
+    subst (λ z. LooksSoFar k pods z (i + 1)) (sym passed.1) (next_by k pods left i so.more so.counted l passed.0 so.back so.on)
 
 ends_by : (k i more : ℕ) (left : List ℕ) → i + more ≡ looked_at → looked_at ≤ i → AreWholeFirst more k left
 ends_by k i zero left e l = whole_none k left
@@ -105,14 +112,6 @@ ends_by k i (suc n) left e l = absurd (omega (arith, e, l))
 
 pub look_ends : (k : ℕ) (pods left : List ℕ) (i : ℕ) → looked_at ≤ i → LooksSoFar k pods left i → AreWholeFirst looked_at k pods
 look_ends k pods left i l so = so.back (ends_by k i so.more left so.counted l)
-
--- ---- What a test says
-
-pub yes : {P : Type 0} → P → Decides true P
-yes p = (λ e. p, λ q. refl)
-
-pub no : {P : Type 0} → ¬ P → Decides false P
-no n = (λ e. absurd (true≢false (sym e)), λ p. absurd (n p))
 
 -- ---- The pod at the front
 
@@ -160,7 +159,7 @@ pub record SeeksSoFar (input : List ℕ) (from at : ℕ) : Type 0 where
   pub none : IsNoneBetween input from at
 
 pub seek_next : (input : List ℕ) (from at : ℕ) → ¬ (IsPlausible (drop at input)) → SeeksSoFar input from at → SeeksSoFar input from (at + 8)
-seek_next input from at no so =
+seek_next input from at not_here so =
     let b = so.behind in
     let a = so.aligned in
     record {
@@ -168,7 +167,7 @@ seek_next input from at no so =
       aligned = omega (arith, a);
       none = λ n l h m p. elim (cases_lt n at) [
         | inl low ↦ so.none n l low m p
-        | inr high ↦ no (subst (λ z. IsPlausible (drop z input)) (let e : n ≡ at = omega (arith, a, m, high, h) in e) p)
+        | inr high ↦ not_here (subst (λ z. IsPlausible (drop z input)) (let e : n ≡ at = omega (arith, a, m, high, h) in e) p)
       ];
     }
 

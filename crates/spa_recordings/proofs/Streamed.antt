@@ -44,7 +44,7 @@ read_written reading Makes block after len made old new within long r h =
     let t = length-take len after in record { pods = take len after; read = r; its_len = omega (arith, t, within, long); made = h }
 
 -- behind some first pods stands one that isn't read
-left_of : (reading : Reading) (input left : List ℕ) → IsLeftOf reading input left →
+pub left_of : (reading : Reading) (input left : List ℕ) → IsLeftOf reading input left →
     (first : List ℕ) × (input ≡ first ++ left) × IsAccepted reading first × (left ≢ [])
 left_of Exact input left h = (h.1, h.2, (h.0, h.3), h.4)
 left_of Lenient input left h = (h.1, h.2, (h.0, h.3), h.4)
@@ -209,15 +209,17 @@ module _ (reading : Reading) (Refuses : Type 0) (Makes : ℕ → ℕ → List �
     read = subst (Consumes remaining remaining) (sym none) (Consumes-nil remaining);
   }
 
-  -- more was read
-  pub reads : (remaining now after : Option (List ℕ)) (held more : List ℕ) (before : Before) (its : Made) (old new : Option (List ℕ)) →
-      ReadsOn now after held more → StreamedSoFar remaining now held before its old new → StreamedSoFar remaining after more before its old new
-  reads remaining now after held more before its old new r so = record {
+  -- the same bytes were passed, where more may have been read and nothing more was written
+  elsewhere : (remaining now after : Option (List ℕ)) (held more : List ℕ) (before : Before) (its : Made) (old mid new : Option (List ℕ))
+      (so : StreamedSoFar remaining now held before its old mid) → Consumes remaining after (so.passed ++ more) → Appends old new so.out →
+      StreamedSoFar remaining after more before its old new
+  elsewhere remaining now after held more before its old mid new so r w = record {
     passed = so.passed;
     pods = so.pods;
     out = so.out;
     read_as = so.read_as;
     made = so.made;
+    nothing = so.nothing;
     whole = so.whole;
     whole_pods = so.whole_pods;
     its_count = so.its_count;
@@ -225,13 +227,19 @@ module _ (reading : Reading) (Refuses : Type 0) (Makes : ℕ → ℕ → List �
     its_place = so.its_place;
     its_made = so.its_made;
     within = so.within;
-    nothing = so.nothing;
     few = so.few;
-    written = so.written;
-    read =
-        subst (Consumes remaining after) (append_assoc so.passed held r.0 ∙ ap (λ l. so.passed ++ l) (sym r.2))
-        (Consumes-trans remaining now after (so.passed ++ held) r.0 so.read r.1);
+    written = w;
+    read = r;
   }
+
+  -- more was read
+  pub reads : (remaining now after : Option (List ℕ)) (held more : List ℕ) (before : Before) (its : Made) (old new : Option (List ℕ)) →
+      ReadsOn now after held more → StreamedSoFar remaining now held before its old new → StreamedSoFar remaining after more before its old new
+  reads remaining now after held more before its old new r so =
+      elsewhere remaining now after held more before its old new new so
+      (subst (Consumes remaining after) (append_assoc so.passed held r.0 ∙ ap (λ l. so.passed ++ l) (sym r.2))
+      (Consumes-trans remaining now after (so.passed ++ held) r.0 so.read r.1))
+      so.written
 
   -- there are fewer pods than bytes, and of them fewer are refused; those as which they are read take no more
   pub few_passed : (remaining now : Option (List ℕ)) (held : List ℕ) (before : Before) (its : Made) (old new : Option (List ℕ)) →
@@ -470,27 +478,8 @@ module _ (reading : Reading) (Refuses : Type 0) (Makes : ℕ → ℕ → List �
         written = known_more old mid new so.out w.out so.written w.written;
       }
   stops remaining now held before its len old mid new OutOfMemory joins whole s so =
-      fails remaining now held before its old new OutOfMemory (inl refl) (kept s so)
-    where
-      kept : Keeps mid new → StreamedSoFar remaining now held before its old mid → StreamedSoFar remaining now held before its old new
-      kept k so = record {
-        passed = so.passed;
-        pods = so.pods;
-        out = so.out;
-        read_as = so.read_as;
-        made = so.made;
-        whole = so.whole;
-        whole_pods = so.whole_pods;
-        its_count = so.its_count;
-        as_many = so.as_many;
-        its_place = so.its_place;
-        its_made = so.its_made;
-        within = so.within;
-        nothing = so.nothing;
-        few = so.few;
-        written = Appends-kept old mid new so.out so.written k;
-        read = so.read;
-      }
+      fails remaining now held before its old new OutOfMemory (inl refl)
+      (elsewhere remaining now now held held before its old mid new so so.read (Appends-kept old mid new so.out so.written s))
   stops remaining now held before its len old mid new ReadFailed joins whole s so = absurd s
   stops remaining now held before its len old mid new WriteFailed joins whole s so =
       let block = take len held in

@@ -7,7 +7,7 @@ use Rattle.spa_fixed_sized.specs.Faults.{kind_text}
 use Rattle.spa_format.specs.Front.{IsRefused}
 use Rattle.spa_bodies.specs.Reading.{OnFault, OnMemory}
 use Rattle.spa_read.specs.Reading.{ConveysNothing}
-use Rattle.spa_recordings.specs.Reading.{IsUnreadAt, RefusesList}
+use Rattle.spa_recordings.specs.Reading.{IsAccepted, IsUnreadAt, RefusesList}
 use Rattle.spa_recordings.specs.declared.reading.Reading.{Reading}
 use Rattle.spa_recordings.specs.declared.reading.Reading.TheVariants.{Exact, Lenient}
 
@@ -35,3 +35,9 @@ pub unread_at : (reading : Reading) (input left : List ℕ) (e : DeserializeErro
     ¬ (e ≡ error.OutOfMemory) → kind ≡ kind_text e → IsUnreadAt reading input left kind
 unread_at Exact input left e kind r n k = (r.behind, (fault_of (IsRefused left) e n r.front.refused, (e, not_memory e n, r.front.named, k)))
 unread_at Lenient input left e kind r n k = (r.behind, (fault_of (ConveysNothing left) e n r.front.refused, (e, not_memory e n, r.front.named, k)))
+
+-- and not all of it is read
+pub not_accepted : (reading : Reading) (input left : List ℕ) (e : DeserializeError (Bor (List ℕ))) → RefusesList reading input left e →
+    ¬ (e ≡ error.OutOfMemory) → ¬ (IsAccepted reading input)
+not_accepted Exact input left e r n h = fault_of _ e n r.refused h.0 h.1
+not_accepted Lenient input left e r n h = fault_of _ e n r.refused h.0 h.1

@@ -1,8 +1,9 @@
 //! An input, read in blocks of whole pods.
-ghost use Rattle.std.specs.Prelude.{◌≡◌, ◌+◌, ◌≤◌, ◌<◌, [], IfErr, IfNone, IfOk, IfSome, OnErr, OnOk, drop, length, take, vec_len};
+ghost use Rattle.std.specs.Prelude.{◌≡◌, ◌+◌, ◌*◌, ◌≤◌, ◌<◌, [], IfErr, IfNone, IfOk, IfSome, OnErr, OnOk, drop, length, take, vec_len};
 ghost use Rattle.std.specs.Io.KnownBytes.{Consumes, IsAtEnd, Keeps};
 ghost use Rattle.spa_format.specs.Front.{HasFront};
 ghost use Rattle.spa_format.specs.Walk.{walk};
+ghost use Rattle.spa_format.specs.Words.{header_size};
 ghost use Rattle.spa_recordings.specs.Blocks.{AreWhole, AreWholeAhead, IsReadFailure, ReadsOn, ahead};
 
 use crate::streaming::Stop;
@@ -49,10 +50,8 @@ impl Blocks {
             if whole.len > 0 {
                 return Ok(Some(whole));
             }
-            match self.read_more(input) {
-                Ok(0) => return Ok(None),
-                Ok(_) => {}
-                Err(why) => return Err(why),
+            if self.read_more(input)? == 0 {
+                return Ok(None);
             }
         }
         Err(Stop::ReadFailed)
@@ -79,13 +78,9 @@ impl Blocks {
             return Err(Stop::OutOfMemory);
         }
         let end = end_of_room(self.held, self.buffer.len());
-        match read_behind(input, self.buffer.as_mut_slice(), self.held, end) {
-            Ok(count) => {
-                self.held += count;
-                Ok(count)
-            }
-            Err(why) => Err(why),
-        }
+        let count = read_behind(input, self.buffer.as_mut_slice(), self.held, end)?;
+        self.held += count;
+        Ok(count)
     }
 
     /// Lets so many bytes go that are held first.
@@ -127,6 +122,15 @@ pub(crate) fn whole_of(bytes: &[u8]) -> Whole
         len: bytes.len() - left.len(),
         count,
     }
+}
+
+/// The number of whole pods that the bytes begin with.
+#[tactic(auto, using(crate::proofs::Holding::few_whole))]
+pub fn count_whole(bytes: &[u8]) -> usize
+    ensures count { result ≡ length (walk bytes.now) }
+    ensures few { result * header_size ≤ length bytes.now }
+{
+    whole_of(bytes).count
 }
 
 /// Where the room for a read ends: with the block's, or where a longer pod is held with all that there is.

@@ -1,5 +1,6 @@
 //! A pod of which not all is there, ended where its bytes end.
 ghost use Rattle.std.specs.Prelude.{◌≡◌, ◌≤◌, ◌<◌, ◌+◌, ◌%◌, ◌∷◌, ◌++◌, [], IfNone, IfSome, OnOk, drop, length, take};
+ghost use Rattle.spa_events.specs.Inside.{key_size};
 ghost use Rattle.spa_format.specs.Front.{HasFront};
 ghost use Rattle.spa_format.specs.Walk.{walk};
 ghost use Rattle.spa_format.specs.Words.{header_size, padded_size, padding};
@@ -7,7 +8,8 @@ ghost use Rattle.spa_recordings.specs.Cut as spec;
 ghost use Rattle.spa_recordings.specs.Cut.{IsEnded, sized};
 
 use crate::streaming::are_bytes;
-use spa_bytes::{HEADER_LEN, extent_of, u32_at};
+use spa_bytes::{HEADER_LEN, u32_at};
+use spa_events::open_first;
 use spa_utils::SpaTypes;
 use std::alloc::AllocError;
 
@@ -84,11 +86,11 @@ fn cut_inside(pod: &[u8]) -> &[u8]
 {
     let type_ = u32_at(pod, WORD_LEN);
     if type_ == SpaTypes::Struct.0 {
-        return behind_whole(0, behind_header(pod));
+        return behind_whole(false, behind_header(pod));
     }
     if type_ == SpaTypes::Object.0 {
         let properties = behind_header(behind_header(pod));
-        return behind_header(behind_whole(HEADER_LEN, properties));
+        return behind_header(behind_whole(true, properties));
     }
     &[]
 }
@@ -100,18 +102,13 @@ fn behind_header(bytes: &[u8]) -> &[u8]
     bytes.split_at(bytes.len().min(HEADER_LEN)).1
 }
 
-/// What stands behind the whole pods at the front, each with so many bytes before it.
-fn behind_whole(before: usize, pods: &[u8]) -> &[u8]
-    requires { before ≤ header_size }
-    ensures { result.now ≡ spec.behind_whole before pods.now }
+/// What stands behind the whole pods at the front, each with a key and flags before it where `keyed` is set.
+fn behind_whole(keyed: bool, pods: &[u8]) -> &[u8]
+    ensures { result.now ≡ spec.behind_whole (key_size keyed) pods.now }
 {
     let mut left = pods;
-    while left.len() >= before + HEADER_LEN {
-        let extent = before + extent_of(u32_at(left, before));
-        if left.len() < extent {
-            return left;
-        }
-        left = left.split_at(extent).1;
+    while let Some(front) = open_first(keyed, left) {
+        left = front.rest;
     }
     left
 }

@@ -6,7 +6,7 @@ ghost use Rattle.spa_recordings.specs.GoingOn.{AddsMade, BeginsWithNone, GoesOnF
 ghost use Rattle.spa_recordings.specs.declared.going_on.RefusedPod.{RefusedPod};
 ghost use Rattle.spa_recordings.specs.declared.reading.Reading as Reading;
 
-use crate::blocks::whole_of;
+use crate::blocks::count_whole;
 use crate::plausible::{is_plausible, next_plausible};
 use crate::reading::{Reading, Unread, first_unread, read_as};
 use spa_bytes::{HEADER_LEN, open};
@@ -169,7 +169,7 @@ fn make_next<'a, 'b, M: Maker>(
     let passed = passed_with(alloc, manner, from.overlap, place, unread)?;
     let (bytes, rest) = unread.left.split_at(passed.len);
     keep(manner.refused, bytes, &mut made.out)?;
-    let count = from.count + whole_of(before).count + 1;
+    let count = from.count + count_whole(before) + 1;
     made.refused.push(RefusedPod {
         name: from.name,
         number: count,

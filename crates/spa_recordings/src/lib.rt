@@ -8,3 +8,5 @@ pub mod passing;
 pub mod plausible;
 pub mod reading;
 pub mod streaming;
+
+pub use blocks::count_whole;

@@ -1,9 +1,10 @@
 //! Where pods plausibly begin in damaged bytes.
-ghost use Rattle.std.specs.Prelude.{◌≤◌, ◌<◌, Decides, IfNone, IfSome, length};
-ghost use Rattle.spa_format.specs.Words.{header_size};
+ghost use Rattle.std.specs.Prelude.{◌<◌, Decides, IfNone, IfSome, length};
+ghost use Rattle.spa_events.specs.Inside.{key_size};
 ghost use Rattle.spa_recordings.specs.Plausible.{AreWholeFirst, IsNextPlausible, IsNoneBehind, IsParameter, IsPlausible, looked_at};
 
-use spa_bytes::{HEADER_LEN, extent_of, open, u32_at};
+use spa_bytes::{HEADER_LEN, open, u32_at};
+use spa_events::open_first;
 use spa_utils::SpaTypes;
 
 /// How many pods inside one are looked at.
@@ -42,13 +43,13 @@ pub(crate) fn is_plausible(bytes: &[u8]) -> bool
         return false;
     };
     if front.type_ == SpaTypes::Struct.0 {
-        return are_whole_first(0, front.body);
+        return are_whole_first(false, front.body);
     }
     if front.type_ != SpaTypes::Object.0 || front.body.len() < HEADER_LEN {
         return false;
     }
     let (_, properties) = front.body.split_at(HEADER_LEN);
-    is_parameter(u32_at(bytes, HEADER_LEN)) && are_whole_first(HEADER_LEN, properties)
+    is_parameter(u32_at(bytes, HEADER_LEN)) && are_whole_first(true, properties)
 }
 
 /// Whether this is the type of the object of a parameter.
@@ -58,24 +59,16 @@ fn is_parameter(type_: u32) -> bool
     FIRST_PARAMETER <= type_ && type_ < PARAMETERS_END
 }
 
-/// Whether the first pods, each with so many bytes before it, are whole.
-fn are_whole_first(before: usize, pods: &[u8]) -> bool
-    requires { before ≤ header_size }
-    ensures { Decides result (AreWholeFirst looked_at before pods.now) }
+/// Whether the first pods are whole, each with a key and flags before it where `keyed` is set.
+fn are_whole_first(keyed: bool, pods: &[u8]) -> bool
+    ensures { Decides result (AreWholeFirst looked_at (key_size keyed) pods.now) }
 {
     let mut left = pods;
     for _count in 0..LOOKED_AT {
-        if left.is_empty() {
-            return true;
-        }
-        if left.len() < before + HEADER_LEN {
-            return false;
-        }
-        let extent = before + extent_of(u32_at(left, before));
-        if left.len() < extent {
-            return false;
-        }
-        left = left.split_at(extent).1;
+        let Some(front) = open_first(keyed, left) else {
+            return left.is_empty();
+        };
+        left = front.rest;
     }
     true
 }

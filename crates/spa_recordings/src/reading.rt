@@ -34,6 +34,7 @@ pub fn first_unread<'b>(
 ) -> Result<Option<Unread<'b>>, AllocError>
     ensures accepted { IfOk result (λ found. IfNone found (IsAccepted reading input.now)) }
     ensures unread { IfOk result (λ found. IfSome found (λ it. IsUnreadAt reading input.now it.left.now it.kind.now)) }
+    ensures refused { IfOk result (λ found. IfSome found (λ _. ¬ (IsAccepted reading input.now))) }
 {
     let Err((left, error)) = accept(alloc, reading, input) else {
         return Ok(None);

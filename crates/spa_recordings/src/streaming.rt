@@ -7,7 +7,7 @@ ghost use Rattle.spa_pod_commands.specs.Answers.{Rewrites};
 ghost use Rattle.spa_recordings.specs.declared.streaming.NotMade.TheVariants.{Unwritten};
 ghost use Rattle.spa_recordings.specs.Streaming.{AreRead, IsEnded, IsFound, IsNotMade, IsNotRead, MakesAs, MayStop, Stops, StopsInBlock, Streams, WritesMade, WritesRead};
 
-use crate::blocks::{Blocks, whole_of};
+use crate::blocks::{Blocks, count_whole};
 use crate::reading::{Reading, first_unread};
 use spa_fixed_sized::DeserializeError;
 use spa_lenient::rewrite_in_place_leniently;
@@ -451,7 +451,7 @@ fn first_refused(alloc: Global, reading: Reading, block: &[u8]) -> Option<Found>
         return None;
     };
     Some(Found {
-        before: whole_of(before).count,
+        before: count_whole(before),
         at,
         read,
     })

@@ -20,11 +20,13 @@ returns-in_default-clause-stopped g c =
     fails _ works c.args.worker.now _ _ _ [] 0 0 _ _ OutOfMemory (inl refl)
     (begins _ works c.args.worker.now (g.R.Read.remaining c.args.input.now) (g.W.Write.contents c.args.output.now) [] refl)
 
-pub returns-in-Err-clause-stopped : goal.returns-in-Err-clause-stopped
-returns-in-Err-clause-stopped g c =
+pub returns-in_err-whole-clause-stopped : goal.returns-in_err-whole-clause-stopped
+returns-in_err-whole-clause-stopped g c =
     let works = g.B.BlockWorker.works in
-    fails _ works _ _ _ _ _ c.loop.count c.loop.place _ _ c.in-Err.why c.in-Err.ensures.cause
-    (reads _ works _ _ _ _ _ _ _ c.loop.count c.loop.place _ _ c.next.ensures.read c.loop.invariant.2)
+    let why =
+    fails _ works _ _ _ _ _ c.loop.count c.loop.place _ _ _ c.in_err-whole.ensures.cause
+    (reads _ works _ _ _ _ _ _ _ c.loop.count c.loop.place _ _ c.next.ensures.read c.loop.invariant.2) in
+    search (rules, why)
 
 pub work_on_front-requires : goal.work_on_front-requires
 work_on_front-requires g c =
@@ -34,18 +36,18 @@ pub work_on_front-requires-in-loop : goal.work_on_front-requires-in-loop
 work_on_front-requires-in-loop g c =
     let f = few_passed _ (g.B.BlockWorker.works) _ _ _ _ _ c.loop.count c.loop.place _ _ c.loop.invariant.2 in omega (arith, f)
 
-pub returns-in_default-found-clause-done : goal.returns-in_default-found-clause-done
-returns-in_default-found-clause-done g c =
+pub returns-in_default-2-clause-done : goal.returns-in_default-2-clause-done
+returns-in_default-2-clause-done g c =
     let works = g.B.BlockWorker.works in
-    let at = rw c.in_default-found.is at c.in-Ok-next.ensures.end in
+    let at = rw c.in_default-2.is at c.in_ok-whole.ensures.end in
     (closes _ works _ _ _ _ _ _ c.held_bytes.result.now c.loop.count c.loop.place _ _ _ c.work_on_front.result at.0 c.held_bytes.ensures
     c.work_on_front.ensures.worked c.work_on_front.ensures.stopped
     (reads _ works _ _ _ _ _ _ _ c.loop.count c.loop.place _ _ c.next.ensures.read c.loop.invariant.2)).0
 
-pub returns-in_default-found-clause-stopped : goal.returns-in_default-found-clause-stopped
-returns-in_default-found-clause-stopped g c =
+pub returns-in_default-2-clause-stopped : goal.returns-in_default-2-clause-stopped
+returns-in_default-2-clause-stopped g c =
     let works = g.B.BlockWorker.works in
-    let at = rw c.in_default-found.is at c.in-Ok-next.ensures.end in
+    let at = rw c.in_default-2.is at c.in_ok-whole.ensures.end in
     (closes _ works _ _ _ _ _ _ c.held_bytes.result.now c.loop.count c.loop.place _ _ _ c.work_on_front.result at.0 c.held_bytes.ensures
     c.work_on_front.ensures.worked c.work_on_front.ensures.stopped
     (reads _ works _ _ _ _ _ _ _ c.loop.count c.loop.place _ _ c.next.ensures.read c.loop.invariant.2)).1
@@ -56,22 +58,24 @@ returns-in_default-checked_add-clause-stopped g c =
     fails _ works _ _ _ _ _ c.loop.count c.loop.place _ _ ReadFailed (inr refl)
     (reads _ works _ _ _ _ _ _ _ c.loop.count c.loop.place _ _ c.next.ensures.read c.loop.invariant.2)
 
-pub returns-in-Err-work_on_front-clause-stopped : goal.returns-in-Err-work_on_front-clause-stopped
-returns-in-Err-work_on_front-clause-stopped g c =
+pub returns-in_err-work_on_front-clause-stopped : goal.returns-in_err-work_on_front-clause-stopped
+returns-in_err-work_on_front-clause-stopped g c =
     let works = g.B.BlockWorker.works in
     let len = c.in-Some.whole.len in
     let held = ahead c.next.new.self in
-    let whole = rw c.in-Some.is at c.in-Ok-next.ensures.whole in
+    let whole = rw c.in-Some.is at c.in_ok-whole.ensures.whole in
     let block = c.split_at.ensures.front ∙ ap (take len) c.held_bytes-in-loop.ensures in
-    stops _ works _ _ _ _ _ c.split_at.result.0.now (drop len held) c.loop.count c.loop.place _ _ _ c.in-Err-work_on_front.why
+    let why =
+    stops _ works _ _ _ _ _ c.split_at.result.0.now (drop len held) c.loop.count c.loop.place _ _ _ _
     (sym (ap (λ z. z ++ drop len held) block ∙ take-append-drop len held)) (inl (subst AreWhole (sym block) whole.whole))
-    c.in-Err-work_on_front.ensures.stopped
-    (reads _ works _ _ _ _ _ _ _ c.loop.count c.loop.place _ _ c.next.ensures.read c.loop.invariant.2)
+    c.in_err-work_on_front.ensures.stopped
+    (reads _ works _ _ _ _ _ _ _ c.loop.count c.loop.place _ _ c.next.ensures.read c.loop.invariant.2) in
+    search (rules, why)
 
 pub overflow_add-count : goal.overflow_add-count
 overflow_add-count g c =
     let f = few_passed _ (g.B.BlockWorker.works) _ _ _ _ _ c.loop.count c.loop.place _ _ c.loop.invariant.2 in
-    let whole = rw c.in-Some.is at c.in-Ok-next.ensures.whole in
+    let whole = rw c.in-Some.is at c.in_ok-whole.ensures.whole in
     let n = whole.count in
     let w = few_whole (take c.in-Some.whole.len (ahead c.next.new.self)) in
     let l = length-take c.in-Some.whole.len (ahead c.next.new.self) in
@@ -84,12 +88,12 @@ loop-preserved g c =
     let works = g.B.BlockWorker.works in
     let blocks = c.next.new.self in
     let len = c.in-Some.whole.len in
-    let whole = rw c.in-Some.is at c.in-Ok-next.ensures.whole in
+    let whole = rw c.in-Some.is at c.in_ok-whole.ensures.whole in
     let block = c.split_at.ensures.front ∙ ap (take len) c.held_bytes-in-loop.ensures in
     let long = length-take-le blocks.held blocks.buffer.items (search (rules, places)) in
     let within = whole.within in
     let sum : c.in-Some-checked_add.behind ≡ c.loop.place + len = search rules in
-    let made = c.in-Ok-work_on_front.ensures.worked in (
+    let made = c.in_ok-work_on_front.ensures.worked in (
       c.pass.ensures.room,
       search rules,
       passes _ works _ _ _ _ _ _ c.loop.count c.loop.place len c.in-Some.whole.count c.in-Some-checked_add.behind _ _ _ _

@@ -1,4 +1,3 @@
-mod Counts
 mod Descending
 mod Listing
 mod Passing

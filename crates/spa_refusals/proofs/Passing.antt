@@ -9,8 +9,7 @@ use Rattle.spa_format.specs.Words.{word_at}
 use Rattle.spa_format.proofs.Fronts.{front_and_rest, front_of_whole}
 use Rattle.spa_format.proofs.Sequences.{members_push, props_joined}
 use Rattle.spa_format.proofs.WalkLemmas.{walk-end, walk-there}
-use Rattle.spa_refusals.proofs.Counts.{Counted}
-use Rattle.spa_refusals.proofs.Counts as counting
+use Rattle.spa_recordings.proofs.Holding.{WholeSoFar, count_joined, walk_begins, walk_goes_on}
 use Rattle.spa_refusals.specs.Paths.{HoldsMember, member_step}
 
 -- some first ones are read, and this is left
@@ -81,10 +80,10 @@ pub record PassedMembers (members left : List ℕ) (count : ℕ) : Type 0 where
   pub first : List ℕ
   pub whole : members ≡ first ++ left
   pub read : AreMembers values first
-  pub counted : Counted members left count
+  pub counted : WholeSoFar members left count
 
 pub none_passed : (members : List ℕ) → PassedMembers members members 0
-none_passed members = record { values = no_trees; first = []; whole = refl; read = refl; counted = counting.begins members }
+none_passed members = record { values = no_trees; first = []; whole = refl; read = refl; counted = walk_begins members }
 
 pub one_passed : (members left rest : List ℕ) (count : ℕ) (v : Tree) → PassedMembers members left count → Begins left v → rest ≡ rest_of left →
     PassedMembers members rest (count + 1)
@@ -95,16 +94,17 @@ one_passed members left rest count v so begun is =
       first = so.first ++ front_of left;
       whole = so.whole ∙ ap (λ z. so.first ++ z) parts ∙ sym (append_assoc so.first (front_of left) rest);
       read = members_push so.values v so.first (front_of left) so.read begun.pod;
-      counted = counting.goes_on members left rest count so.counted begun.there is;
+      counted = walk_goes_on members left rest count begun.there is so.counted;
     }
 
 pub member_found : (members left path new : List ℕ) (count : ℕ) → PassedMembers members left count → left ≢ [] → new ≡ path ++ member_step count →
     HoldsMember members path left new
 member_found members left path new count so some step =
-    let o = so.counted.order in
+    let o = so.counted.counted in
+    let j = count_joined so.counted.before left so.counted.whole in
     let w = walked so.values so.first left so.read in
-    let e = ap (λ z. length (walk z)) so.whole in
-    let same : count ≡ length (walk so.first) = omega (arith, o, w, e) in
+    let e = ap (λ z. length (walk z)) (sym so.counted.parts ∙ so.whole) in
+    let same : count ≡ length (walk so.first) = omega (arith, o, j, w, e) in
     record {
       values = so.values;
       first = so.first;

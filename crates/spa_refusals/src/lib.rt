@@ -1,7 +1,6 @@
 //! The refused pod of an input in words: its number, its type's name, the path to the malformed pod inside, and the cause.
 #![tactic(auto)]
 
-mod counting;
 mod descent;
 mod inside;
 mod names;

@@ -1,18 +1,14 @@
 //! What is said of a refused pod.
-ghost use Rattle.std.specs.Prelude.{◌≡◌, ◌+◌, ◌≤◌, IfErr, IfNone, IfOk, IfSome, OnOk, drop, length, take};
-ghost use Rattle.spa_format.specs.Walk.{walk};
-ghost use Rattle.spa_recordings.specs.Reading.{IsAccepted, IsNothing, RefusesList};
-ghost use Rattle.spa_refusals.specs.Refusals.{IsCutOf, IsFirstRefusal, IsNextOf, IsRefusalAt, IsRefusalFor, IsRefusalOf};
+ghost use Rattle.std.specs.Prelude.{◌≡◌, IfNone, IfOk, IfSome};
+ghost use Rattle.spa_recordings.specs.Reading.{IsAccepted, IsNothing};
+ghost use Rattle.spa_refusals.specs.Refusals.{IsCutOf, IsFirstRefusal, IsNextOf, IsRefusalFor, IsRefusalOf};
 
-use crate::counting::count;
 use crate::inside::malformed;
 use crate::names::{TypeName, type_name};
 use spa_bytes::{HEADER_LEN, extent_of, u32_at};
-use spa_fixed_sized::DeserializeError;
-use spa_lenient::rewrite_all_leniently;
+use spa_recordings::count_whole;
 use spa_recordings::plausible::next_plausible;
-use spa_recordings::reading::Reading;
-use spa_rewrite::accept_all;
+use spa_recordings::reading::{Reading, first_unread};
 use std::alloc::{AllocError, Global};
 use std::fmt;
 use std::fmt::Write;
@@ -60,52 +56,13 @@ pub fn first_refusal(
     ensures read { IfOk result (λ found. IfNone found (IsAccepted reading input.now)) }
     ensures refused { IfOk result (λ found. IfSome found (IsFirstRefusal reading input.now)) }
 {
-    let Err((left, error)) = accept(alloc, reading, input) else {
+    let Some(unread) = first_unread(alloc, reading, input)? else {
         return Ok(None);
     };
-    match error {
-        DeserializeError::OutOfMemory => Err(AllocError),
-        _ => {
-            let place = input.len() - left.len();
-            let (before, _) = input.split_at(place);
-            let refusal = refusal_at(alloc, reading, input, place, count(before) + 1)?;
-            Ok(Some(refusal))
-        }
-    }
-}
-
-/// Passes where the input is read whole. A refusal gives what is left of it from the first pod on that isn't read.
-fn accept(
-    alloc: Global,
-    reading: Reading,
-    input: &[u8],
-) -> Result<(), (&[u8], DeserializeError<&[u8]>)>
-    ensures accepted { OnOk result (IsAccepted reading input.now) }
-    ensures refused { IfErr result (λ refusal. RefusesList reading input.now refusal.0.now refusal.1) }
-{
-    match reading {
-        Reading::Exact => accept_all(alloc, input),
-        Reading::Lenient => rewrite_all_leniently(input, &mut Vec::new(alloc)),
-    }
-}
-
-/// The refusal of the pod of this number that begins at this byte of the input, and isn't read.
-#[tactic(auto, using(crate::proofs::Unreading::placed))]
-fn refusal_at(
-    alloc: Global,
-    reading: Reading,
-    input: &[u8],
-    place: usize,
-    number: usize,
-) -> Result<Refusal, AllocError>
-    requires within { place ≤ length input.now }
-    requires number { number ≡ length (walk (take place input.now)) + 1 }
-    requires nothing { IsNothing reading (drop place input.now) }
-    ensures place { IfOk result (λ refusal. refusal.place ≡ place) }
-    ensures refusal { IfOk result (IsRefusalAt reading input.now) }
-{
-    let (_, pod) = input.split_at(place);
-    refusal_of(alloc, reading, pod, place, number)
+    let place = input.len() - unread.left.len();
+    let (before, pod) = input.split_at(place);
+    let refusal = refusal_of(alloc, reading, pod, place, count_whole(before) + 1)?;
+    Ok(Some(refusal))
 }
 
 /// The refusal of the pod of this number, which begins with these bytes at this byte of an input, and isn't read.

@@ -1,5 +1,6 @@
-use Rattle.std.proofs.Common.{◌≡◌, ◌++◌, arith, rules}
+use Rattle.std.proofs.Common.{◌≡◌, ◌<◌, ◌^◌, ◌++◌, arith, length, rules}
 use Rattle.std.specs.Prelude.{string_bytes}
+use Rattle.spa_recordings.proofs.Holding.{walk_few}
 use Rattle.spa_refusals.specs.Paths.{member_step}
 use Rattle.spa_refusals.proofs.Descending.{behind_member, in_first_member, some_members}
 use Rattle.spa_refusals.proofs.Passing.{member_found, none_passed, one_passed}
@@ -26,3 +27,9 @@ returns-clause-step c =
 pub returns-clause-fault : goal.returns-clause-fault
 returns-clause-fault c =
     in_first_member c.args.fault.place.now c.args.fault.why _ _ c.in_default.ensures.within c.loop-rest.invariant.1
+
+pub overflow_add-count : goal.overflow_add-count
+overflow_add-count c =
+    let f = walk_few _ _ _ c.loop-rest.invariant.0.counted in
+    let l : length c.args.members.now < 2 ^ 64 = search rules in
+    omega (arith, f, l)

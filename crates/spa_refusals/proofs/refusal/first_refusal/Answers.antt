@@ -1,19 +1,17 @@
-use Rattle.std.proofs.Common.{◌+◌, ◌∙◌, ap, arith, length, refl}
+use Rattle.std.proofs.Common.{◌+◌, ◌∙◌, ap, length, refl}
 use Rattle.spa_format.specs.Walk.{walk}
 use Rattle.spa_refusals.proofs.Unreading.{first_said, nothing_at}
 use Rattle.spa_refusals.proofs.refusal.first_refusal.Goals as goal
 
-pub refusal_at-requires-clause-within : goal.refusal_at-requires-clause-within
-refusal_at-requires-clause-within c = omega arith
+pub refusal_of-requires : goal.refusal_of-requires
+refusal_of-requires c =
+    let unread = rw c.in-Some.is at c.in_ok-unread.ensures.unread in
+    nothing_at c.args.reading c.args.input.now _ _ c.split_at.result.1.now _ unread refl c.split_at.ensures.back
 
-pub refusal_at-requires-clause-number : goal.refusal_at-requires-clause-number
-refusal_at-requires-clause-number c = ap (λ z. z + 1) (c.count.ensures.count ∙ ap (λ z. length (walk z)) c.split_at.ensures.front)
-
-pub refusal_at-requires-clause-nothing : goal.refusal_at-requires-clause-nothing
-refusal_at-requires-clause-nothing c =
-    nothing_at c.args.reading c.args.input.now c.in-Err.left.now c.in-Err.error _ c.in-Err.ensures.refused c.in_default-error.not-OutOfMemory refl
-
-pub returns-in_ok-refusal-in_default-error-clause-refused : goal.returns-in_ok-refusal-in_default-error-clause-refused
-returns-in_ok-refusal-in_default-error-clause-refused c =
-    first_said c.args.reading c.args.input.now c.in-Err.left.now c.in-Err.error _ _ c.in-Err.ensures.refused c.in_default-error.not-OutOfMemory
-    c.in_ok-refusal-in_default-error.ensures.place refl c.in_ok-refusal-in_default-error.ensures.refusal
+pub returns-clause-refused : goal.returns-clause-refused
+returns-clause-refused c =
+    let unread = rw c.in-Some.is at c.in_ok-unread.ensures.unread in
+    let refused = rw c.in-Some.is at c.in_ok-unread.ensures.refused in
+    let its = c.in_ok-refusal.ensures in
+    first_said c.args.reading c.args.input.now _ _ c.split_at.result.1.now c.in_ok-refusal.refusal _ refused unread refl c.split_at.ensures.back its.place
+    (its.number ∙ ap (λ z. z + 1) (c.count_whole.ensures.count ∙ ap (λ z. length (walk z)) c.split_at.ensures.front)) its.refusal

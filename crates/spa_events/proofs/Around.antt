@@ -5,7 +5,7 @@ use Rattle.std.proofs.lemmas.Bool.{eq-eqb, ne_eqb, cases_Bool}
 use Rattle.std.proofs.lemmas.List.{drop-drop, drop-set-lt, get_or-set_other, get_or-set_same, get_or-take, take-append-drop, take_more_set}
 use Rattle.std.proofs.Math.Seq.{take-append_seam, take-length}
 use Rattle.spa_events.specs.Events.{IsFilled, IsListed, events_of, is_object, is_struct, no_parent}
-use Rattle.spa_events.specs.Levels.{CanLeave, HasNext, HasNoNext, behind, event_at, holds_pods, level_around, level_behind, level_following, level_from, level_inside, level_of_input, no_event}
+use Rattle.spa_events.specs.Levels.{CanLeave, HasNext, HasNoNext, behind, event_at, holds_pods, level_around, level_behind, level_following, level_from, level_inside, level_of_input, moved, no_event}
 use Rattle.spa_events.specs.declared.event.Event.{Event}
 use Rattle.spa_events.specs.declared.level.Level.{Level}
 use Rattle.spa_events.proofs.Open.{AreAround, Fits, IsOpen, Stands, rest_events}
@@ -15,10 +15,6 @@ use Rattle.spa_events.proofs.Steps.{next_at, next_depth, next_parent, next_whole
 -- the first events of two lists are the same
 pub record SameBelow (count : ℕ) (old new : List Event) : Type 0 where
   pub at : (i : ℕ) → i < count → event_at new i ≡ event_at old i
-
--- a level with another place to go on from
-abbrev pub moved : Level → ℕ → Level
-moved l n = record { at = n; end = l.end; before = l.before; depth = l.depth; parent = l.parent }
 
 open_moved : (input : List ℕ) (old new : List Event) (count more : ℕ) (l m : Level) (n : ℕ) → SameBelow count old new → count ≤ more →
     IsOpen input old count l m → IsOpen input new more (moved l n) m

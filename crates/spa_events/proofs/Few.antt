@@ -1,13 +1,14 @@
 -- How many events there are, and that the bound on levels ends no list.
-use Rattle.std.proofs.Common.{◌≡◌, ℕ, zero, suc, ◌+◌, ◌*◌, ◌<◌, ◌≤◌, inl, inr, List, [], ◌∷◌, ◌++◌, length, take, drop, refl, sym, ap, subst, ◌∙◌, arith, length-append, length-drop, length-take, min}
+use Rattle.std.proofs.Common.{◌≡◌, ℕ, zero, suc, ◌+◌, ◌-◌, ◌*◌, ◌<◌, ◌≤◌, inl, inr, List, [], ◌∷◌, ◌++◌, length, take, drop, refl, sym, ap, subst, ◌∙◌, arith, length-append, length-drop, length-take, min}
 use Rattle.std.specs.Prelude.{Bool, true, false, if◌then◌else◌}
 use Rattle.std.proofs.lemmas.Bool.{cases_lt}
 use Rattle.spa_format.specs.Words.{body_of, extent, word_at}
 use Rattle.spa_format.specs.Walk.{extent_behind, property_walk, walk, walk_behind}
 use Rattle.spa_format.proofs.WalkLemmas.{walk_behind-end, walk_behind-there}
-use Rattle.spa_events.specs.Events.{bytes_before, events_along, events_of, events_within, is_object, is_struct, no_parent, event_of}
+use Rattle.spa_events.specs.Events.{bytes_before, events_along, events_of, events_within, is_object, is_struct, no_parent, pods_inside, event_of}
 use Rattle.spa_events.specs.declared.event.Event.{Event}
-use Rattle.spa_events.proofs.Places.{not_both, size_behind}
+use Rattle.spa_events.proofs.Places.{inside_placed, not_both, object_room, size_behind}
+use Rattle.spa_events.specs.Levels.{bytes_held}
 use Rattle.spa_events.proofs.Steps.{events_within-none, events_within-there}
 
 -- the bytes of a whole pod, with its padding
@@ -49,28 +50,34 @@ along_few k pod_events few (suc m) b index at le =
           omega arith
     ]
 
-inside_few : (x y : Bool) (k : ℕ) (pod_events : ℕ → ℕ → List ℕ → List Event) → TellsFew pod_events → (body : List ℕ) (index at : ℕ) → k ≡ (if y then 8 else 0) → (x ≡ true → y ≡ false) →
-    length (events_along k pod_events index at (if x then walk body else (if y then property_walk (drop 8 body) else []))) * 8 ≤ length body
-inside_few true true k pod_events few body index at e one = absurd (let f = one refl in cc)
-inside_few true false k pod_events few body index at e one =
-    subst (λ n. length (events_along n pod_events index at (walk body)) * 8 ≤ length body) (sym e) (along_few 0 pod_events few (length body) body index at (omega arith))
-inside_few false true k pod_events few body index at e one =
-    let r = along_few 8 pod_events few (length (drop 8 body)) (drop 8 body) index at (omega arith) in
-    let d = length-drop 8 body in
-    subst (λ n. length (events_along n pod_events index at (property_walk (drop 8 body))) * 8 ≤ length body) (sym e) (omega arith)
-inside_few false false k pod_events few body index at e one = omega arith
+-- the pods in a pod stand one after another behind its header
+abbrev held_in : List ℕ → List ℕ
+held_in pod =
+    let k = bytes_before (word_at pod 4) (word_at pod 0) in take ((8 + bytes_held (word_at pod 4) (word_at pod 0)) - (8 + k)) (drop (8 + k) pod)
+
+inside_is : (pod : List ℕ) → pods_inside pod ≡ walk_behind (bytes_before (word_at pod 4) (word_at pod 0)) (held_in pod)
+inside_is pod =
+    let t = word_at pod 4 in
+    let s = word_at pod 0 in
+    inside_placed (is_struct t) (is_object t s) s 8 (body_of pod) pod (not_both t s) (object_room t s) refl
+
+held_less : (pod : List ℕ) → IsWholePod pod → length (held_in pod) + 8 ≤ length pod
+held_less pod w =
+    let k = bytes_before (word_at pod 4) (word_at pod 0) in
+    let t = length-take ((8 + bytes_held (word_at pod 4) (word_at pod 0)) - (8 + k)) (drop (8 + k) pod) in
+    let d = length-drop (8 + k) pod in
+    let h = w.whole in
+    omega (arith, t, d, h)
 
 pod_few : (n depth parent index at : ℕ) (pod : List ℕ) → IsWholePod pod → length (events_within n depth parent index at pod) * 8 ≤ length pod
 pod_few zero depth parent index at pod w = let e = ap length (events_within-none depth parent index at pod) in omega arith
 pod_few (suc n) depth parent index at pod w =
-    let t = word_at pod 4 in
-    let s = word_at pod 0 in
+    let k = bytes_before (word_at pod 4) (word_at pod 0) in
     let f : TellsFew (events_within n (depth + 1) index) = record { few = pod_few n (depth + 1) index } in
-    let i = inside_few (is_struct t) (is_object t s) (bytes_before t s) (events_within n (depth + 1) index) f (body_of pod) (index + 1) (at + 8 + bytes_before t s) refl (not_both t s) in
-    let e = ap length (events_within-there n depth parent index at pod) in
-    let l = length-take s (drop 8 pod) in
-    let h = w.whole in
-    omega arith
+    let i = along_few k (events_within n (depth + 1) index) f (length (held_in pod)) (held_in pod) (index + 1) (at + 8 + k) (omega arith) in
+    let e = ap length (events_within-there n depth parent index at pod ∙ ap (λ ps. event_of depth parent at pod ∷ events_along k (events_within n (depth + 1) index) (index + 1) (at + 8 + k) ps) (inside_is pod)) in
+    let h = held_less pod w in
+    omega (arith, e, i, h)
 
 within_few : (n depth parent : ℕ) → TellsFew (events_within n depth parent)
 within_few n depth parent = record { few = pod_few n depth parent }
@@ -106,32 +113,20 @@ along_alike k len f g same (suc m) b index at le short =
           ∙ sym (ap (events_along k g index at) e)
     ]
 
-inside_alike : (x y : Bool) (k len : ℕ) (f g : ℕ → ℕ → List ℕ → List Event) → TellAlike len f g → (body : List ℕ) (index at : ℕ) → k ≡ (if y then 8 else 0) → (x ≡ true → y ≡ false) → length body ≤ len →
-    events_along k f index at (if x then walk body else (if y then property_walk (drop 8 body) else []))
-    ≡ events_along k g index at (if x then walk body else (if y then property_walk (drop 8 body) else []))
-inside_alike true true k len f g same body index at e one short = absurd (let z = one refl in cc)
-inside_alike true false k len f g same body index at e one short =
-    subst (λ n. events_along n f index at (walk body) ≡ events_along n g index at (walk body)) (sym e) (along_alike 0 len f g same (length body) body index at (omega arith) short)
-inside_alike false true k len f g same body index at e one short =
-    let d = length-drop 8 body in
-    subst (λ n. events_along n f index at (property_walk (drop 8 body)) ≡ events_along n g index at (property_walk (drop 8 body))) (sym e)
-    (along_alike 8 len f g same (length (drop 8 body)) (drop 8 body) index at (omega arith) (omega arith))
-inside_alike false false k len f g same body index at e one short = refl
-
 -- with a bound on levels that isn't less than the pod's length, these are all events of the pod
 pub enough : (n m depth parent index at : ℕ) (pod : List ℕ) → length pod ≡ extent (word_at pod 0) → length pod ≤ n → length pod ≤ m →
     events_within n depth parent index at pod ≡ events_within m depth parent index at pod
 enough zero m depth parent index at pod w a b = absurd (omega arith)
 enough (suc n) zero depth parent index at pod w a b = absurd (omega arith)
 enough (suc n) (suc m) depth parent index at pod w a b =
-    let t = word_at pod 4 in
-    let s = word_at pod 0 in
-    let l = length-take s (drop 8 pod) in
-    let d = length-drop 8 pod in
-    let same : TellAlike (min n m) (events_within n (depth + 1) index) (events_within m (depth + 1) index) =
-    record { alike = λ i x p v short. enough n m (depth + 1) index i x p v.whole (omega arith) (omega arith) } in
+    let k = bytes_before (word_at pod 4) (word_at pod 0) in
+    let h = held_less pod (record { whole = w }) in
+    let f = events_within n (depth + 1) index in
+    let g = events_within m (depth + 1) index in
+    let same : TellAlike (min n m) f g = record { alike = λ i x p v short. enough n m (depth + 1) index i x p v.whole (omega arith) (omega arith) } in
+    let along = along_alike k (min n m) f g same (length (held_in pod)) (held_in pod) (index + 1) (at + 8 + k) (omega arith) (omega (arith, h)) in
+    let i = inside_is pod in
     events_within-there n depth parent index at pod
     ∙ ap (λ z. event_of depth parent at pod ∷ z)
-    (inside_alike (is_struct t) (is_object t s) (bytes_before t s) (min n m) (events_within n (depth + 1) index) (events_within m (depth + 1) index) same
-    (body_of pod) (index + 1) (at + 8 + bytes_before t s) refl (not_both t s) (omega arith))
+    (ap (events_along k f (index + 1) (at + 8 + k)) i ∙ along ∙ sym (ap (events_along k g (index + 1) (at + 8 + k)) i))
     ∙ sym (events_within-there m depth parent index at pod)

@@ -64,7 +64,7 @@ body_placed k from to input s h es o =
     ∙ ap (λ x. take s (drop x input)) ea
 
 -- what is inside a body that is taken from an input
-inside_placed : (x y : Bool) (s a : ℕ) (body input : List ℕ) → (x ≡ true → y ≡ false) → (y ≡ true → 8 ≤ s) → body ≡ take s (drop a input) →
+pub inside_placed : (x y : Bool) (s a : ℕ) (body input : List ℕ) → (x ≡ true → y ≡ false) → (y ≡ true → 8 ≤ s) → body ≡ take s (drop a input) →
     (if x then walk body else (if y then property_walk (drop 8 body) else []))
     ≡ walk_behind (if y then 8 else 0)
     (take ((a + (if x then s else (if y then s else 0))) - (a + (if y then 8 else 0))) (drop (a + (if y then 8 else 0)) input))

@@ -23,16 +23,6 @@ HasNoNext input level = length (bytes_left input level) < extent_behind level.be
 abbrev pub bytes_held : ℕ → ℕ → ℕ
 bytes_held type size = if is_struct type then size else (if is_object type size then size else 0)
 
--- the level inside the pod whose event has this index
-abbrev pub level_inside : ℕ → Event → Level
-level_inside index event = record {
-  at = event.at + header_size + bytes_before event.type_ event.size;
-  end = event.at + header_size + bytes_held event.type_ event.size;
-  before = bytes_before event.type_ event.size;
-  depth = event.depth + 1;
-  parent = index;
-}
-
 -- whether a pod of this type and size has pods in it
 abbrev pub holds_pods : ℕ → ℕ → Bool
 holds_pods type size = cond (is_struct type) true (is_object type size)
@@ -58,19 +48,21 @@ level_from at index event = record {
   parent = index;
 }
 
+-- the level inside the pod whose event has this index
+abbrev pub level_inside : ℕ → Event → Level
+level_inside index event = level_from (event.at + header_size + bytes_before event.type_ event.size) index event
+
 -- the byte behind a pod
 abbrev pub behind : Event → ℕ
 behind event = event.at + extent event.size
 
+-- a level with another byte to go on from
+abbrev pub moved : Level → ℕ → Level
+moved l n = record { at = n; end = l.end; before = l.before; depth = l.depth; parent = l.parent }
+
 -- the level behind its first pod
 abbrev pub level_behind : Level → Event → Level
-level_behind level event = record {
-  at = behind event;
-  end = level.end;
-  before = level.before;
-  depth = level.depth;
-  parent = level.parent;
-}
+level_behind level event = moved level (behind event)
 
 -- the level that comes next once the first pod's event is listed at this index: the one inside that pod, or, where it has none, the one behind it
 abbrev pub level_following : ℕ → Level → Event → Level

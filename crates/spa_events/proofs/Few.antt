@@ -1,9 +1,8 @@
 -- How many events there are, and that the bound on levels ends no list.
-use Rattle.std.proofs.Common.{◌≡◌, ℕ, zero, suc, ◌+◌, ◌-◌, ◌*◌, ◌<◌, ◌≤◌, inl, inr, List, [], ◌∷◌, ◌++◌, length, take, drop, refl, sym, ap, subst, ◌∙◌, arith, length-append, length-drop, length-take, min}
-use Rattle.std.specs.Prelude.{Bool, true, false, if◌then◌else◌}
+use Rattle.std.proofs.Common.{◌≡◌, ℕ, zero, suc, ◌+◌, ◌-◌, ◌*◌, ◌<◌, ◌≤◌, inl, inr, List, ◌∷◌, ◌++◌, length, take, drop, refl, sym, ap, ◌∙◌, arith, length-append, length-drop, length-take, min}
 use Rattle.std.proofs.lemmas.Bool.{cases_lt}
 use Rattle.spa_format.specs.Words.{body_of, extent, word_at}
-use Rattle.spa_format.specs.Walk.{extent_behind, property_walk, walk, walk_behind}
+use Rattle.spa_format.specs.Walk.{extent_behind, walk_behind}
 use Rattle.spa_format.proofs.WalkLemmas.{walk_behind-end, walk_behind-there}
 use Rattle.spa_events.specs.Events.{bytes_before, events_along, events_of, events_within, is_object, is_struct, no_parent, pods_inside, event_of}
 use Rattle.spa_events.specs.declared.event.Event.{Event}

@@ -158,15 +158,14 @@ base_and_more old s at = ap length at.bytes
     ∙ length-append (member_encodings s.closed) (all_so_far s.opened)
 
 -- what the test of room asks
-pub has_its_room : (old : BuilderFields) (s : State) → IsAt old s →
+pub has_its_room : (old : BuilderFields) (len : ℕ) → HasState old → len ≡ length old.bytes →
     (base : ℕ) × (ps : List Partial) × (old.frames ≡ frames_of base ps) ×
-    (length old.bytes ≡ base + length (all_so_far ps)) × IsTrue (has_room_for 0 ps)
-has_its_room old s at = (
+    (len ≡ base + length (all_so_far ps)) × IsTrue (has_room_for 0 ps)
+has_its_room old len (s, at) l = (
   length (member_encodings s.closed),
   s.opened,
   at.frames,
-  base_and_more old
-      s at,
+  l ∙ base_and_more old s at,
   sym (one_size_decides s.opened at.nested) ∙ at.fit,
 )
 
@@ -272,6 +271,12 @@ closing old closed (p ∷ rest) o at e =
         fit = ap (λ n. all_fit (extent n) rest) (sym zero) ∙ f.1;
       },
     )
+
+pub closing_now : (old : BuilderFields) (o : BegunPod) (h : HasState old) →
+    ((base : ℕ) (ps : List Partial) → old.frames ≡ frames_of base ps → Some o ≡ innermost_of base ps) →
+    (p : Partial) × (rest : List Partial) × Closing old h.0 o p rest
+closing_now old o (s, at) last =
+    closing old s.closed s.opened o at (last (length (member_encodings s.closed)) s.opened at.frames)
 
 pub patched : (front body b : List ℕ) (k n start : ℕ) → start ≡ length front → n ≡ length body →
     b ≡ (front ++ (word_bytes 0 ++ (word_bytes k ++ body))) ++ padding n →

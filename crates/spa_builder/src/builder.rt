@@ -100,12 +100,21 @@ impl Builder {
         self.bytes.into_inner()
     }
 
+    /// Adds a value of fixed size.
+    #[inline(always)]
+    fn add_sized<T: CanonicalFixedSizedPod>(&mut self, value: &T) -> Result<(), Errno>
+        ensures { (s : State) → IsAt self.old s
+            → Makes (step s (add (fixed (T.fixed value.now)))) self.old self.new result }
+    {
+        add_fixed(&mut self.bytes, &mut self.frames, value)
+    }
+
     /// Adds a None.
     #[inline(always)]
     pub fn add_none(&mut self) -> Result<(), Errno>
         ensures { (s : State) → IsAt self.old s → Makes (step s (add (fixed none))) self.old self.new result }
     {
-        add_fixed(&mut self.bytes, &mut self.frames, &())
+        self.add_sized(&())
     }
 
     /// Adds a truth value.
@@ -113,7 +122,7 @@ impl Builder {
     pub fn add_bool(&mut self, value: bool) -> Result<(), Errno>
         ensures { (s : State) → IsAt self.old s → Makes (step s (add (fixed (bool value)))) self.old self.new result }
     {
-        add_fixed(&mut self.bytes, &mut self.frames, &value)
+        self.add_sized(&value)
     }
 
     /// Adds an id.
@@ -121,7 +130,7 @@ impl Builder {
     pub fn add_id(&mut self, value: Id) -> Result<(), Errno>
         ensures { (s : State) → IsAt self.old s → Makes (step s (add (fixed (id value.0)))) self.old self.new result }
     {
-        add_fixed(&mut self.bytes, &mut self.frames, &value)
+        self.add_sized(&value)
     }
 
     /// Adds a signed number of 32 bits.
@@ -129,7 +138,7 @@ impl Builder {
     pub fn add_int(&mut self, value: i32) -> Result<(), Errno>
         ensures { (s : State) → IsAt self.old s → Makes (step s (add (fixed (int value)))) self.old self.new result }
     {
-        add_fixed(&mut self.bytes, &mut self.frames, &value)
+        self.add_sized(&value)
     }
 
     /// Adds a signed number of 64 bits.
@@ -137,7 +146,7 @@ impl Builder {
     pub fn add_long(&mut self, value: i64) -> Result<(), Errno>
         ensures { (s : State) → IsAt self.old s → Makes (step s (add (fixed (long value)))) self.old self.new result }
     {
-        add_fixed(&mut self.bytes, &mut self.frames, &value)
+        self.add_sized(&value)
     }
 
     /// Adds a float of 32 bits.
@@ -146,7 +155,7 @@ impl Builder {
         ensures { (s : State) → IsAt self.old s
             → Makes (step s (add (fixed (float value.0)))) self.old self.new result }
     {
-        add_fixed(&mut self.bytes, &mut self.frames, &value)
+        self.add_sized(&value)
     }
 
     /// Adds a float of 64 bits.
@@ -155,7 +164,7 @@ impl Builder {
         ensures { (s : State) → IsAt self.old s
             → Makes (step s (add (fixed (double value.0)))) self.old self.new result }
     {
-        add_fixed(&mut self.bytes, &mut self.frames, &value)
+        self.add_sized(&value)
     }
 
     /// Adds a text. Refused as INVAL also where it holds NUL.
@@ -204,7 +213,7 @@ impl Builder {
     pub fn add_fd(&mut self, value: i64) -> Result<(), Errno>
         ensures { (s : State) → IsAt self.old s → Makes (step s (add (fixed (fd value)))) self.old self.new result }
     {
-        add_fixed(&mut self.bytes, &mut self.frames, &Fd(value))
+        self.add_sized(&Fd(value))
     }
 
     /// Adds a rectangle.
@@ -213,7 +222,7 @@ impl Builder {
         ensures { (s : State) → IsAt self.old s
             → Makes (step s (add (fixed (rectangle value.width value.height)))) self.old self.new result }
     {
-        add_fixed(&mut self.bytes, &mut self.frames, &value)
+        self.add_sized(&value)
     }
 
     /// Adds a fraction.
@@ -222,7 +231,7 @@ impl Builder {
         ensures { (s : State) → IsAt self.old s
             → Makes (step s (add (fixed (fraction value.num value.denom)))) self.old self.new result }
     {
-        add_fixed(&mut self.bytes, &mut self.frames, &value)
+        self.add_sized(&value)
     }
 
     /// Adds a whole array.

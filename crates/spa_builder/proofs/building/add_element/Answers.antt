@@ -6,29 +6,22 @@ use Rattle.spa_format.proofs.FixedKinds.{length-fixed_body}
 use Rattle.spa_builder.specs.Step.{state_with_value}
 use Rattle.spa_builder.specs.Fields.{BuilderFields, fields_of, IsNested, frames_of, all_so_far, so_far}
 use Rattle.spa_builder.specs.Innermost.{has_room_for, has_elements, takes_elements, takes_element, with_element}
-use Rattle.spa_builder.proofs.Steps.{sized_goes, sized_nomem, sized_nospc, sized_inval, has_its_room, base_and_more, is_nomem, closing}
+use Rattle.spa_builder.proofs.Steps.{sized_goes, sized_nomem, sized_nospc, sized_inval, has_its_room, base_and_more, is_nomem, closing_now}
 use Rattle.spa_builder.proofs.Members.{element_fit, element_placed, element_not, element_bytes, is_element, small_body}
 use Rattle.spa_builder.proofs.building.add_element.Goals as goal
 
 pub has_room-requires-clause-within : goal.has_room-requires-clause-within
-has_room-requires-clause-within c =
-    let h = c.requires.holds in
-    let r = has_its_room (fields_of c.args.bytes.now c.args.frames.now) h.0 h.1 in
-    (r.0, r.1, r.2, c.len.ensures ∙ r.3, r.4)
+has_room-requires-clause-within c = has_its_room (fields_of c.args.bytes.now c.args.frames.now) _ c.requires.holds c.len.ensures
 
 pub returns-then-not-takes_element : goal.returns-then-not-takes_element
 returns-then-not-takes_element c s x at ty b el =
     let old : BuilderFields = fields_of c.args.bytes.now c.args.frames.now in
-    let base = length (member_encodings s.closed) in
-    let z = closing old s.closed s.opened c.in-Some.open at
-    (c.in-Some.ensures.last base s.opened (at.frames)) in
+    let z = closing_now _ _ (s, at) c.in-Some.ensures.last in
     let p = z.0 in
     let ps = z.1 in
     let k = z.2 in
     let h : has_elements p ≡ true = ap takes_elements (sym k.opened) ∙ el in
-    let nested : IsNested (p ∷ ps) = subst IsNested k.opened at.nested in
     let len = ap length b in
-    let one = small_body x _ len c.requires.body in
     let t : takes_element p x ≡ false = sym (c.takes_element.ensures p x k.what (sym ty))
     ∙ c.if-not-takes_element.true in
     sized_inval _ _ _ old (ap (λ l. state_with_value s.closed l (fixed x)) k.opened
@@ -38,15 +31,13 @@ pub returns-then-not-has_room : goal.returns-then-not-has_room
 returns-then-not-has_room c s x at ty b el =
     let old : BuilderFields = fields_of c.args.bytes.now c.args.frames.now in
     let base = length (member_encodings s.closed) in
-    let z = closing old s.closed s.opened c.in-Some.open at
-    (c.in-Some.ensures.last base s.opened (at.frames)) in
+    let z = closing_now _ _ (s, at) c.in-Some.ensures.last in
     let p = z.0 in
     let ps = z.1 in
     let k = z.2 in
     let h : has_elements p ≡ true = ap takes_elements (sym k.opened) ∙ el in
     let nested : IsNested (p ∷ ps) = subst IsNested k.opened at.nested in
     let len = ap length b in
-    let one = small_body x _ len c.requires.body in
     let t : takes_element p x ≡ true = sym (c.takes_element.ensures p x k.what (sym ty))
     ∙ c.if-not-takes_element.false in
     let is = ap (λ l. state_with_value s.closed l (fixed x)) k.opened ∙ element_placed s.closed p ps x h t in
@@ -61,8 +52,7 @@ pub returns-in_err-append : goal.returns-in_err-append
 returns-in_err-append c s x at ty b el =
     let old : BuilderFields = fields_of c.args.bytes.now c.args.frames.now in
     let base = length (member_encodings s.closed) in
-    let z = closing old s.closed s.opened c.in-Some.open at
-    (c.in-Some.ensures.last base s.opened (at.frames)) in
+    let z = closing_now _ _ (s, at) c.in-Some.ensures.last in
     let p = z.0 in
     let ps = z.1 in
     let k = z.2 in
@@ -84,22 +74,14 @@ returns-in_err-append c s x at ty b el =
 
 pub overflow_sub-had : goal.overflow_sub-had
 overflow_sub-had c =
-    let old : BuilderFields = fields_of c.args.bytes.now c.args.frames.now in
-    let s = c.requires.holds.0 in
-    let at = c.requires.holds.1 in
-    let k = closing old s.closed s.opened c.in-Some.open at
-    (c.in-Some.ensures.last (length (member_encodings s.closed)) s.opened (at.frames)) in
+    let k = closing_now _ _ c.requires.holds c.in-Some.ensures.last in
     let l = k.2.long in
     let e : c.len-had.result ≡ length c.args.bytes.now = c.len-had.ensures in
     omega arith
 
 pub set_child-requires : goal.set_child-requires
 set_child-requires c =
-    let old : BuilderFields = fields_of c.args.bytes.now c.args.frames.now in
-    let s = c.requires.holds.0 in
-    let at = c.requires.holds.1 in
-    let k = closing old s.closed s.opened c.in-Some.open at
-    (c.in-Some.ensures.last (length (member_encodings s.closed)) s.opened (at.frames)) in
+    let k = closing_now _ _ c.requires.holds c.in-Some.ensures.last in
     let l = k.2.long in
     let e : c.len-had.result ≡ length c.args.bytes.now = c.len-had.ensures in
     let f = ap length c.in_ok-append.ensures.ok ∙ length-append c.args.bytes.now c.args.body.now in
@@ -109,8 +91,7 @@ pub returns : goal.returns
 returns c s x at ty b el =
     let old : BuilderFields = fields_of c.args.bytes.now c.args.frames.now in
     let base = length (member_encodings s.closed) in
-    let z = closing old s.closed s.opened c.in-Some.open at
-    (c.in-Some.ensures.last base s.opened (at.frames)) in
+    let z = closing_now _ _ (s, at) c.in-Some.ensures.last in
     let p = z.0 in
     let ps = z.1 in
     let k = z.2 in

@@ -1,47 +1,23 @@
-use Rattle.std.proofs.Common.{◌≤◌, ◌++◌, length, ap, sym, ◌∙◌, Err, subst}
-use Rattle.spa_format.specs.Encoding.{member_encodings}
-use Rattle.spa_format.specs.Words.{size_limit}
-use Rattle.spa_builder.specs.Fields.{BuilderFields, fields_of}
-use Rattle.spa_builder.proofs.Steps.{has_its_room, base_and_more}
-use Rattle.spa_builder.proofs.Placing.{IsSizeOf, not_admitted, admitted_nomem, admitted, passed}
+use Rattle.std.proofs.Common.{◌++◌, ap, sym, ◌∙◌}
+use Rattle.spa_builder.specs.Fields.{fields_of}
+use Rattle.spa_builder.proofs.Steps.{has_its_room, is_nomem}
+use Rattle.spa_builder.proofs.Placing.{exactly, not_admitted, admitted_nomem, admitted}
 use Rattle.spa_builder.proofs.building.add_encoding.Goals as goal
 
 pub admit-requires : goal.admit-requires
-admit-requires c =
-    let h = c.requires.holds in
-    let r = has_its_room (fields_of c.args.bytes.now c.args.frames.now) h.0 h.1 in
-    (r.0, r.1, r.2, c.len.ensures ∙ r.3, r.4)
+admit-requires c = has_its_room (fields_of c.args.bytes.now c.args.frames.now) _ c.requires.holds c.len.ensures
 
 pub returns-in_err-admit : goal.returns-in_err-admit
 returns-in_err-admit c s v at k b n =
-    let old : BuilderFields = fields_of c.args.bytes.now c.args.frames.now in
-    let size : IsSizeOf c.args.size v =
-    record { exact = λ x. sym k; large = λ x. subst (λ m. size_limit ≤ m) (sym k) x } in
-    not_admitted s v old _ _ _ c.from_residual.ensures.1 at size n
-    (c.in_err-admit.ensures (length (member_encodings s.closed)) s.opened (at.frames)
-    (c.len.ensures ∙ base_and_more old s at))
+    not_admitted s v _ _ _ _ _ c.from_residual.ensures.1 at (exactly (sym k)) n c.len.ensures c.in_err-admit.ensures
 
 pub returns-in_err-append : goal.returns-in_err-append
 returns-in_err-append c s v at k b n =
-    let old : BuilderFields = fields_of c.args.bytes.now c.args.frames.now in
-    let size : IsSizeOf c.args.size v =
-    record { exact = λ x. sym k; large = λ x. subst (λ m. size_limit ≤ m) (sym k) x } in
-    admitted_nomem s v old _ _ _ _ at size
-    (c.in_ok-admit.ensures (length (member_encodings s.closed)) s.opened (at.frames)
-    (c.len.ensures ∙ base_and_more old s at))
-    (passed _ _ c.from_residual-in_err-append.ensures.1
-    ∙ ap (λ e. Err e) c.in_err-append.ensures.memory)
+    admitted_nomem s v _ _ _ _ _ _ at (exactly (sym k)) c.len.ensures c.in_ok-admit.ensures
+    (is_nomem _ _ c.from_residual-in_err-append.ensures.1 c.in_err-append.ensures.memory)
     (ap (λ l. fields_of l c.args.frames.now) c.in_err-append.ensures.unchanged)
 
 pub returns : goal.returns
 returns c s v at k b n =
-    let old : BuilderFields = fields_of c.args.bytes.now c.args.frames.now in
-    let size : IsSizeOf c.args.size v =
-    record { exact = λ x. sym k; large = λ x. subst (λ m. size_limit ≤ m) (sym k) x } in
-    admitted s v old (fields_of c.append.new.self c.fill.new.frames) _ _ _ at size
-    (c.in_ok-admit.ensures (length (member_encodings s.closed)) s.opened (at.frames)
-    (c.len.ensures ∙ base_and_more old s at))
-    (c.in_ok-append.ensures.ok ∙ ap (λ l. c.args.bytes.now ++ l) (sym b))
-    (λ t. c.fill.ensures (length (member_encodings s.closed)) s.opened v t at.frames
-    (c.innermost-innermost.ensures.last (length (member_encodings s.closed)) s.opened
-    at.frames))
+    admitted s v _ (fields_of c.append.new.self c.fill.new.frames) _ _ _ _ _ at (exactly (sym k)) c.len.ensures c.in_ok-admit.ensures
+    (c.in_ok-append.ensures.ok ∙ ap (λ l. c.args.bytes.now ++ l) (sym b)) c.fill.ensures c.innermost-innermost.ensures.last

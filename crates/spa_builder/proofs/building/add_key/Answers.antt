@@ -8,10 +8,7 @@ use Rattle.spa_builder.proofs.Steps.{sized_goes, sized_nomem, sized_nospc, sized
 use Rattle.spa_builder.proofs.building.add_key.Goals as goal
 
 pub has_room-requires-clause-within : goal.has_room-requires-clause-within
-has_room-requires-clause-within c =
-    let h = c.requires in
-    let r = has_its_room (fields_of c.args.bytes.now c.args.frames.now) h.0 h.1 in
-    (r.0, r.1, r.2, c.len.ensures ∙ r.3, r.4)
+has_room-requires-clause-within c = has_its_room (fields_of c.args.bytes.now c.args.frames.now) _ c.requires c.len.ensures
 
 pub returns-then-not-has_room : goal.returns-then-not-has_room
 returns-then-not-has_room c s at =

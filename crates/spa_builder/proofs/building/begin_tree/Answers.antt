@@ -8,10 +8,7 @@ use Rattle.spa_builder.proofs.Placing.{passed}
 use Rattle.spa_builder.proofs.building.begin_tree.Goals as goal
 
 pub has_room-requires-clause-within : goal.has_room-requires-clause-within
-has_room-requires-clause-within g c =
-    let h = c.requires.holds in
-    let r = has_its_room (fields_of c.args.bytes.now c.args.frames.now) h.0 h.1 in
-    (r.0, r.1, r.2, c.place-start.ensures.at ∙ r.3, r.4)
+has_room-requires-clause-within g c = has_its_room (fields_of c.args.bytes.now c.args.frames.now) _ c.requires.holds c.place-start.ensures.at
 
 pub returns-then-not-has_room-clause-step : goal.returns-then-not-has_room-clause-step
 returns-then-not-has_room-clause-step g c s p at w b f =

@@ -5,7 +5,7 @@ use Rattle.spa_format.specs.Encoding.{member_encodings, encoded_pod}
 use Rattle.spa_builder.specs.Step.{closed_value}
 use Rattle.spa_builder.specs.Fields.{BuilderFields, fields_of, all_so_far, body_so_far, frames_of, type_of_partial}
 use Rattle.spa_builder.proofs.FrameLists.{length-frames_of}
-use Rattle.spa_builder.proofs.Steps.{goes_ok, goes_nomem, goes_inval, closing, closes_is, closes_not, closes_other, is_value, is_no_value, is_closed, patched, is_nomem}
+use Rattle.spa_builder.proofs.Steps.{goes_ok, goes_nomem, goes_inval, closing_now, closes_is, closes_not, closes_other, is_value, is_no_value, is_closed, patched, is_nomem}
 use Rattle.spa_builder.proofs.building.close.Goals as goal
 
 pub returns-then-frame-len : goal.returns-then-frame-len
@@ -19,19 +19,14 @@ returns-then-frame-len c s at =
 pub returns-then-not-is_finished : goal.returns-then-not-is_finished
 returns-then-not-is_finished c s at =
     let old : BuilderFields = fields_of c.args.bytes.now c.args.frames.now in
-    let k = closing old s.closed s.opened c.in-Some.open at
-    (c.in-Some.ensures.last (length (member_encodings s.closed)) s.opened (at.frames)) in
+    let k = closing_now _ _ (s, at) c.in-Some.ensures.last in
     let none = is_no_value (closed_value k.0) (sym (c.is_finished.ensures k.0 k.2.what)
     ∙ c.if-not-is_finished.true) in
     goes_inval _ _ old (closes_not s.closed s.opened k.0 k.1 c.args.frame k.2.opened none)
 
 pub overflow_add-size : goal.overflow_add-size
 overflow_add-size c =
-    let old : BuilderFields = fields_of c.args.bytes.now c.args.frames.now in
-    let s = c.requires.0 in
-    let at = c.requires.1 in
-    let k = closing old s.closed s.opened c.in-Some.open at
-    (c.in-Some.ensures.last (length (member_encodings s.closed)) s.opened at.frames) in
+    let k = closing_now _ _ c.requires c.in-Some.ensures.last in
     let l = k.2.long in
     let e : c.len-2.result ≡ length c.args.bytes.now = c.len-2.ensures in
     let f = c.len-2.type_inv in
@@ -39,22 +34,14 @@ overflow_add-size c =
 
 pub overflow_sub-size : goal.overflow_sub-size
 overflow_sub-size c =
-    let old : BuilderFields = fields_of c.args.bytes.now c.args.frames.now in
-    let s = c.requires.0 in
-    let at = c.requires.1 in
-    let k = closing old s.closed s.opened c.in-Some.open at
-    (c.in-Some.ensures.last (length (member_encodings s.closed)) s.opened (at.frames)) in
+    let k = closing_now _ _ c.requires c.in-Some.ensures.last in
     let l = k.2.long in
     let e : c.len-2.result ≡ length c.args.bytes.now = c.len-2.ensures in
     omega arith
 
 pub overflow_cast-size : goal.overflow_cast-size
 overflow_cast-size c =
-    let old : BuilderFields = fields_of c.args.bytes.now c.args.frames.now in
-    let s = c.requires.0 in
-    let at = c.requires.1 in
-    let k = closing old s.closed s.opened c.in-Some.open at
-    (c.in-Some.ensures.last (length (member_encodings s.closed)) s.opened (at.frames)) in
+    let k = closing_now _ _ c.requires c.in-Some.ensures.last in
     let l = k.2.small in
     let z = k.2.size in
     let e : c.len-2.result ≡ length c.args.bytes.now = c.len-2.ensures in
@@ -62,11 +49,7 @@ overflow_cast-size c =
 
 pub patch-requires : goal.patch-requires
 patch-requires c =
-    let old : BuilderFields = fields_of c.args.bytes.now c.args.frames.now in
-    let s = c.requires.0 in
-    let at = c.requires.1 in
-    let k = closing old s.closed s.opened c.in-Some.open at
-    (c.in-Some.ensures.last (length (member_encodings s.closed)) s.opened (at.frames)) in
+    let k = closing_now _ _ c.requires c.in-Some.ensures.last in
     let l = k.2.long in
     let p = ap length c.in_ok-put_padding.ensures.ok
     ∙ length-append c.args.bytes.now (padding (c.len-2.result - (c.in-Some.open.start + 8))) in
@@ -74,12 +57,10 @@ patch-requires c =
 
 pub pop-requires : goal.pop-requires
 pop-requires c =
-    let old : BuilderFields = fields_of c.args.bytes.now c.args.frames.now in
     let s = c.requires.0 in
     let at = c.requires.1 in
     let base = length (member_encodings s.closed) in
-    let k = closing old s.closed s.opened c.in-Some.open at
-    (c.in-Some.ensures.last base s.opened at.frames) in
+    let k = closing_now _ _ (s, at) c.in-Some.ensures.last in
     (base, k.0, k.1, at.frames ∙ ap (frames_of base) k.2.opened)
 
 pub returns-in_err-put_padding : goal.returns-in_err-put_padding
@@ -87,8 +68,7 @@ returns-in_err-put_padding c s at =
     let old : BuilderFields = fields_of c.args.bytes.now c.args.frames.now in
     let n : c.len.result ≡ length s.opened = c.len.ensures ∙ ap length at.frames
     ∙ length-frames_of (length (member_encodings s.closed)) s.opened in
-    let k = closing old s.closed s.opened c.in-Some.open at
-    (c.in-Some.ensures.last (length (member_encodings s.closed)) s.opened (at.frames)) in
+    let k = closing_now _ _ (s, at) c.in-Some.ensures.last in
     let v = is_value (closed_value k.0) (sym (c.is_finished.ensures k.0 k.2.what)
     ∙ c.if-not-is_finished.false) in
     goes_nomem _ _ old _ c.from_residual.result
@@ -103,8 +83,7 @@ returns c s at =
     let new : BuilderFields = fields_of c.patch.new.self c.fill.new.frames in
     let n : c.len.result ≡ length s.opened = c.len.ensures ∙ ap length at.frames
     ∙ length-frames_of (length (member_encodings s.closed)) s.opened in
-    let k = closing old s.closed s.opened c.in-Some.open at
-    (c.in-Some.ensures.last (length (member_encodings s.closed)) s.opened (at.frames)) in
+    let k = closing_now _ _ (s, at) c.in-Some.ensures.last in
     let v = is_value (closed_value k.0) (sym (c.is_finished.ensures k.0 k.2.what)
     ∙ c.if-not-is_finished.false) in
     let front = member_encodings s.closed ++ all_so_far k.1 in

@@ -4,7 +4,7 @@ use Rattle.spa_format.specs.Encoding.{member_encodings}
 use Rattle.spa_builder.specs.Fields.{BuilderFields, fields_of, frames_of}
 use Rattle.spa_builder.proofs.FrameLists.{length-frames_of}
 use Rattle.spa_builder.proofs.Leaving.{abandoned_is, abandoned_other, is_without}
-use Rattle.spa_builder.proofs.Steps.{closing, goes_inval, goes_ok}
+use Rattle.spa_builder.proofs.Steps.{closing_now, goes_inval, goes_ok}
 use Rattle.spa_builder.proofs.building.leave.Goals as goal
 
 pub returns-then-len-frame : goal.returns-then-len-frame
@@ -17,22 +17,16 @@ returns-then-len-frame c s at =
 
 pub truncate-requires : goal.truncate-requires
 truncate-requires c =
-    let old : BuilderFields = fields_of c.args.bytes.now c.args.frames.now in
-    let s = c.requires.0 in
-    let at = c.requires.1 in
-    let k = closing old s.closed s.opened c.in-Some.open at
-    (c.in-Some.ensures.last (length (member_encodings s.closed)) s.opened at.frames) in
+    let k = closing_now _ _ c.requires c.in-Some.ensures.last in
     let l = k.2.long in
     omega arith
 
 pub pop-requires : goal.pop-requires
 pop-requires c =
-    let old : BuilderFields = fields_of c.args.bytes.now c.args.frames.now in
     let s = c.requires.0 in
     let at = c.requires.1 in
     let base = length (member_encodings s.closed) in
-    let k = closing old s.closed s.opened c.in-Some.open at
-    (c.in-Some.ensures.last base s.opened at.frames) in
+    let k = closing_now _ _ (s, at) c.in-Some.ensures.last in
     (base, k.0, k.1, at.frames ∙ ap (frames_of base) k.2.opened)
 
 pub returns : goal.returns
@@ -42,8 +36,7 @@ returns c s at =
     let base = length (member_encodings s.closed) in
     let n : c.len.result ≡ length s.opened = c.len.ensures ∙ ap length at.frames
     ∙ length-frames_of base s.opened in
-    let k = closing old s.closed s.opened c.in-Some.open at
-    (c.in-Some.ensures.last base s.opened at.frames) in
+    let k = closing_now _ _ (s, at) c.in-Some.ensures.last in
     let popped = c.pop.ensures base k.0 k.1 (at.frames ∙ ap (frames_of base) k.2.opened) in
     goes_ok _ _ old new _
     (abandoned_is s.closed s.opened k.0 k.1 c.args.frame k.2.opened (sym c.if-len-frame.false ∙ n))

@@ -14,10 +14,7 @@ use Rattle.spa_builder.proofs.Valued.{made_value, misplaced, value_added, value_
 use Rattle.spa_builder.proofs.values.add_written.Goals as goal
 
 pub has_room-requires-clause-within : goal.has_room-requires-clause-within
-has_room-requires-clause-within c =
-    let h = c.requires.holds in
-    let r = has_its_room (fields_of c.args.bytes.now c.args.frames.now) h.0 h.1 in
-    (r.0, r.1, r.2, c.len-had.ensures ∙ r.3, r.4)
+has_room-requires-clause-within c = has_its_room (fields_of c.args.bytes.now c.args.frames.now) _ c.requires.holds c.len-had.ensures
 
 pub returns-then-not-takes_trees : goal.returns-then-not-takes_trees
 returns-then-not-takes_trees c s at =

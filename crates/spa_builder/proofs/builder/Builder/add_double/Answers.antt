@@ -1,9 +1,0 @@
-use Rattle.spa_format.specs.Kind.{double}
-use Rattle.spa_format.specs.Tree.{fixed}
-use Rattle.spa_builder.specs.Step.{step, add}
-use Rattle.spa_builder.proofs.Steps.{kept}
-use Rattle.spa_builder.proofs.builder.Builder.add_double.Goals as goal
-
-pub invariant_of-self : goal.invariant_of-self
-invariant_of-self c = kept (λ s. step s (add (fixed (double c.args.value.0)))) _ _
-    c.add_fixed.result c.self.invariant c.add_fixed.ensures

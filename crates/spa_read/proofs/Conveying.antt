@@ -151,30 +151,20 @@ wrong_parts t c p (short_object e l) = grind arith
 
 in_struct : (k : Fault) (c : List ℕ) → ¬ (StandsInBody struct_type c k)
 in_struct Short c s = s
-in_struct Text c s = let e = s.0 in omega arith
 in_struct InvalidType c s = invalid_parts struct_type c (inl refl) s
-in_struct InvalidChoiceType c s = let e = s.0 in omega arith
-in_struct MissingChoiceValues c s = let e = s.0 in omega arith
 in_struct WrongSize c s = wrong_parts struct_type c (inl refl) s
+in_struct _ c s = let e = s.0 in omega arith
 
 in_object : (k : Fault) (c : List ℕ) → header_size ≤ length c → ¬ (StandsInBody object_type c k)
 in_object Short c l s = s
-in_object Text c l s = let e = s.0 in omega arith
 in_object InvalidType c l s = invalid_parts object_type c (inr refl) s
-in_object InvalidChoiceType c l s = let e = s.0 in omega arith
-in_object MissingChoiceValues c l s = let e = s.0 in omega arith
 in_object WrongSize c l s = wrong_parts object_type c (inr (refl, l)) s
+in_object _ c l s = let e = s.0 in omega arith
 
 in_content : (k : Fault) (v : Tree) (c : List ℕ) → IsBodyIn true v c → ¬ (StandsInBody (type_of v) c k)
-in_content k (fixed x) c h s = in_exact k (fixed x) c h s
-in_content k (string t) c h s = in_exact k (string t) c h s
-in_content k (bytes t) c h s = in_exact k (bytes t) c h s
-in_content k (bitmap t) c h s = in_exact k (bitmap t) c h s
-in_content k (array l xs) c h s = in_exact k (array l xs) c h s
-in_content k (choice z f l x xs) c h s = in_exact k (choice z f l x xs) c h s
-in_content k (pointer t a) c h s = in_exact k (pointer t a) c h s
 in_content k (struct vs) c h s = in_struct k c s
 in_content k (object t i ps) c h s = in_object k c h.0 s
+in_content k v c h s = in_exact k v c h s
 
 -- no values one after another go on with what conveys none
 pub none_behind : (vs ws : Trees) (first left : List ℕ) → ConveyMembers vs first → left ≢ [] → ConveysNothing left →

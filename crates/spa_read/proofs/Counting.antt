@@ -39,15 +39,9 @@ count_with (inside.Object o) v =
     let e = properties_count (property_views o.properties.items) o.key o.flags.0 v in omega arith
 
 pub is_one : (v : Tree) → type_of v ≢ struct_type → type_of v ≢ object_type → node_count v ≡ 1
-is_one (fixed x) n m = refl
-is_one (string s) n m = refl
-is_one (bytes s) n m = refl
-is_one (bitmap s) n m = refl
-is_one (array k xs) n m = refl
-is_one (choice s f k x xs) n m = refl
-is_one (pointer t a) n m = refl
 is_one (struct vs) n m = absurd (n refl)
 is_one (object t i ps) n m = absurd (m refl)
+is_one _ n m = refl
 
 -- Refusals with the headers opened.
 

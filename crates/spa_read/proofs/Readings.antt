@@ -21,26 +21,13 @@ is_lenient n = not (eqb n 0)
 -- an exact body
 exact_body : (v : Tree) (b : List ℕ) → IsBodyIn false v b → IsBody v b
 exact_body (fixed x) b h = h
-exact_body (string s) b h = h
-exact_body (bytes s) b h = h
-exact_body (bitmap s) b h = h
-exact_body (array k xs) b h = h
-exact_body (choice s f k x xs) b h = h
-exact_body (pointer t a) b h = h
-exact_body (struct vs) b h = h
-exact_body (object t i ps) b h = h
+exact_body _ b h = h
 
 -- a body without members is the same in both
 pub leaf_in : (m : Bool) (v : Tree) (b : List ℕ) → type_of v ≢ struct_type → type_of v ≢ object_type → IsBody v b → IsBodyIn m v b
-leaf_in m (fixed x) b n o h = h
-leaf_in m (string s) b n o h = h
-leaf_in m (bytes s) b n o h = h
-leaf_in m (bitmap s) b n o h = h
-leaf_in m (array k xs) b n o h = h
-leaf_in m (choice s f k x xs) b n o h = h
-leaf_in m (pointer t a) b n o h = h
 leaf_in m (struct vs) b n o h = absurd (n refl)
 leaf_in m (object t i ps) b n o h = absurd (o refl)
+leaf_in m _ b n o h = h
 
 -- a front that is opened, and what is read in its place
 pub lenient_front : (input b c rest after : List ℕ) (t u : ℕ) → Opens input t b rest → ReadsAs t b u c → after ≡ rest →

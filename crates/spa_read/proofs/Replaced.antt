@@ -41,14 +41,8 @@ replaces (fixed x) n =
       | inl p ↦ absurd (n (inr (kind_of x, p, refl)))
       | inr l ↦ omega arith
     ]
-replaces (string s) n = tt
-replaces (bytes s) n = tt
-replaces (bitmap s) n = tt
-replaces (array k xs) n = tt
 replaces (choice s f k x xs) n = absurd (n (inl refl))
-replaces (pointer t a) n = tt
-replaces (struct vs) n = tt
-replaces (object t i ps) n = tt
+replaces _ n = tt
 
 never_stays : (v : Tree) → ReplacesNoneChoice v → ¬ (StaysChoice (type_of v))
 never_stays v r (inl e) =

@@ -55,19 +55,11 @@ pub filled_frames : (old new : List BegunPod) (base : ℕ) (ps : List Partial) (
     ((b : ℕ) (p q : Partial) (rs : List Partial) → old ≡ frames_of b (p ∷ rs) →
     at_stage (what_of p) Object ≡ what_of q → new ≡ frames_of b (q ∷ rs)) →
     new ≡ frames_of base (trees_with_value ps v)
-filled_frames old new base [] v h e f = absurd (cc)
-filled_frames old new base (open_struct vs ∷ ps) v h e f = absurd (cc)
-filled_frames old new base (open_object t i qs ∷ ps) v h e f = absurd (cc)
 filled_frames old new base (open_property t i qs k fl ∷ ps) v h e f =
     f base (open_property t i qs k fl) (open_object t i (with_property qs k fl v)) ps e refl
-filled_frames old new base (open_array xs ∷ ps) v h e f = absurd (cc)
-filled_frames old new base (open_choice k fl xs ∷ ps) v h e f = absurd (cc)
+filled_frames old new base _ v h e f = absurd (cc)
 
 pub unfilled_frames : (base : ℕ) (ps : List Partial) (v : Tree) → waits ps ≡ false →
     frames_of base ps ≡ frames_of base (trees_with_value ps v)
-unfilled_frames base [] v h = refl
-unfilled_frames base (open_struct vs ∷ ps) v h = refl
-unfilled_frames base (open_object t i qs ∷ ps) v h = refl
 unfilled_frames base (open_property t i qs k fl ∷ ps) v h = absurd (cc)
-unfilled_frames base (open_array xs ∷ ps) v h = refl
-unfilled_frames base (open_choice k fl xs ∷ ps) v h = refl
+unfilled_frames base _ v h = refl

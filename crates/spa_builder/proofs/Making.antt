@@ -97,7 +97,6 @@ in_its_place p (open_struct vs ∷ ps) v l m h f =
     and_from (nat_lt (own_size p + 0) size_limit) (all_fit (extent (own_size p + 0)) (open_struct vs ∷ ps))
     (lt-ltb (own_size p + 0) size_limit (omega arith))
     (fits_under (open_struct vs) (open_struct (with_tree vs v)) ps (extent (own_size p + 0)) 0 (omega arith) f)
-in_its_place p (open_object t i qs ∷ ps) v l m h f = absurd (cc)
 in_its_place p (open_property t i qs k g ∷ ps) v l m h f =
     let a = properties_length qs (property k g v no_properties) in
     let b = one_property_length k g v in
@@ -106,8 +105,7 @@ in_its_place p (open_property t i qs k g ∷ ps) v l m h f =
     and_from (nat_lt (own_size p + 0) size_limit) (all_fit (extent (own_size p + 0)) (open_property t i qs k g ∷ ps))
     (lt-ltb (own_size p + 0) size_limit (omega arith))
     (fits_under (open_property t i qs k g) (open_object t i (with_property qs k g v)) ps (extent (own_size p + 0)) 0 (omega arith) f)
-in_its_place p (open_array xs ∷ ps) v l m h f = absurd (cc)
-in_its_place p (open_choice k g xs ∷ ps) v l m h f = absurd (cc)
+in_its_place p _ v l m h f = absurd (cc)
 
 -- ---- a call that is accepted
 
@@ -198,13 +196,6 @@ object_not_fixed t i ps x e = cc
 mutual
   pub made : (v : Tree) (s t : State) → step s (add v) ≡ Accepts t →
       state_from s (calls_for (length s.opened) v) ≡ Some t
-  made (fixed x) s t e = alone s t (fixed x) e
-  made (string x) s t e = alone s t (string x) e
-  made (bytes x) s t e = alone s t (bytes x) e
-  made (bitmap x) s t e = alone s t (bitmap x) e
-  made (array k xs) s t e = alone s t (array k xs) e
-  made (choice h f k x xs) s t e = alone s t (choice h f k x xs) e
-  made (pointer x y) s t e = alone s t (pointer x y) e
   made (struct vs) s t e =
       let a = added_so s t (struct vs) e in
       let h = takes_it s t (struct vs) (λ x q. struct_not_fixed vs x q) a.place in
@@ -240,6 +231,7 @@ mutual
       (property_calls n ps) (pop n ∷ []) all
       ∙ first_accepted (inside s.closed (open_object c i ps) s.opened) t (pop n) []
       (closes_so s.closed (open_object c i ps) s.opened n t (omega arith) (object c i ps) (object_closes s.closed c i ps s.opened) a.place)
+  made v s t e = alone s t v e
 
   members_made : (vs ws : Trees) (closed : Trees) (ps : List Partial) (n : ℕ) → n ≡ length ps + 1 →
       some_has_nul vs ≡ false → all_fit 0 (open_struct (join_members ws vs) ∷ ps) ≡ true →
@@ -307,14 +299,10 @@ not_least a b h = omega (arith, h)
 
 small_value : (v : Tree) → ¬ (IsTooLarge v) → length (encoded_body v) < size_limit
 small_value (fixed x) h = small_fixed (kind_of x) (length (fixed_body x)) (length-fixed_body x)
-small_value (string s) h = not_least _ _ h
-small_value (bytes s) h = not_least _ _ h
-small_value (bitmap s) h = not_least _ _ h
-small_value (array k xs) h = not_least _ _ h
-small_value (choice s f k x xs) h = not_least _ _ h
 small_value (pointer t a) h = let l = length-pointer t a in omega arith
 small_value (struct vs) h = not_least _ _ (λ l. h (inl l))
 small_value (object t i ps) h = not_least _ _ (λ l. h (inl l))
+small_value _ h = not_least _ _ h
 
 pub from_start : (v : Tree) → IsWritable v → step start (add v) ≡ Accepts (state_of_value v)
 from_start v w = adds start (state_of_value v) v (record {
@@ -352,12 +340,8 @@ open_placed closed (p ∷ ps) v u e = open_added (tree_with_value p v) closed p 
 
 open_keyed : (closed : Trees) (ps : List Partial) (k f : ℕ) (u : State) → state_with_key closed ps k f ≡ Some u →
     length u.opened ≡ length ps
-open_keyed closed [] k f u e = absurd (cc)
-open_keyed closed (open_struct vs ∷ ps) k f u e = absurd (cc)
 open_keyed closed (open_object t i qs ∷ ps) k f u e = open_in (inside closed (open_property t i qs k f) ps) u e
-open_keyed closed (open_property t i qs j g ∷ ps) k f u e = absurd (cc)
-open_keyed closed (open_array xs ∷ ps) k f u e = absurd (cc)
-open_keyed closed (open_choice h g xs ∷ ps) k f u e = absurd (cc)
+open_keyed closed _ k f u e = absurd (cc)
 
 open_begun : (b : Bool) (s : State) (p : Partial) (u : State) →
     cond b (Some (inside s.closed p s.opened)) None ≡ Some u → length u.opened ≡ length s.opened + 1
@@ -452,40 +436,19 @@ fixed_length (property k f (fixed x) ps) h =
     let s = size_fits (kind_of x) in
     let r = fixed_length ps h in
     omega arith
-fixed_length (property k f (string x) ps) h = absurd h
-fixed_length (property k f (bytes x) ps) h = absurd h
-fixed_length (property k f (bitmap x) ps) h = absurd h
-fixed_length (property k f (array x y) ps) h = absurd h
-fixed_length (property k f (choice x y z w u) ps) h = absurd h
-fixed_length (property k f (pointer x y) ps) h = absurd h
-fixed_length (property k f (struct x) ps) h = absurd h
-fixed_length (property k f (object x y z) ps) h = absurd h
+fixed_length _ h = absurd h
 
 fixed_clean : (ps : Properties) → AreFixed ps → ¬ (SomeValueHasNul ps)
 fixed_clean no_properties h n = n
 fixed_clean (property k f (fixed x) ps) h (inl n) = n
 fixed_clean (property k f (fixed x) ps) h (inr n) = fixed_clean ps h n
-fixed_clean (property k f (string x) ps) h n = absurd h
-fixed_clean (property k f (bytes x) ps) h n = absurd h
-fixed_clean (property k f (bitmap x) ps) h n = absurd h
-fixed_clean (property k f (array x y) ps) h n = absurd h
-fixed_clean (property k f (choice x y z w u) ps) h n = absurd h
-fixed_clean (property k f (pointer x y) ps) h n = absurd h
-fixed_clean (property k f (struct x) ps) h n = absurd h
-fixed_clean (property k f (object x y z) ps) h n = absurd h
+fixed_clean _ h n = absurd h
 
 fixed_fits : (ps : Properties) → AreFixed ps → ¬ (SomeValueTooLarge ps)
 fixed_fits no_properties h n = n
 fixed_fits (property k f (fixed x) ps) h (inl n) = n
 fixed_fits (property k f (fixed x) ps) h (inr n) = fixed_fits ps h n
-fixed_fits (property k f (string x) ps) h n = absurd h
-fixed_fits (property k f (bytes x) ps) h n = absurd h
-fixed_fits (property k f (bitmap x) ps) h n = absurd h
-fixed_fits (property k f (array x y) ps) h n = absurd h
-fixed_fits (property k f (choice x y z w u) ps) h n = absurd h
-fixed_fits (property k f (pointer x y) ps) h n = absurd h
-fixed_fits (property k f (struct x) ps) h n = absurd h
-fixed_fits (property k f (object x y z) ps) h n = absurd h
+fixed_fits _ h n = absurd h
 
 object_fits : (t i : ℕ) (ps : Properties) → AreFixed ps → property_node_count ps < 2 ^ 27 →
     ¬ (IsTooLarge (object t i ps))

@@ -30,11 +30,9 @@ fair_array (y ∷ ys) x t f = λ e.
 
 fair_more : (p : Partial) (x : Fixed) → takes_element p x ≡ true → IsFair p →
     IsFair (with_element p x)
-fair_more (open_struct vs) x t f = f
-fair_more (open_object a b c) x t f = f
-fair_more (open_property a b c d e) x t f = f
 fair_more (open_array xs) x t f = fair_array xs x t f
 fair_more (open_choice a b xs) x t f = tt
+fair_more _ x t f = f
 
 length-more_bodies : (xs : List Fixed) (x : Fixed) →
     length (array_body (child_kind (xs ++ x ∷ [])) (xs ++ x ∷ [])) ≡ length
@@ -48,9 +46,6 @@ length-more_bodies xs x =
 
 length-more : (p : Partial) (x : Fixed) → has_elements p ≡ true →
     length (body_so_far (with_element p x)) ≡ length (body_so_far p) + length (fixed_body x)
-length-more (open_struct vs) x t = absurd (cc)
-length-more (open_object a b c) x t = absurd (cc)
-length-more (open_property a b c d e) x t = absurd (cc)
 length-more (open_array xs) x t = length-more_bodies xs x
 length-more (open_choice h f xs) x t =
     let ys = xs ++ x ∷ [] in
@@ -58,6 +53,7 @@ length-more (open_choice h f xs) x t =
     let e1 = length-behind_two (shape_number h) f (array_body (child_kind ys) ys) in
     let e2 = length-behind_two (shape_number h) f (array_body (child_kind xs) xs) in
     omega arith
+length-more _ x t = absurd (cc)
 
 pub element_fit : (p : Partial) (ps : List Partial) (x : Fixed) (n : ℕ) →
     n ≡ length (fixed_body x) → has_elements p ≡ true → takes_element p x ≡ true →
@@ -76,45 +72,37 @@ pub element_placed : (closed : Trees) (p : Partial) (ps : List Partial) (x : Fix
     has_elements p ≡ true → takes_element p x ≡ true →
     state_with_value closed (p ∷ ps) (fixed x) ≡ Some
     (record { closed = closed; opened = with_element p x ∷ ps })
-element_placed closed (open_struct vs) ps x h t = absurd (cc)
-element_placed closed (open_object a b c) ps x h t = absurd (cc)
-element_placed closed (open_property a b c d e) ps x h t = absurd (cc)
 element_placed closed (open_array xs) ps x h t =
     ap (λ b. elim (cond b (Some (open_array (xs ++ x ∷ []))) None) as (λ _. Option State)
     [ Some q ↦ Some (record { closed = closed; opened = q ∷ ps }) | None ↦ None ]) t
 element_placed closed (open_choice k f xs) ps x h t =
     ap (λ b. elim (cond b (Some (open_choice k f (xs ++ x ∷ []))) None) as (λ _. Option State)
     [ Some q ↦ Some (record { closed = closed; opened = q ∷ ps }) | None ↦ None ]) t
+element_placed closed _ ps x h t = absurd (cc)
 
 pub element_not : (closed : Trees) (p : Partial) (ps : List Partial) (x : Fixed) →
     has_elements p ≡ true → takes_element p x ≡ false → state_with_value closed (p ∷ ps) (fixed x) ≡ None
-element_not closed (open_struct vs) ps x h t = absurd (cc)
-element_not closed (open_object a b c) ps x h t = absurd (cc)
-element_not closed (open_property a b c d e) ps x h t = absurd (cc)
 element_not closed (open_array xs) ps x h t =
     ap (λ b. elim (cond b (Some (open_array (xs ++ x ∷ []))) None) as (λ _. Option State)
     [ Some q ↦ Some (record { closed = closed; opened = q ∷ ps }) | None ↦ None ]) t
 element_not closed (open_choice k f xs) ps x h t =
     ap (λ b. elim (cond b (Some (open_choice k f (xs ++ x ∷ []))) None) as (λ _. Option State)
     [ Some q ↦ Some (record { closed = closed; opened = q ∷ ps }) | None ↦ None ]) t
+element_not closed _ ps x h t = absurd (cc)
 
 -- behind the first element the bytes only grow
 pub later_bytes : (p : Partial) (x : Fixed) → has_elements p ≡ true → is_first p ≡ false →
     so_far (with_element p x) ≡ so_far p ++ fixed_body x
-later_bytes (open_struct vs) x h t = absurd (cc)
-later_bytes (open_object a b c) x h t = absurd (cc)
-later_bytes (open_property a b c d e) x h t = absurd (cc)
-later_bytes (open_array []) x h t = absurd (cc)
 later_bytes (open_array (y ∷ ys)) x h t =
     ap (λ l. word_bytes 0 ++ (word_bytes array_type ++
     (word_bytes (body_size (kind_of y)) ++ (word_bytes (type_number (kind_of y)) ++ l))))
     (bodies_push (y ∷ ys) x) ∙ simp append_assoc
-later_bytes (open_choice k f []) x h t = absurd (cc)
 later_bytes (open_choice k f (y ∷ ys)) x h t =
     ap (λ l. word_bytes 0 ++ (word_bytes choice_type ++
     (word_bytes (shape_number k) ++
     (word_bytes f ++ (word_bytes (body_size (kind_of y)) ++
     (word_bytes (type_number (kind_of y)) ++ l)))))) (bodies_push (y ∷ ys) x) ∙ simp append_assoc
+later_bytes _ x h t = absurd (cc)
 
 -- where the first element comes, what is before the child header
 abbrev pub before_child : Partial → List ℕ
@@ -124,36 +112,28 @@ before_child p = word_bytes 0 ++ word_bytes (type_of_partial p)
 
 pub first_so_far : (p : Partial) → has_elements p ≡ true → is_first p ≡ true →
     so_far p ≡ before_child p ++ (word_bytes 0 ++ word_bytes 1)
-first_so_far (open_struct vs) h t = absurd (cc)
-first_so_far (open_object a b c) h t = absurd (cc)
-first_so_far (open_property a b c d e) h t = absurd (cc)
 first_so_far (open_array []) h t =
     ap (λ l. word_bytes 0 ++ (word_bytes array_type ++ (word_bytes 0 ++ l)))
     (append-nil (word_bytes 1)) ∙ simp append_assoc
-first_so_far (open_array (y ∷ ys)) h t = absurd (cc)
 first_so_far (open_choice k f []) h t =
     ap (λ l. word_bytes 0 ++ (word_bytes choice_type ++
     (word_bytes (shape_number k) ++ (word_bytes f ++ (word_bytes 0 ++ l)))))
     (append-nil (word_bytes 1)) ∙ simp append_assoc
-first_so_far (open_choice k f (y ∷ ys)) h t = absurd (cc)
+first_so_far _ h t = absurd (cc)
 
 pub first_after : (p : Partial) (x : Fixed) → has_elements p ≡ true → is_first p ≡ true →
     so_far (with_element p x) ≡ before_child p ++
     (word_bytes (body_size (kind_of x)) ++ (word_bytes (type_number (kind_of x)) ++ fixed_body x))
-first_after (open_struct vs) x h t = absurd (cc)
-first_after (open_object a b c) x h t = absurd (cc)
-first_after (open_property a b c d e) x h t = absurd (cc)
 first_after (open_array []) x h t =
     ap (λ l. word_bytes 0 ++ (word_bytes array_type ++
     (word_bytes (body_size (kind_of x)) ++ (word_bytes (type_number (kind_of x)) ++ l))))
     (append-nil (fixed_body x)) ∙ simp append_assoc
-first_after (open_array (y ∷ ys)) x h t = absurd (cc)
 first_after (open_choice k f []) x h t =
     ap (λ l. word_bytes 0 ++ (word_bytes choice_type ++
     (word_bytes (shape_number k) ++
     (word_bytes f ++ (word_bytes (body_size (kind_of x)) ++
     (word_bytes (type_number (kind_of x)) ++ l)))))) (append-nil (fixed_body x)) ∙ simp append_assoc
-first_after (open_choice k f (y ∷ ys)) x h t = absurd (cc)
+first_after _ x h t = absurd (cc)
 
 pub is_element : (new : BuilderFields) (closed : Trees) (p : Partial) (ps : List Partial) (x : Fixed) →
     IsNested (p ∷ ps) → takes_element p x ≡ true →
@@ -171,12 +151,8 @@ is_element new closed p ps x k t b f g = record {
 -- a value of a fixed size taken nowhere else
 pub no_place : (closed : Trees) (ps : List Partial) (x : Fixed) → takes_elements ps ≡ false →
     takes_trees ps ≡ false → state_with_value closed ps (fixed x) ≡ None
-no_place closed [] x h t = absurd (cc)
-no_place closed (open_struct vs ∷ ps) x h t = absurd (cc)
 no_place closed (open_object a b c ∷ ps) x h t = refl
-no_place closed (open_property a b c d e ∷ ps) x h t = absurd (cc)
-no_place closed (open_array xs ∷ ps) x h t = absurd (cc)
-no_place closed (open_choice k f xs ∷ ps) x h t = absurd (cc)
+no_place closed _ x h t = absurd (cc)
 
 -- two words over two others
 pub replaced_two : (front back old new : List ℕ) (a b n k at : ℕ) → at ≡ length front →

@@ -20,15 +20,7 @@ use Rattle.spa_builder.proofs.Lengths.{members_whole, properties_whole}
 pub kept_bodies : (k : Kind) (xs : List Fixed) → (k ≡ none_kind → fixed_bodies xs ≡ []) →
     fixed_bodies xs ≡ fixed_bodies (kept_elements k xs)
 kept_bodies none_kind xs h = h refl
-kept_bodies bool_kind xs h = refl
-kept_bodies id_kind xs h = refl
-kept_bodies int_kind xs h = refl
-kept_bodies long_kind xs h = refl
-kept_bodies float_kind xs h = refl
-kept_bodies double_kind xs h = refl
-kept_bodies rectangle_kind xs h = refl
-kept_bodies fraction_kind xs h = refl
-kept_bodies fd_kind xs h = refl
+kept_bodies _ xs h = refl
 
 pub length-body : (p : Partial) → IsFair p → length (body_so_far p) ≡ own_size p
 length-body (open_struct vs) h = refl

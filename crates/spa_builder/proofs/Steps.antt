@@ -62,12 +62,10 @@ after closed ps v = record { closed = closed_with closed ps v; opened = trees_wi
 
 pub placed_is : (closed : Trees) (ps : List Partial) (v : Tree) → takes_trees ps ≡ true →
     state_with_value closed ps v ≡ Some (after closed ps v)
-placed_is closed [] v h = refl
-placed_is closed (open_struct vs ∷ ps) v h = refl
 placed_is closed (open_object t i qs ∷ ps) v h = absurd (cc)
-placed_is closed (open_property t i qs k f ∷ ps) v h = refl
 placed_is closed (open_array xs ∷ ps) v h = absurd (cc)
 placed_is closed (open_choice k f xs ∷ ps) v h = absurd (cc)
+placed_is closed _ v h = refl
 
 grown : (n : ℕ) (base a b t : List ℕ) → b ≡ a ++ t → base ++ (word_bytes 0 ++ (word_bytes n ++ b)) ≡
     (base ++ (word_bytes 0 ++ (word_bytes n ++ a))) ++ t
@@ -94,11 +92,9 @@ grows : (p : Partial) (ps : List Partial) (v : Tree) → takes_trees (p ∷ ps) 
     all_so_far (trees_with_value (p ∷ ps) v) ≡ all_so_far (p ∷ ps) ++ encoding_of v
 grows (open_struct vs) ps v h = grown struct_type (all_so_far ps) (member_encodings vs)
     (member_encodings (with_tree vs v)) (encoding_of v) (one_more vs v)
-grows (open_object t i qs) ps v h = absurd (cc)
 grows (open_property t i qs k f) ps v h = grown object_type (all_so_far ps) _ _ (encoding_of v)
     (property_more t i qs k f v)
-grows (open_array xs) ps v h = absurd (cc)
-grows (open_choice k f xs) ps v h = absurd (cc)
+grows _ ps v h = absurd (cc)
 
 pub added_bytes : (closed : Trees) (ps : List Partial) (v : Tree) → takes_trees ps ≡ true →
     member_encodings (closed_with closed ps v) ++ all_so_far (trees_with_value ps v) ≡
@@ -402,21 +398,13 @@ is_closed old new s o p rest v k e b f =
 
 pub takes_key_is : (ops : List Partial) → takes_key ops ≡ true →
     (t : ℕ) × (i : ℕ) × (qs : Properties) × (ps : List Partial) × (ops ≡ open_object t i qs ∷ ps)
-takes_key_is [] h = absurd (cc)
-takes_key_is (open_struct vs ∷ ps) h = absurd (cc)
 takes_key_is (open_object t i qs ∷ ps) h = (t, i, qs, ps, refl)
-takes_key_is (open_property t i qs k f ∷ ps) h = absurd (cc)
-takes_key_is (open_array xs ∷ ps) h = absurd (cc)
-takes_key_is (open_choice k f xs ∷ ps) h = absurd (cc)
+takes_key_is _ h = absurd (cc)
 
 pub keyed_not : (closed : Trees) (ops : List Partial) (k f : ℕ) → takes_key ops ≡ false →
     state_with_key closed ops k f ≡ None
-keyed_not closed [] k f h = refl
-keyed_not closed (open_struct vs ∷ ps) k f h = refl
 keyed_not closed (open_object t i qs ∷ ps) k f h = absurd (cc)
-keyed_not closed (open_property t i qs l g ∷ ps) k f h = refl
-keyed_not closed (open_array xs ∷ ps) k f h = refl
-keyed_not closed (open_choice l g xs ∷ ps) k f h = refl
+keyed_not closed _ k f h = refl
 
 pub key_more : (t i : ℕ) (qs : Properties) (k f : ℕ) (ps : List Partial) →
     all_so_far (open_property t i qs k f ∷ ps) ≡ all_so_far (open_object t i qs ∷ ps) ++
@@ -479,26 +467,10 @@ pub no_element : (closed : Trees) (ps : List Partial) (v : Tree) → ((x : Fixed
     takes_trees ps ≡ false → state_with_value closed ps v ≡ None
 no_element closed [] v n h = absurd (cc)
 no_element closed (open_struct vs ∷ ps) v n h = absurd (cc)
-no_element closed (open_object t i qs ∷ ps) v n h = refl
 no_element closed (open_property t i qs k f ∷ ps) v n h = absurd (cc)
 no_element closed (open_array xs ∷ ps) (fixed x) n h = absurd (n x refl)
-no_element closed (open_array xs ∷ ps) (string x) n h = refl
-no_element closed (open_array xs ∷ ps) (bytes x) n h = refl
-no_element closed (open_array xs ∷ ps) (bitmap x) n h = refl
-no_element closed (open_array xs ∷ ps) (array x y) n h = refl
-no_element closed (open_array xs ∷ ps) (choice x y z w u) n h = refl
-no_element closed (open_array xs ∷ ps) (pointer x y) n h = refl
-no_element closed (open_array xs ∷ ps) (struct x) n h = refl
-no_element closed (open_array xs ∷ ps) (object x y z) n h = refl
 no_element closed (open_choice k f xs ∷ ps) (fixed x) n h = absurd (n x refl)
-no_element closed (open_choice k f xs ∷ ps) (string x) n h = refl
-no_element closed (open_choice k f xs ∷ ps) (bytes x) n h = refl
-no_element closed (open_choice k f xs ∷ ps) (bitmap x) n h = refl
-no_element closed (open_choice k f xs ∷ ps) (array x y) n h = refl
-no_element closed (open_choice k f xs ∷ ps) (choice x y z w u) n h = refl
-no_element closed (open_choice k f xs ∷ ps) (pointer x y) n h = refl
-no_element closed (open_choice k f xs ∷ ps) (struct x) n h = refl
-no_element closed (open_choice k f xs ∷ ps) (object x y z) n h = refl
+no_element closed _ _ n h = refl
 
 pub spells : (h : BuilderFields) (s : State) → IsAt h s → Spells h.bytes s
 spells h s at = record {

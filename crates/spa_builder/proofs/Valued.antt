@@ -70,15 +70,10 @@ nul_there (y ∷ xs) e =
 
 mutual
   pub with_nul : (v : Tree) → HasNul v → has_nul v ≡ true
-  with_nul (fixed x) h = absurd h
   with_nul (string s) h = nul_told s h
-  with_nul (bytes s) h = absurd h
-  with_nul (bitmap s) h = absurd h
-  with_nul (array k xs) h = absurd h
-  with_nul (choice s f k x xs) h = absurd h
-  with_nul (pointer t a) h = absurd h
   with_nul (struct vs) h = member_with_nul vs h
   with_nul (object t i ps) h = property_with_nul ps h
+  with_nul _ h = absurd h
 
   member_with_nul : (vs : Trees) → SomeHasNul vs → some_has_nul vs ≡ true
   member_with_nul no_trees h = absurd h
@@ -92,15 +87,10 @@ mutual
 
 mutual
   nul_in : (v : Tree) → has_nul v ≡ true → HasNul v
-  nul_in (fixed x) h = absurd (false≢true h)
   nul_in (string s) h = nul_there s h
-  nul_in (bytes s) h = absurd (false≢true h)
-  nul_in (bitmap s) h = absurd (false≢true h)
-  nul_in (array k xs) h = absurd (false≢true h)
-  nul_in (choice s f k x xs) h = absurd (false≢true h)
-  nul_in (pointer t a) h = absurd (false≢true h)
   nul_in (struct vs) h = nul_in_member vs h
   nul_in (object t i ps) h = nul_in_property ps h
+  nul_in _ h = absurd (false≢true h)
 
   nul_in_member : (vs : Trees) → some_has_nul vs ≡ true → SomeHasNul vs
   nul_in_member no_trees h = absurd (false≢true h)
@@ -183,11 +173,7 @@ pub refused_value : {lacks : GenError → Type 0} (v : Tree) (old new : List ℕ
     RefusesPiece (HasNul v) (IsTooLarge v) lacks old new e → RefusesValue v (errno_of e)
 refused_value v old new NulInText r = inl (refl, r.cause.0)
 refused_value v old new TooLarge r = inr (inr (refl, r.cause.0))
-refused_value v old new Full r = inr (inl refl)
-refused_value v old new WrongCount r = inr (inl refl)
-refused_value v old new Failed r = inr (inl refl)
-refused_value v old new Io r = inr (inl refl)
-refused_value v old new OutOfMemory r = inr (inl refl)
+refused_value v old new _ r = inr (inl refl)
 
 pub value_refused : (s : State) (v : Tree) (old new : BuilderFields) (r : Result (Unit {0}) Errno)
     (e : Errno) → takes_trees s.opened ≡ true → r ≡ Err e → new ≡ old → RefusesValue v e →

@@ -79,11 +79,7 @@ RefusesValue v e = ((e ≡ INVAL) × HasNul v) ⊎ ((e ≡ NOMEM) ⊎ ((e ≡ NO
 abbrev pub errno_of : GenError → Errno
 errno_of NulInText = INVAL
 errno_of TooLarge = NOSPC
-errno_of Full = NOMEM
-errno_of WrongCount = NOMEM
-errno_of Failed = NOMEM
-errno_of Io = NOMEM
-errno_of OutOfMemory = NOMEM
+errno_of _ = NOMEM
 
 -- The bytes begin with the encodings of the closed values, and are these encodings where no tree is open.
 pub record Spells (bytes : List ℕ) (s : State) : Type 0 where

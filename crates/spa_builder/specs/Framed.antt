@@ -11,11 +11,7 @@ use Rattle.spa_builder.specs.declared.begun.Stage.TheVariants.{Nothing, Struct, 
 -- no pod is open at this stage
 abbrev pub no_stage : Stage → Bool
 no_stage Nothing = true
-no_stage Struct = false
-no_stage Property = false
-no_stage Object = false
-no_stage Array = false
-no_stage Choice = false
+no_stage _ = false
 
 -- no pod is open in this frame
 abbrev pub is_nothing : What → Bool

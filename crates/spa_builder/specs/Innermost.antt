@@ -29,29 +29,19 @@ closed_with closed (p ∷ ps) v = closed
 
 -- a key waits for its value
 abbrev pub waits : List Partial → Bool
-waits [] = false
-waits (open_struct vs ∷ ps) = false
-waits (open_object t i qs ∷ ps) = false
 waits (open_property t i qs k f ∷ ps) = true
-waits (open_array xs ∷ ps) = false
-waits (open_choice h f xs ∷ ps) = false
+waits _ = false
 
 -- the innermost open tree is an object in which no key waits
 abbrev pub takes_key : List Partial → Bool
-takes_key [] = false
-takes_key (open_struct vs ∷ ps) = false
 takes_key (open_object t i qs ∷ ps) = true
-takes_key (open_property t i qs k f ∷ ps) = false
-takes_key (open_array xs ∷ ps) = false
-takes_key (open_choice h f xs ∷ ps) = false
+takes_key _ = false
 
 -- the open tree takes elements of fixed size: it is an array or a choice
 abbrev pub has_elements : Partial → Bool
-has_elements (open_struct vs) = false
-has_elements (open_object t i qs) = false
-has_elements (open_property t i qs k f) = false
 has_elements (open_array xs) = true
 has_elements (open_choice h f xs) = true
+has_elements _ = false
 
 -- the innermost open tree is an array or a choice
 abbrev pub takes_elements : List Partial → Bool
@@ -60,21 +50,15 @@ takes_elements (p ∷ ps) = has_elements p
 
 -- the open tree is an array or a choice without elements yet
 abbrev pub is_first : Partial → Bool
-is_first (open_struct vs) = false
-is_first (open_object t i qs) = false
-is_first (open_property t i qs k f) = false
 is_first (open_array []) = true
-is_first (open_array (x ∷ xs)) = false
 is_first (open_choice h f []) = true
-is_first (open_choice h f (x ∷ xs)) = false
+is_first _ = false
 
 -- the open tree is an array or a choice, and takes this element
 abbrev pub takes_element : Partial → Fixed → Bool
-takes_element (open_struct vs) x = false
-takes_element (open_object t i qs) x = false
-takes_element (open_property t i qs k f) x = false
 takes_element (open_array xs) x = array_takes xs x
 takes_element (open_choice h f xs) x = choice_takes h xs x
+takes_element _ x = false
 
 -- an open array or choice with one more element; any other open tree as it is
 abbrev pub with_element : Partial → Fixed → Partial

@@ -31,12 +31,9 @@ abbrev mutual
 abbrev pub open_behind : ℕ → Call → ℕ
 open_behind n (add v) = n
 open_behind n (add_prop k f) = n
-open_behind n push_struct = n + 1
-open_behind n (push_object t i) = n + 1
-open_behind n push_array = n + 1
-open_behind n (push_choice h f) = n + 1
 open_behind n (pop frame) = n - 1
 open_behind n (abandon frame) = n - 1
+open_behind n _ = n + 1
 
 -- with `n` trees open, these calls, each of which the model accepts, bring the builder to this state
 pub record ComesTo (n : ℕ) (t : State) (calls : List Call) (builder : BuilderFields) : Type 0 where

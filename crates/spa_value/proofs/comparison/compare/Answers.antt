@@ -4,80 +4,80 @@ use Rattle.spa_value.specs.View.{view}
 use Rattle.spa_value.specs.Views.{views}
 use Rattle.spa_value.proofs.Comparing.{equal_structs}
 use Rattle.spa_value.proofs.ViewLaws.{view-struct}
-use Rattle.spa_value.proofs.Unlike.{unlike, not_none, not_bool, not_id, not_int, not_long, not_float, not_double, not_string, not_bytes, not_bitmap, not_rectangle, not_fraction, not_fd, not_array, not_struct, not_object, not_choice, not_pointer}
+use Rattle.spa_value.proofs.Unlike.{unlike}
 use Rattle.spa_value.proofs.comparison.compare.Goals as goal
 
 pub returns-in_default : goal.returns-in_default
 returns-in_default c =
-    unlike c.args.value.now c.args.other.now (rw c.in-None.is (not_none _ c.in_default.not-None))
+    unlike c.args.value.now c.args.other.now (rw c.in-None.is c.in_default.not-None)
 
 pub returns-in_default-other : goal.returns-in_default-other
 returns-in_default-other c =
-    unlike c.args.value.now c.args.other.now (rw c.in-Bool.is (not_bool _ c.in_default-other.not-Bool))
+    unlike c.args.value.now c.args.other.now (rw c.in-Bool.is c.in_default-other.not-Bool)
 
 pub returns-in_default-other-2 : goal.returns-in_default-other-2
 returns-in_default-other-2 c =
-    unlike c.args.value.now c.args.other.now (rw c.in-Id.is (not_id _ c.in_default-other-2.not-Id))
+    unlike c.args.value.now c.args.other.now (rw c.in-Id.is c.in_default-other-2.not-Id)
 
 pub returns-in_default-other-3 : goal.returns-in_default-other-3
 returns-in_default-other-3 c =
-    unlike c.args.value.now c.args.other.now (rw c.in-Int.is (not_int _ c.in_default-other-3.not-Int))
+    unlike c.args.value.now c.args.other.now (rw c.in-Int.is c.in_default-other-3.not-Int)
 
 pub returns-in_default-other-4 : goal.returns-in_default-other-4
 returns-in_default-other-4 c =
-    unlike c.args.value.now c.args.other.now (rw c.in-Long.is (not_long _ c.in_default-other-4.not-Long))
+    unlike c.args.value.now c.args.other.now (rw c.in-Long.is c.in_default-other-4.not-Long)
 
 pub returns-in_default-other-5 : goal.returns-in_default-other-5
 returns-in_default-other-5 c =
-    unlike c.args.value.now c.args.other.now (rw c.in-Float.is (not_float _ c.in_default-other-5.not-Float))
+    unlike c.args.value.now c.args.other.now (rw c.in-Float.is c.in_default-other-5.not-Float)
 
 pub returns-in_default-other-6 : goal.returns-in_default-other-6
 returns-in_default-other-6 c =
-    unlike c.args.value.now c.args.other.now (rw c.in-Double.is (not_double _ c.in_default-other-6.not-Double))
+    unlike c.args.value.now c.args.other.now (rw c.in-Double.is c.in_default-other-6.not-Double)
 
 pub returns-in_default-other-7 : goal.returns-in_default-other-7
 returns-in_default-other-7 c =
-    unlike c.args.value.now c.args.other.now (rw c.in-String.is (not_string _ c.in_default-other-7.not-String))
+    unlike c.args.value.now c.args.other.now (rw c.in-String.is c.in_default-other-7.not-String)
 
 pub returns-in_default-other-8 : goal.returns-in_default-other-8
 returns-in_default-other-8 c =
-    unlike c.args.value.now c.args.other.now (rw c.in-Bytes.is (not_bytes _ c.in_default-other-8.not-Bytes))
+    unlike c.args.value.now c.args.other.now (rw c.in-Bytes.is c.in_default-other-8.not-Bytes)
 
 pub returns-in_default-other-9 : goal.returns-in_default-other-9
 returns-in_default-other-9 c =
-    unlike c.args.value.now c.args.other.now (rw c.in-Bitmap.is (not_bitmap _ c.in_default-other-9.not-Bitmap))
+    unlike c.args.value.now c.args.other.now (rw c.in-Bitmap.is c.in_default-other-9.not-Bitmap)
 
 pub returns-in_default-other-10 : goal.returns-in_default-other-10
 returns-in_default-other-10 c =
-    unlike c.args.value.now c.args.other.now (rw c.in-Rectangle.is (not_rectangle _ c.in_default-other-10.not-Rectangle))
+    unlike c.args.value.now c.args.other.now (rw c.in-Rectangle.is c.in_default-other-10.not-Rectangle)
 
 pub returns-in_default-other-11 : goal.returns-in_default-other-11
 returns-in_default-other-11 c =
-    unlike c.args.value.now c.args.other.now (rw c.in-Fraction.is (not_fraction _ c.in_default-other-11.not-Fraction))
+    unlike c.args.value.now c.args.other.now (rw c.in-Fraction.is c.in_default-other-11.not-Fraction)
 
 pub returns-in_default-other-12 : goal.returns-in_default-other-12
 returns-in_default-other-12 c =
-    unlike c.args.value.now c.args.other.now (rw c.in-Fd.is (not_fd _ c.in_default-other-12.not-Fd))
+    unlike c.args.value.now c.args.other.now (rw c.in-Fd.is c.in_default-other-12.not-Fd)
 
 pub returns-in_default-other-13 : goal.returns-in_default-other-13
 returns-in_default-other-13 c =
-    unlike c.args.value.now c.args.other.now (rw c.in-ValueArray.is (not_array _ c.in_default-other-13.not-ValueArray))
+    unlike c.args.value.now c.args.other.now (rw c.in-ValueArray.is c.in_default-other-13.not-ValueArray)
 
 pub returns-in_default-other-14 : goal.returns-in_default-other-14
 returns-in_default-other-14 c =
-    unlike c.args.value.now c.args.other.now (rw c.in-Struct.is (not_struct _ c.in_default-other-14.not-Struct))
+    unlike c.args.value.now c.args.other.now (rw c.in-Struct.is c.in_default-other-14.not-Struct)
 
 pub returns-in_default-other-15 : goal.returns-in_default-other-15
 returns-in_default-other-15 c =
-    unlike c.args.value.now c.args.other.now (rw c.in-Object.is (not_object _ c.in_default-other-15.not-Object))
+    unlike c.args.value.now c.args.other.now (rw c.in-Object.is c.in_default-other-15.not-Object)
 
 pub returns-in_default-other-16 : goal.returns-in_default-other-16
 returns-in_default-other-16 c =
-    unlike c.args.value.now c.args.other.now (rw c.in-Choice.is (not_choice _ c.in_default-other-16.not-Choice))
+    unlike c.args.value.now c.args.other.now (rw c.in-Choice.is c.in_default-other-16.not-Choice)
 
 pub returns-in_default-other-17 : goal.returns-in_default-other-17
 returns-in_default-other-17 c =
-    unlike c.args.value.now c.args.other.now (rw c.in-Pointer.is (not_pointer _ c.in_default-other-17.not-Pointer))
+    unlike c.args.value.now c.args.other.now (rw c.in-Pointer.is c.in_default-other-17.not-Pointer)
 
 pub returns-in-Struct-other : goal.returns-in-Struct-other
 returns-in-Struct-other c =

@@ -15,23 +15,12 @@ use Rattle.spa_value.specs.View.{array_view, choice_view, object_view}
 -- the tree of an array
 pub type_of-array_view : (a : ValueArray) → type_of (array_view a) ≡ array_type
 type_of-array_view (A.None xs) = refl
-type_of-array_view (A.Bool xs) = refl
-type_of-array_view (A.Id xs) = refl
-type_of-array_view (A.Int xs) = refl
-type_of-array_view (A.Long xs) = refl
-type_of-array_view (A.Float xs) = refl
-type_of-array_view (A.Double xs) = refl
-type_of-array_view (A.Rectangle xs) = refl
-type_of-array_view (A.Fraction xs) = refl
-type_of-array_view (A.Fd xs) = refl
+type_of-array_view _ = refl
 
 pub type_of-choice_enum_tree : {T : Type 0} (k : Kind) (g : T → Fixed) (n : ℕ) (c : ChoiceEnum T) →
     type_of (choice_enum_tree k g n c) ≡ choice_type
 type_of-choice_enum_tree k g n (E.None x) = refl
-type_of-choice_enum_tree k g n (E.Range x a b) = refl
-type_of-choice_enum_tree k g n (E.Step x a b s) = refl
-type_of-choice_enum_tree k g n (E.Enum x xs) = refl
-type_of-choice_enum_tree k g n (E.Flags x xs) = refl
+type_of-choice_enum_tree k g n _ = refl
 
 -- the tree of a choice
 pub type_of-choice_view : (c : ChoiceValue) → type_of (choice_view c) ≡ choice_type

@@ -32,15 +32,9 @@ pointer_measured t a n e =
 pub choice_no_nul : {T : Type 0} (k : Kind) (f : T → Fixed) (n : ℕ) (c : ChoiceEnum T) →
     ¬ (HasNul (choice_enum_tree k f n c))
 choice_no_nul k f n (E.None x) h = h
-choice_no_nul k f n (E.Range x a b) h = h
-choice_no_nul k f n (E.Step x a b s) h = h
-choice_no_nul k f n (E.Enum x xs) h = h
-choice_no_nul k f n (E.Flags x xs) h = h
+choice_no_nul k f n _ h = h
 
 pub choice_large : {T : Type 0} (k : Kind) (f : T → Fixed) (n : ℕ) (c : ChoiceEnum T) →
     IsTooLarge (choice_enum_tree k f n c) → size_limit ≤ length (encoded_body (choice_enum_tree k f n c))
 choice_large k f n (E.None x) h = h
-choice_large k f n (E.Range x a b) h = h
-choice_large k f n (E.Step x a b s) h = h
-choice_large k f n (E.Enum x xs) h = h
-choice_large k f n (E.Flags x xs) h = h
+choice_large k f n _ h = h

@@ -1,5 +1,5 @@
 -- Lists of members, cut at one of them, and how long their encodings are.
-use Rattle.std.proofs.Common.{◌≡◌, ℕ, ◌+◌, ◌<◌, ◌≤◌, inl, inr, ⊎_elim, List, [], ◌∷◌, ◌++◌, length, take, drop, get_or, refl, sym, ap, ◌∙◌, subst, arith, length-append}
+use Rattle.std.proofs.Common.{◌≡◌, ℕ, ◌+◌, ◌<◌, ◌≤◌, inl, inr, ⊎_elim, List, [], ◌∷◌, ◌++◌, length, take, drop, get_or, Vec, Global, refl, sym, ap, ◌∙◌, subst, arith, length-append}
 use Rattle.std.proofs.lemmas.List.{append-nil}
 use Rattle.spa_sink.specs.declared.gen_error.GenError.{GenError}
 use Rattle.spa_sink.specs.declared.gen_error.GenError.TheVariants.{TooLarge}
@@ -9,13 +9,19 @@ use Rattle.spa_format.specs.Encoding.{encoding_of, member_encodings}
 use Rattle.spa_format.specs.Typed.{AllTyped, IsTyped}
 use Rattle.spa_format.specs.Writable.{IsTooLarge, IsWritable, SomeHasNul, SomeTooLarge}
 use Rattle.spa_value.specs.declared.value.Value.{Value}
+use Rattle.spa_value.specs.declared.value.Value.TheVariants as V
 use Rattle.spa_value.specs.View.{view}
 use Rattle.spa_value.specs.Views.{views}
-use Rattle.spa_value.proofs.ViewLaws.{views-at, views-take_more}
+use Rattle.spa_value.proofs.ViewLaws.{view-struct, views-at, views-take_more}
 use Rattle.spa_write.specs.Measured.{AreMeasured, IsMeasured, RefusesTree}
 use Rattle.spa_format.proofs.Encodings.{length-encoded_pod, whole_members, member_encodings-join}
 use Rattle.spa_bodies.proofs.Frames.{size_refused}
 use Rattle.spa_bodies.proofs.SinkRefusals.{unwritable_through}
+
+-- the tree of a struct, from its members as a slice
+pub struct_of : (ms : Vec Value Global) {v : Value} {slice : List Value} → v ≡ V.Struct ms → slice ≡ ms.items →
+    view v ≡ struct (views slice)
+struct_of ms is same = ap view is ∙ view-struct ms ∙ ap (λ l. struct (views l)) (sym same)
 
 -- Two lists behind one another.
 

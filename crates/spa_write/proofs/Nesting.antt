@@ -28,13 +28,9 @@ use Rattle.spa_bodies.proofs.Frames.{sized_encoding}
 -- for other facts
 pub refusal_through : {nul nul' large large' : Type 0} {lacks : GenError → Type 0} → (nul → nul') →
     (large → large') → (e : GenError) → RefusesWrite nul large lacks e → RefusesWrite nul' large' lacks e
-refusal_through f g Full r = record { cause = r.cause }
 refusal_through f g TooLarge r = record { cause = g r.cause }
 refusal_through f g NulInText r = record { cause = f r.cause }
-refusal_through f g WrongCount r = record { cause = r.cause }
-refusal_through f g Failed r = record { cause = r.cause }
-refusal_through f g Io r = record { cause = r.cause }
-refusal_through f g OutOfMemory r = record { cause = r.cause }
+refusal_through f g _ r = record { cause = r.cause }
 
 -- Pods that are begun.
 

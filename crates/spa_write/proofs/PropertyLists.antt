@@ -9,14 +9,24 @@ use Rattle.spa_format.specs.Tree.{Tree, object, object_type, Properties, no_prop
 use Rattle.spa_format.specs.Encoding.{encoded_body, encoding_of, property_encodings}
 use Rattle.spa_format.specs.Typed.{AllPropertiesTyped, IsTyped}
 use Rattle.spa_format.specs.Writable.{IsTooLarge, IsWritable, SomeValueHasNul, SomeValueTooLarge}
+use Rattle.spa_value.specs.declared.object.Object.{Object, out-Object}
 use Rattle.spa_value.specs.declared.object.Property.{Property}
+use Rattle.spa_value.specs.declared.value.Value.{Value}
+use Rattle.spa_value.specs.declared.value.Value.TheVariants as V
 use Rattle.spa_value.specs.View.{view}
 use Rattle.spa_value.specs.Views.{property_view, property_views}
-use Rattle.spa_value.proofs.ViewLaws.{property_views-at, property_views-take_more}
+use Rattle.spa_value.proofs.ViewLaws.{view-fields, property_views-at, property_views-take_more}
 use Rattle.spa_write.specs.Measured.{IsMeasured, PropertiesAreMeasured, PropertiesAreTooLarge, PropertiesAreWritable, RefusesTree}
 use Rattle.spa_format.proofs.Encodings.{key_words, length-encoded_pod, property_encoding, two_words_length, whole_properties, length-object, property_encodings-join}
 use Rattle.spa_bodies.proofs.Frames.{size_refused}
 use Rattle.spa_bodies.proofs.SinkRefusals.{unwritable_through}
+
+-- the tree of an object, from its properties as a slice
+pub object_of : (o : Object) {v : Value} {slice : List Property} → v ≡ V.Object o → slice ≡ (out-Object o).properties.items →
+    view v ≡ object (out-Object o).type_ (out-Object o).id (property_views slice)
+object_of o is same =
+    let f = out-Object o in
+    ap view is ∙ view-fields o ∙ ap (λ l. object f.type_ f.id (property_views l)) (sym same)
 
 -- Two lists behind one another.
 

@@ -1,11 +1,12 @@
-use Rattle.std.proofs.Common.{rules, ◌≡◌, ◌+◌, ◌*◌, ◌<◌, ◌∙◌, ap, sym, arith}
-use Rattle.spa_format.specs.Tree.{member_node_count, node_count, object, property_node_count, struct}
+use Rattle.std.proofs.Common.{rules, ◌≡◌, ◌+◌, ◌*◌, ◌<◌, ap, arith}
+use Rattle.spa_format.specs.Tree.{member_node_count, node_count, property_node_count}
 use Rattle.spa_format.proofs.Shapes.{some_node}
 use Rattle.spa_value.specs.declared.object.Object.{out-Object}
 use Rattle.spa_value.specs.View.{view}
 use Rattle.spa_value.specs.Views.{property_views, views}
-use Rattle.spa_value.proofs.ViewLaws.{view-struct, view-fields}
 use Rattle.spa_write.proofs.Counting.{count_at, count_next, property_count_at, property_count_next, whole_left, whole_more}
+use Rattle.spa_write.proofs.PropertyLists.{object_of}
+use Rattle.spa_write.proofs.MemberLists.{struct_of}
 use Rattle.spa_write.proofs.count.+count.Goals as goal
 
 pub left_of-returns-in_default-clause-more : goal.left_of-returns-in_default-clause-more
@@ -16,18 +17,14 @@ left_of-returns-in_default-clause-more t c =
 pub left_of-returns-in-Struct-clause-left : goal.left_of-returns-in-Struct-clause-left
 left_of-returns-in-Struct-clause-left t c =
     let less : c.args.number ≡ c.in-Some.left + 1 = search rules in
-    let is =
-    ap view c.in-Struct.is ∙ view-struct c.in-Struct.members
-    ∙ ap (λ l. struct (views l)) (sym c.as_slice.ensures.value) in
+    let is = struct_of c.in-Struct.members c.in-Struct.is c.as_slice.ensures.value in
     whole_left c.left_of_members.result c.args.number c.in-Some.left (member_node_count (views c.as_slice.result.now)) (view c.args.value.now)
     (ap node_count is) less c.left_of_members.ensures.left
 
 pub left_of-returns-in-Struct-clause-more : goal.left_of-returns-in-Struct-clause-more
 left_of-returns-in-Struct-clause-more t c =
     let less : c.args.number ≡ c.in-Some.left + 1 = search rules in
-    let is =
-    ap view c.in-Struct.is ∙ view-struct c.in-Struct.members
-    ∙ ap (λ l. struct (views l)) (sym c.as_slice.ensures.value) in
+    let is = struct_of c.in-Struct.members c.in-Struct.is c.as_slice.ensures.value in
     whole_more c.left_of_members.result c.args.number c.in-Some.left (member_node_count (views c.as_slice.result.now)) (view c.args.value.now)
     (ap node_count is) less c.left_of_members.ensures.more
 
@@ -35,9 +32,7 @@ pub left_of-returns-in-Object-clause-left : goal.left_of-returns-in-Object-claus
 left_of-returns-in-Object-clause-left t c =
     let less : c.args.number ≡ c.in-Some.left + 1 = search rules in
     let o = out-Object c.in-Object.object in
-    let is =
-    ap view c.in-Object.is ∙ view-fields c.in-Object.object
-    ∙ ap (λ l. object o.type_ o.id (property_views l)) (sym c.as_slice-in-Object.ensures.value) in
+    let is = object_of c.in-Object.object c.in-Object.is c.as_slice-in-Object.ensures.value in
     whole_left c.left_of_properties.result c.args.number c.in-Some.left (property_node_count (property_views c.as_slice-in-Object.result.now))
     (view c.args.value.now) (ap node_count is) less c.left_of_properties.ensures.left
 
@@ -45,9 +40,7 @@ pub left_of-returns-in-Object-clause-more : goal.left_of-returns-in-Object-claus
 left_of-returns-in-Object-clause-more t c =
     let less : c.args.number ≡ c.in-Some.left + 1 = search rules in
     let o = out-Object c.in-Object.object in
-    let is =
-    ap view c.in-Object.is ∙ view-fields c.in-Object.object
-    ∙ ap (λ l. object o.type_ o.id (property_views l)) (sym c.as_slice-in-Object.ensures.value) in
+    let is = object_of c.in-Object.object c.in-Object.is c.as_slice-in-Object.ensures.value in
     whole_more c.left_of_properties.result c.args.number c.in-Some.left (property_node_count (property_views c.as_slice-in-Object.result.now))
     (view c.args.value.now) (ap node_count is) less c.left_of_properties.ensures.more
 
@@ -77,9 +70,7 @@ left_of_properties-loop-property-preserved t c =
 
 pub left_of-left_of_members-requires : goal.left_of-left_of_members-requires
 left_of-left_of_members-requires t c =
-    let is =
-    ap view c.in-Struct.is ∙ view-struct c.in-Struct.members
-    ∙ ap (λ l. struct (views l)) (sym c.as_slice.ensures.value) in
+    let is = struct_of c.in-Struct.members c.in-Struct.is c.as_slice.ensures.value in
     let whole = ap node_count is in
     let smaller : 3 * member_node_count (views c.as_slice.result.now) + 2 < 3 * node_count (view c.args.value.now) = omega (arith, whole) in
     (search rules, tt)
@@ -87,9 +78,7 @@ left_of-left_of_members-requires t c =
 pub left_of-left_of_properties-requires : goal.left_of-left_of_properties-requires
 left_of-left_of_properties-requires t c =
     let o = out-Object c.in-Object.object in
-    let is =
-    ap view c.in-Object.is ∙ view-fields c.in-Object.object
-    ∙ ap (λ l. object o.type_ o.id (property_views l)) (sym c.as_slice-in-Object.ensures.value) in
+    let is = object_of c.in-Object.object c.in-Object.is c.as_slice-in-Object.ensures.value in
     let whole = ap node_count is in
     let smaller : 3 * property_node_count (property_views c.as_slice-in-Object.result.now) + 1 < 3 * node_count (view c.args.value.now) = omega (arith, whole) in
     (search rules, tt)

@@ -1,17 +1,16 @@
-use Rattle.std.proofs.Common.{rules, ◌+◌, ◌*◌, ◌<◌, ◌∙◌, ap, sym, arith}
-use Rattle.spa_format.specs.Tree.{member_node_count, node_count, object, property_node_count, struct}
+use Rattle.std.proofs.Common.{rules, ◌+◌, ◌*◌, ◌<◌, ap, arith}
+use Rattle.spa_format.specs.Tree.{member_node_count, node_count, property_node_count}
 use Rattle.spa_value.specs.declared.object.Object.{out-Object}
 use Rattle.spa_value.specs.View.{view}
 use Rattle.spa_value.specs.Views.{property_views, views}
-use Rattle.spa_value.proofs.ViewLaws.{view-fields, view-struct}
 use Rattle.spa_write.proofs.Counting.{count_at, property_count_at}
+use Rattle.spa_write.proofs.PropertyLists.{object_of}
+use Rattle.spa_write.proofs.MemberLists.{struct_of}
 use Rattle.spa_write.proofs.count.+few.Goals as goal
 
 pub few_left-few_left_of_members-requires : goal.few_left-few_left_of_members-requires
 few_left-few_left_of_members-requires t c =
-    let is =
-    ap view c.in-Struct.is ∙ view-struct c.in-Struct.members
-    ∙ ap (λ l. struct (views l)) (sym c.as_slice.ensures.value) in
+    let is = struct_of c.in-Struct.members c.in-Struct.is c.as_slice.ensures.value in
     let whole = ap node_count is in
     let smaller : 2 * member_node_count (views c.as_slice.result.now) + 1 < 2 * node_count (view c.args.value.now) = omega (arith, whole) in
     (search rules, tt)
@@ -19,9 +18,7 @@ few_left-few_left_of_members-requires t c =
 pub few_left-few_left_of_properties-requires : goal.few_left-few_left_of_properties-requires
 few_left-few_left_of_properties-requires t c =
     let o = out-Object c.in-Object.object in
-    let is =
-    ap view c.in-Object.is ∙ view-fields c.in-Object.object
-    ∙ ap (λ l. object o.type_ o.id (property_views l)) (sym c.as_slice-in-Object.ensures.value) in
+    let is = object_of c.in-Object.object c.in-Object.is c.as_slice-in-Object.ensures.value in
     let whole = ap node_count is in
     let smaller : 2 * property_node_count (property_views c.as_slice-in-Object.result.now) + 1 < 2 * node_count (view c.args.value.now) = omega (arith, whole) in
     (search rules, tt)

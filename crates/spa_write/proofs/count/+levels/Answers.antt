@@ -1,18 +1,15 @@
-use Rattle.std.proofs.Common.{◌∙◌, ap, sym, arith}
-use Rattle.spa_format.specs.Tree.{object, struct}
+use Rattle.std.proofs.Common.{ap, arith, refl}
 use Rattle.spa_canonical.specs.Depth.{depth_of}
 use Rattle.spa_value.specs.declared.object.Object.{out-Object}
 use Rattle.spa_value.specs.View.{view}
-use Rattle.spa_value.specs.Views.{property_views, views}
-use Rattle.spa_value.proofs.ViewLaws.{view-fields, view-struct}
 use Rattle.spa_write.proofs.Levels.{depth_at, property_depth_at}
+use Rattle.spa_write.proofs.PropertyLists.{object_of}
+use Rattle.spa_write.proofs.MemberLists.{struct_of}
 use Rattle.spa_write.proofs.count.+levels.Goals as goal
 
 pub nests_within-returns-then-levels-ne0 : goal.nests_within-returns-then-levels-ne0
 nests_within-returns-then-levels-ne0 t c = λ deep.
-    let is =
-    ap view c.in-Struct.is ∙ view-struct c.in-Struct.members
-    ∙ ap (λ l. struct (views l)) (sym c.as_slice.ensures.value) in
+    let is = struct_of c.in-Struct.members c.in-Struct.is c.as_slice.ensures.value in
     let whole = ap depth_of is in
     let inside = c.members_nest_within.ensures deep in
     omega (arith, whole, inside)
@@ -20,16 +17,14 @@ nests_within-returns-then-levels-ne0 t c = λ deep.
 pub nests_within-returns-then-levels-ne0-2 : goal.nests_within-returns-then-levels-ne0-2
 nests_within-returns-then-levels-ne0-2 t c = λ deep.
     let o = out-Object c.in-Object.object in
-    let is =
-    ap view c.in-Object.is ∙ view-fields c.in-Object.object
-    ∙ ap (λ l. object o.type_ o.id (property_views l)) (sym c.as_slice-then-levels-ne0-2.ensures.value) in
+    let is = object_of c.in-Object.object c.in-Object.is c.as_slice-then-levels-ne0-2.ensures.value in
     let whole = ap depth_of is in
     let inside = c.properties_nest_within.ensures deep in
     omega (arith, whole, inside)
 
 pub nests_within-returns-else-levels-ne0-2 : goal.nests_within-returns-else-levels-ne0-2
 nests_within-returns-else-levels-ne0-2 t c = λ deep.
-    let whole = ap depth_of (ap view c.in-Object.is ∙ view-fields c.in-Object.object) in
+    let whole = ap depth_of (object_of c.in-Object.object c.in-Object.is refl) in
     omega (arith, whole, c.if-levels-ne0-2.false)
 
 pub members_nest_within-returns-then-not-nests_within : goal.members_nest_within-returns-then-not-nests_within

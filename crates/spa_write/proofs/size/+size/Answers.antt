@@ -1,14 +1,12 @@
-use Rattle.std.proofs.Common.{◌∙◌, ◌+◌, ◌*◌, ◌<◌, ap, sym, arith, length, refl, rules}
+use Rattle.std.proofs.Common.{◌+◌, ◌*◌, ◌<◌, arith, length, refl, rules}
 use Rattle.spa_bytes.proofs.Passing.{passed_on}
 use Rattle.spa_format.specs.Encoding.{encoding_of, member_encodings, property_encodings}
-use Rattle.spa_format.specs.Tree.{struct, object}
 use Rattle.spa_value.specs.declared.object.Object.{out-Object}
 use Rattle.spa_value.specs.View.{view}
 use Rattle.spa_value.specs.Views.{views, property_views}
-use Rattle.spa_value.proofs.ViewLaws.{view-struct, view-fields}
 use Rattle.spa_write.proofs.LoneStructs.{lone_length, one_within, within_too_long}
-use Rattle.spa_write.proofs.MemberLists.{measured_next, measured_none, member_unwritable, members_length, members_too_long, struct_measured, struct_unwritable}
-use Rattle.spa_write.proofs.PropertyLists.{object_measured, object_too_long, object_unwritable, properties_measured_next, properties_length, properties_measured_none, properties_too_long, property_unwritable}
+use Rattle.spa_write.proofs.MemberLists.{measured_next, measured_none, member_unwritable, members_length, members_too_long, struct_measured, struct_unwritable, struct_of}
+use Rattle.spa_write.proofs.PropertyLists.{object_measured, object_too_long, object_unwritable, properties_measured_next, properties_length, properties_measured_none, properties_too_long, property_unwritable, object_of}
 use Rattle.spa_write.proofs.Shorts.{short_measured}
 use Rattle.spa_write.proofs.Stopping.{size_of_object, size_of_struct}
 use Rattle.spa_write.proofs.size.+size.Goals as goal
@@ -17,9 +15,7 @@ pub encoded_len-members_len-requires : goal.encoded_len-members_len-requires
 encoded_len-members_len-requires t c =
     let v = view c.args.value.now in
     let vs = views c.as_slice.result.now in
-    let is =
-    ap view c.in-Struct.is ∙ view-struct c.in-Struct.members
-    ∙ ap (λ l. struct (views l)) (sym c.as_slice.ensures.value) in
+    let is = struct_of c.in-Struct.members c.in-Struct.is c.as_slice.ensures.value in
     let whole = size_of_struct v vs (length (encoding_of v)) is refl in
     let smaller : 3 * length (member_encodings vs) + 2 < 3 * length (encoding_of v) = omega (arith, whole) in
     (search rules, tt)
@@ -29,9 +25,7 @@ encoded_len-properties_len-requires t c =
     let o = out-Object c.in-Object.object in
     let v = view c.args.value.now in
     let ps = property_views c.as_slice-in-Object.result.now in
-    let is =
-    ap view c.in-Object.is ∙ view-fields c.in-Object.object
-    ∙ ap (λ l. object o.type_ o.id (property_views l)) (sym c.as_slice-in-Object.ensures.value) in
+    let is = object_of c.in-Object.object c.in-Object.is c.as_slice-in-Object.ensures.value in
     let whole = size_of_object v o.type_ o.id ps (length (encoding_of v)) is refl in
     let smaller : 3 * length (property_encodings ps) + 1 < 3 * length (encoding_of v) = omega (arith, whole) in
     (search rules, tt)
@@ -53,35 +47,27 @@ properties_len-encoded_len-requires t c =
 pub encoded_len-returns-in_err-members_len-in-Struct-clause-cause :
     goal.encoded_len-returns-in_err-members_len-in-Struct-clause-cause
 encoded_len-returns-in_err-members_len-in-Struct-clause-cause t c =
-    let is =
-    ap view c.in-Struct.is ∙ view-struct c.in-Struct.members
-    ∙ ap (λ l. struct (views l)) (sym c.as_slice.ensures.value) in
+    let is = struct_of c.in-Struct.members c.in-Struct.is c.as_slice.ensures.value in
     passed_on _ _ _ c.from_residual.ensures.1
     (struct_unwritable (view c.args.value.now) (views c.as_slice.result.now) is _ c.in_err-members_len-in-Struct.ensures.cause)
 
 pub encoded_len-returns-in_ok-members_len-in-Struct-clause-measured :
     goal.encoded_len-returns-in_ok-members_len-in-Struct-clause-measured
 encoded_len-returns-in_ok-members_len-in-Struct-clause-measured t c =
-    let is =
-    ap view c.in-Struct.is ∙ view-struct c.in-Struct.members
-    ∙ ap (λ l. struct (views l)) (sym c.as_slice.ensures.value) in
+    let is = struct_of c.in-Struct.members c.in-Struct.is c.as_slice.ensures.value in
     struct_measured (view c.args.value.now) (views c.as_slice.result.now) _ is c.in_ok-members_len-in-Struct.ensures.measured
 
 pub encoded_len-returns-in_err-len-in-Object-clause-cause : goal.encoded_len-returns-in_err-len-in-Object-clause-cause
 encoded_len-returns-in_err-len-in-Object-clause-cause t c =
     let o = out-Object c.in-Object.object in
-    let is =
-    ap view c.in-Object.is ∙ view-fields c.in-Object.object
-    ∙ ap (λ l. object o.type_ o.id (property_views l)) (sym c.as_slice-in-Object.ensures.value) in
+    let is = object_of c.in-Object.object c.in-Object.is c.as_slice-in-Object.ensures.value in
     passed_on _ _ _ c.from_residual-in_err-len-in-Object.ensures.1
     (object_unwritable (view c.args.value.now) o.type_ o.id (property_views c.as_slice-in-Object.result.now) is _ c.in_err-len-in-Object.ensures.cause)
 
 pub encoded_len-returns-in_err-sum_of-in-Object-clause-cause : goal.encoded_len-returns-in_err-sum_of-in-Object-clause-cause
 encoded_len-returns-in_err-sum_of-in-Object-clause-cause t c =
     let o = out-Object c.in-Object.object in
-    let is =
-    ap view c.in-Object.is ∙ view-fields c.in-Object.object
-    ∙ ap (λ l. object o.type_ o.id (property_views l)) (sym c.as_slice-in-Object.ensures.value) in
+    let is = object_of c.in-Object.object c.in-Object.is c.as_slice-in-Object.ensures.value in
     passed_on _ _ _ c.from_residual-in_err-sum_of-in-Object.ensures.1
     (object_too_long (view c.args.value.now) o.type_ o.id (property_views c.as_slice-in-Object.result.now) c.in_ok-len-in-Object.len is
     c.in_ok-len-in-Object.ensures.measured _ c.in_err-sum_of-in-Object.ensures.long)
@@ -89,9 +75,7 @@ encoded_len-returns-in_err-sum_of-in-Object-clause-cause t c =
 pub encoded_len-returns-in_ok-sum_of-in-Object-clause-measured : goal.encoded_len-returns-in_ok-sum_of-in-Object-clause-measured
 encoded_len-returns-in_ok-sum_of-in-Object-clause-measured t c =
     let o = out-Object c.in-Object.object in
-    let is =
-    ap view c.in-Object.is ∙ view-fields c.in-Object.object
-    ∙ ap (λ l. object o.type_ o.id (property_views l)) (sym c.as_slice-in-Object.ensures.value) in
+    let is = object_of c.in-Object.object c.in-Object.is c.as_slice-in-Object.ensures.value in
     object_measured (view c.args.value.now) o.type_ o.id (property_views c.as_slice-in-Object.result.now) c.in_ok-len-in-Object.len _ is
     c.in_ok-len-in-Object.ensures.measured c.in_ok-sum_of-in-Object.ensures.sum c.in_ok-sum_of-in-Object.ensures.short
 

@@ -1,18 +1,17 @@
 use Rattle.std.proofs.Common.{◌≡◌, ◌∙◌, ◌+◌, ◌-◌, ◌*◌, ◌<◌, ◌^◌, ◌++◌, IfSome, ap, sym, subst, arith, length, refl, rules, take}
 use Rattle.std.proofs.lemmas.Result.{IfErr-weaker, on_ok_weaker}
 use Rattle.spa_bytes.proofs.Passing.{passed_on}
-use Rattle.spa_format.specs.Tree.{struct, object, struct_type, object_type}
+use Rattle.spa_format.specs.Tree.{struct, struct_type, object_type}
 use Rattle.spa_format.specs.Encoding.{encoding_of, member_encodings, property_encodings}
 use Rattle.spa_format.specs.Words.{word_bytes}
 use Rattle.spa_format.specs.Writable.{IsWritable}
 use Rattle.spa_value.specs.declared.object.Object.{out-Object}
 use Rattle.spa_value.specs.View.{view}
 use Rattle.spa_value.specs.Views.{views, property_views}
-use Rattle.spa_value.proofs.ViewLaws.{view-struct, view-fields}
 use Rattle.spa_write.specs.Measured.{ArePropertiesPut, PropertiesAreWritable}
 use Rattle.spa_write.proofs.LoneStructs.{begun_stops, left_stops, lone_length, next_begun}
-use Rattle.spa_write.proofs.MemberLists.{members_length, only_encoding, writable_there}
-use Rattle.spa_write.proofs.PropertyLists.{properties_length, properties_of_writable, property_writable_there}
+use Rattle.spa_write.proofs.MemberLists.{members_length, only_encoding, writable_there, struct_of}
+use Rattle.spa_write.proofs.PropertyLists.{properties_length, properties_of_writable, property_writable_there, object_of}
 use Rattle.spa_write.proofs.Stopping.{body_stops, four_stop, head_stops, keyed_at, keyed_pod_at, keyed_pod_stop, member_known, next_key_stops, next_keyed_put, next_keyed_stops, next_property_put, next_put, next_stops, next_value_stops, no_property_put, none_put, object_fits, object_head, object_put, size_of_object, size_of_struct, struct_fits, struct_head, struct_put, property_known, two_stop_at}
 use Rattle.spa_bodies.proofs.Parts.{TakesParts, two_stop}
 use Rattle.spa_write.proofs.sized.+put.Given.{Over}
@@ -28,15 +27,13 @@ parts_of g = record {
 
 pub put_value-overflow_sub-size : goal.put_value-overflow_sub-size
 put_value-overflow_sub-size g t c =
-    let is =
-    ap view c.in-Struct.is ∙ view-struct c.in-Struct.members in
+    let is = struct_of c.in-Struct.members c.in-Struct.is refl in
     let n = size_of_struct (view c.args.value.now) (views c.in-Struct.members.items) c.len_of.result is c.len_of.ensures in
     omega (arith, n)
 
 pub put_value-overflow_cast-size : goal.put_value-overflow_cast-size
 put_value-overflow_cast-size g t c =
-    let is =
-    ap view c.in-Struct.is ∙ view-struct c.in-Struct.members in
+    let is = struct_of c.in-Struct.members c.in-Struct.is refl in
     let n = size_of_struct (view c.args.value.now) (views c.in-Struct.members.items) c.len_of.result is c.len_of.ensures in
     let f = struct_fits (views c.in-Struct.members.items) (subst IsWritable is c.requires.writable) in
     omega (arith, n, f)
@@ -44,8 +41,7 @@ put_value-overflow_cast-size g t c =
 pub put_value-returns-in_err-put_two-in-Struct-clause-stops :
     goal.put_value-returns-in_err-put_two-in-Struct-clause-stops
 put_value-returns-in_err-put_two-in-Struct-clause-stops g t c =
-    let is =
-    ap view c.in-Struct.is ∙ view-struct c.in-Struct.members in
+    let is = struct_of c.in-Struct.members c.in-Struct.is refl in
     let k = c.len_of.result - 8 in
     let vs = views c.in-Struct.members.items in
     let h = c.in_err-put_two-in-Struct.ensures in
@@ -56,9 +52,7 @@ put_value-returns-in_err-put_two-in-Struct-clause-stops g t c =
 
 pub put_value-put_members-requires : goal.put_value-put_members-requires
 put_value-put_members-requires g t c =
-    let is =
-    ap view c.in-Struct.is ∙ view-struct c.in-Struct.members
-    ∙ ap (λ l. struct (views l)) (sym c.as_slice.ensures.value) in
+    let is = struct_of c.in-Struct.members c.in-Struct.is c.as_slice.ensures.value in
     let n = size_of_struct (view c.args.value.now) (views c.as_slice.result.now) c.len_of.result is c.len_of.ensures in
     let writable : IsWritable (struct (views c.as_slice.result.now)) = subst IsWritable is c.requires.writable in
     let size : c.len_of.result - 8 ≡ length (member_encodings (views c.as_slice.result.now)) = omega (arith, n) in
@@ -214,14 +208,14 @@ put_properties-loop-index-preserved g t c =
 pub put_value-overflow_sub-size-in-Object : goal.put_value-overflow_sub-size-in-Object
 put_value-overflow_sub-size-in-Object g t c =
     let o = out-Object c.in-Object.object in
-    let is = ap view c.in-Object.is ∙ view-fields c.in-Object.object in
+    let is = object_of c.in-Object.object c.in-Object.is refl in
     let n = size_of_object (view c.args.value.now) o.type_ o.id (property_views o.properties.items) c.len_of-in-Object.result is c.len_of-in-Object.ensures in
     omega (arith, n)
 
 pub put_value-overflow_cast-size-in-Object : goal.put_value-overflow_cast-size-in-Object
 put_value-overflow_cast-size-in-Object g t c =
     let o = out-Object c.in-Object.object in
-    let is = ap view c.in-Object.is ∙ view-fields c.in-Object.object in
+    let is = object_of c.in-Object.object c.in-Object.is refl in
     let n = size_of_object (view c.args.value.now) o.type_ o.id (property_views o.properties.items) c.len_of-in-Object.result is c.len_of-in-Object.ensures in
     let f = object_fits o.type_ o.id (property_views o.properties.items) (subst IsWritable is c.requires.writable) in
     omega (arith, n, f)
@@ -229,14 +223,14 @@ put_value-overflow_cast-size-in-Object g t c =
 pub put_value-overflow_sub-size-in-Object-2 : goal.put_value-overflow_sub-size-in-Object-2
 put_value-overflow_sub-size-in-Object-2 g t c =
     let o = out-Object c.in-Object.object in
-    let is = ap view c.in-Object.is ∙ view-fields c.in-Object.object in
+    let is = object_of c.in-Object.object c.in-Object.is refl in
     let n = size_of_object (view c.args.value.now) o.type_ o.id (property_views o.properties.items) c.len_of-in-Object.result is c.len_of-in-Object.ensures in
     omega (arith, n)
 
 pub put_value-returns-in_err-put_four-in-Object-clause-stops : goal.put_value-returns-in_err-put_four-in-Object-clause-stops
 put_value-returns-in_err-put_four-in-Object-clause-stops g t c =
     let o = out-Object c.in-Object.object in
-    let is = ap view c.in-Object.is ∙ view-fields c.in-Object.object in
+    let is = object_of c.in-Object.object c.in-Object.is refl in
     let k = c.len_of-in-Object.result - 8 in
     let ps = property_views o.properties.items in
     let h = c.in_err-put_four-in-Object.ensures in
@@ -249,9 +243,7 @@ put_value-returns-in_err-put_four-in-Object-clause-stops g t c =
 pub put_value-put_properties-requires : goal.put_value-put_properties-requires
 put_value-put_properties-requires g t c =
     let o = out-Object c.in-Object.object in
-    let is =
-    ap view c.in-Object.is ∙ view-fields c.in-Object.object
-    ∙ ap (λ l. object o.type_ o.id (property_views l)) (sym c.as_slice-in-Object.ensures.value) in
+    let is = object_of c.in-Object.object c.in-Object.is c.as_slice-in-Object.ensures.value in
     let ps = property_views c.as_slice-in-Object.result.now in
     let n = size_of_object (view c.args.value.now) o.type_ o.id ps c.len_of-in-Object.result is c.len_of-in-Object.ensures in
     let writable : PropertiesAreWritable (property_views c.as_slice-in-Object.result.now) =
@@ -265,9 +257,7 @@ put_value-put_properties-requires g t c =
 pub put_value-returns-in_ok-put_four-in-Object-clause-put : goal.put_value-returns-in_ok-put_four-in-Object-clause-put
 put_value-returns-in_ok-put_four-in-Object-clause-put g t c =
     let o = out-Object c.in-Object.object in
-    let is =
-    ap view c.in-Object.is ∙ view-fields c.in-Object.object
-    ∙ ap (λ l. object o.type_ o.id (property_views l)) (sym c.as_slice-in-Object.ensures.value) in
+    let is = object_of c.in-Object.object c.in-Object.is c.as_slice-in-Object.ensures.value in
     let within = c.put_four.ensures.within in
     let k = c.len_of-in-Object.result - 8 in
     on_ok_weaker c.put_properties.result
@@ -279,9 +269,7 @@ put_value-returns-in_ok-put_four-in-Object-clause-put g t c =
 pub put_value-returns-in_ok-put_four-in-Object-clause-stops : goal.put_value-returns-in_ok-put_four-in-Object-clause-stops
 put_value-returns-in_ok-put_four-in-Object-clause-stops g t c =
     let o = out-Object c.in-Object.object in
-    let is =
-    ap view c.in-Object.is ∙ view-fields c.in-Object.object
-    ∙ ap (λ l. object o.type_ o.id (property_views l)) (sym c.as_slice-in-Object.ensures.value) in
+    let is = object_of c.in-Object.object c.in-Object.is c.as_slice-in-Object.ensures.value in
     let k = c.len_of-in-Object.result - 8 in
     let ps = property_views c.as_slice-in-Object.result.now in
     IfErr-weaker c.put_properties.result _ _
@@ -294,9 +282,7 @@ put_value-returns-in_ok-put_four-in-Object-clause-stops g t c =
 pub put_value-returns-in_ok-put_two-in-Struct-clause-put :
     goal.put_value-returns-in_ok-put_two-in-Struct-clause-put
 put_value-returns-in_ok-put_two-in-Struct-clause-put g t c =
-    let is =
-    ap view c.in-Struct.is ∙ view-struct c.in-Struct.members
-    ∙ ap (λ l. struct (views l)) (sym c.as_slice.ensures.value) in
+    let is = struct_of c.in-Struct.members c.in-Struct.is c.as_slice.ensures.value in
     let k = c.len_of.result - 8 in
     on_ok_weaker c.put_members.result
     (λ h. struct_put g.met.S.PodSink.appends_more c.args.sink.now c.put_two.new.sink c.put_members.new.sink (view c.args.value.now)
@@ -306,9 +292,7 @@ put_value-returns-in_ok-put_two-in-Struct-clause-put g t c =
 pub put_value-returns-in_ok-put_two-in-Struct-clause-stops :
     goal.put_value-returns-in_ok-put_two-in-Struct-clause-stops
 put_value-returns-in_ok-put_two-in-Struct-clause-stops g t c =
-    let is =
-    ap view c.in-Struct.is ∙ view-struct c.in-Struct.members
-    ∙ ap (λ l. struct (views l)) (sym c.as_slice.ensures.value) in
+    let is = struct_of c.in-Struct.members c.in-Struct.is c.as_slice.ensures.value in
     let k = c.len_of.result - 8 in
     let vs = views c.as_slice.result.now in
     IfErr-weaker c.put_members.result _ _

@@ -4,10 +4,10 @@ use Rattle.std.specs.Prelude.{◌↔◌}
 use Rattle.std.specs.Borrow.{Bor}
 use Rattle.std.proofs.lemmas.List.{reverse-append}
 use Rattle.spa_sink.specs.declared.gen_error.GenError.{GenError}
-use Rattle.spa_sink.specs.declared.gen_error.GenError.TheVariants.{Full, TooLarge, NulInText, WrongCount, Failed, Io, OutOfMemory}
+use Rattle.spa_sink.specs.declared.gen_error.GenError.TheVariants.{TooLarge, NulInText}
 use Rattle.spa_sink.specs.Writing.{RefusesWrite}
 use Rattle.spa_format.specs.Words.{size_limit, word_bytes}
-use Rattle.spa_format.specs.Tree.{Tree, struct, object, struct_type, object_type, Properties}
+use Rattle.spa_format.specs.Tree.{Tree, struct, object, struct_type, object_type}
 use Rattle.spa_format.specs.Encoding.{encoded_body, encoding_of, encoded_pod, member_encodings, property_encodings}
 use Rattle.spa_format.specs.Typed.{AllPropertiesTyped, AllTyped}
 use Rattle.spa_format.specs.Writable.{SomeHasNul, SomeTooLarge, SomeValueHasNul, SomeValueTooLarge}

@@ -1,7 +1,6 @@
 use Rattle.std.proofs.Common.{ap, arith, refl}
 use Rattle.spa_canonical.specs.Depth.{depth_of}
 use Rattle.spa_value.specs.declared.object.Object.{out-Object}
-use Rattle.spa_value.specs.View.{view}
 use Rattle.spa_write.proofs.Levels.{depth_at, property_depth_at}
 use Rattle.spa_write.proofs.PropertyLists.{object_of}
 use Rattle.spa_write.proofs.MemberLists.{struct_of}

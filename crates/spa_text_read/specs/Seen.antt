@@ -108,17 +108,6 @@ abbrev pub IsOpened : Opened → Type 0
 IsOpened (opened.Leaf v) = tree (leaf_of (view v)) ≡ view v
 IsOpened (opened.Begun i) = IsFresh i
 
--- a value of fixed size, and what it says
-abbrev pub fixed_in : Tree → Fixed
-fixed_in (fixed x) = x
-fixed_in _ = none
-
-abbrev pub number_in : Value → Fixed
-number_in v = fixed_in (view v)
-
-abbrev pub IsNumber : Value → Type 0
-IsNumber v = view v ≡ fixed (number_in v)
-
 -- what an element says
 abbrev pub said_by : Element → Fixed
 said_by element.None = none

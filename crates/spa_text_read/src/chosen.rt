@@ -1,7 +1,6 @@
 //! Choices, made of their values.
 ghost use Rattle.std.specs.Prelude.{◌≡◌, ℕ, [], ◌∷◌, MatchOption, MatchResult, None, Some, map};
 ghost use Rattle.spa_fixed_sized.specs.Choices.{choice_enum_tree, choice_tree};
-ghost use Rattle.spa_format.specs.Tree.{none_choice, range_choice, step_choice};
 ghost use Rattle.spa_text_read.specs.Grammar as grammar;
 ghost use Rattle.spa_text_read.specs.Seen.{items_in, kind_in};
 ghost use Rattle.spa_text_read.specs.Shapes.{shape_of};
@@ -77,9 +76,27 @@ fn chosen<T: CanonicalFixedSizedPod>(shape: Shape, values: Vec<T>) -> Option<Cho
         ≡ Some (choice_enum_tree T.kind T.fixed n c)) }
 {
     match shape {
-        Shape::None => one(values.as_slice()),
-        Shape::Range => three(values.as_slice()),
-        Shape::Step => four(values.as_slice()),
+        Shape::None => match values.as_slice() {
+            [value] => Some(ChoiceEnum::None(*value)),
+            _ => None,
+        },
+        Shape::Range => match values.as_slice() {
+            [default, min, max] => Some(ChoiceEnum::Range {
+                default: *default,
+                min: *min,
+                max: *max,
+            }),
+            _ => None,
+        },
+        Shape::Step => match values.as_slice() {
+            [default, min, max, step] => Some(ChoiceEnum::Step {
+                default: *default,
+                min: *min,
+                max: *max,
+                step: *step,
+            }),
+            _ => None,
+        },
         Shape::Enum => match split(values) {
             Some((default, alternatives)) => Some(ChoiceEnum::Enum {
                 default,
@@ -91,54 +108,6 @@ fn chosen<T: CanonicalFixedSizedPod>(shape: Shape, values: Vec<T>) -> Option<Cho
             Some((default, flags)) => Some(ChoiceEnum::Flags { default, flags }),
             None => None,
         },
-    }
-}
-
-/// A choice of one value.
-fn one<T: CanonicalFixedSizedPod>(values: &[T]) -> Option<ChoiceEnum<T>>
-    ensures { MatchOption result
-        ((n : ℕ) → grammar.chosen none_choice n T.kind (map T.fixed values.now) ≡ None)
-        (λ c. (n : ℕ) → grammar.chosen none_choice n T.kind (map T.fixed values.now)
-        ≡ Some (choice_enum_tree T.kind T.fixed n c)) }
-{
-    match values {
-        [value] => Some(ChoiceEnum::None(*value)),
-        _ => None,
-    }
-}
-
-/// A default with its minimum and maximum.
-fn three<T: CanonicalFixedSizedPod>(values: &[T]) -> Option<ChoiceEnum<T>>
-    ensures { MatchOption result
-        ((n : ℕ) → grammar.chosen range_choice n T.kind (map T.fixed values.now) ≡ None)
-        (λ c. (n : ℕ) → grammar.chosen range_choice n T.kind (map T.fixed values.now)
-        ≡ Some (choice_enum_tree T.kind T.fixed n c)) }
-{
-    match values {
-        [default, min, max] => Some(ChoiceEnum::Range {
-            default: *default,
-            min: *min,
-            max: *max,
-        }),
-        _ => None,
-    }
-}
-
-/// A default with its minimum, maximum and step.
-fn four<T: CanonicalFixedSizedPod>(values: &[T]) -> Option<ChoiceEnum<T>>
-    ensures { MatchOption result
-        ((n : ℕ) → grammar.chosen step_choice n T.kind (map T.fixed values.now) ≡ None)
-        (λ c. (n : ℕ) → grammar.chosen step_choice n T.kind (map T.fixed values.now)
-        ≡ Some (choice_enum_tree T.kind T.fixed n c)) }
-{
-    match values {
-        [default, min, max, step] => Some(ChoiceEnum::Step {
-            default: *default,
-            min: *min,
-            max: *max,
-            step: *step,
-        }),
-        _ => None,
     }
 }
 

@@ -63,22 +63,15 @@ impl Nest {
         ensures no_more { length reader.new ≤ length reader.old }
     {
         if let Some(number) = plain_number(head, expected) {
-            return match self.inner.put_number(number, reader) {
-                Ok(()) => Ok(true),
-                Err(cause) => Err(cause),
-            };
+            self.inner.put_number(number, reader)?;
+            return Ok(true);
         }
         match open(alloc, reader, head, expected) {
-            Ok(Opened::Leaf(value)) => match self.inner.put(value, reader) {
-                Ok(()) => Ok(true),
-                Err(cause) => Err(cause),
-            },
-            Ok(Opened::Begun(begun)) => match self.push(begun) {
-                Ok(()) => Ok(true),
-                Err(cause) => Err(cause),
-            },
-            Err(cause) => Err(cause),
+            Ok(Opened::Leaf(value)) => self.inner.put(value, reader)?,
+            Ok(Opened::Begun(begun)) => self.push(begun)?,
+            Err(cause) => return Err(cause),
         }
+        Ok(true)
     }
 
     /// Goes into the one that is begun.

@@ -6,11 +6,12 @@ ghost use Rattle.spa_text_read.specs.Grammar as grammar;
 ghost use Rattle.spa_text_read.specs.Grammar.{a_struct, a_text, tree};
 ghost use Rattle.spa_text_read.specs.Tokens.{after_end_object, any_text};
 ghost use Rattle.spa_text_read.specs.declared.inside.Opened.TheVariants.{Leaf};
-ghost use Rattle.spa_text_read.specs.Seen.{IsFresh, IsNumber, IsOpened, kind_in, items_in, leaf_at, leaf_of, number_in, opened_of, opening_of, says};
+ghost use Rattle.spa_text_read.specs.Seen.{IsFresh, IsOpened, kind_in, items_in, leaf_at, leaf_of, opened_of, opening_of, said_by, says};
 ghost use Rattle.spa_text_read.specs.Shapes.{shape_of};
 ghost use Rattle.spa_value.specs.View.{view};
 
 use crate::cause::Cause;
+use crate::element::{Element, value_of};
 use crate::inside::{Inside, Opened};
 use crate::names::{ids_of, keys_of};
 use crate::numerals::wide_bits;
@@ -51,14 +52,14 @@ pub(crate) fn open(
         Token::Null => Ok(Opened::Leaf(Value::None)),
         Token::Bool(value) => Ok(Opened::Leaf(Value::Bool(value))),
         Token::Number(_) => match scalar_of(bare(expected.type_.0), expected.ids, head) {
-            Some(value) => Ok(Opened::Leaf(value)),
+            Some(number) => Ok(Opened::Leaf(value_of(number))),
             None => Err(Cause::Number),
         },
         Token::String(text) => {
             if takes_text(expected.type_.0) {
                 let scalar = bare(expected.type_.0);
                 return match scalar_of(scalar, expected.ids, head) {
-                    Some(value) => Ok(Opened::Leaf(value)),
+                    Some(number) => Ok(Opened::Leaf(value_of(number))),
                     None => Err(no_scalar(scalar, head)),
                 };
             }
@@ -67,10 +68,7 @@ pub(crate) fn open(
                 Err(_) => Err(Cause::OutOfMemory),
             }
         }
-        Token::BeginArray => match struct_at(alloc, false) {
-            Ok(begun) => Ok(Opened::Begun(begun)),
-            Err(cause) => Err(cause),
-        },
+        Token::BeginArray => Ok(Opened::Begun(struct_at(alloc, false)?)),
         Token::Key(name) => open_tagged(alloc, reader, tag_of(name), expected),
         _ => Err(Cause::Token),
     }
@@ -93,23 +91,11 @@ fn open_tagged(
             let Some(()) = begin_array(reader) else {
                 return Err(Cause::Token);
             };
-            match struct_at(alloc, true) {
-                Ok(begun) => Ok(Opened::Begun(begun)),
-                Err(cause) => Err(cause),
-            }
+            Ok(Opened::Begun(struct_at(alloc, true)?))
         }
-        Tag::Array => match array_at(alloc, reader, expected) {
-            Ok(array) => Ok(Opened::Begun(array)),
-            Err(cause) => Err(cause),
-        },
-        Tag::Choice => match choice_at(alloc, reader, expected) {
-            Ok(choice) => Ok(Opened::Begun(choice)),
-            Err(cause) => Err(cause),
-        },
-        Tag::Object => match object_at(alloc, reader) {
-            Ok(object) => Ok(Opened::Begun(object)),
-            Err(cause) => Err(cause),
-        },
+        Tag::Array => Ok(Opened::Begun(array_at(alloc, reader, expected)?)),
+        Tag::Choice => Ok(Opened::Begun(choice_at(alloc, reader, expected)?)),
+        Tag::Object => Ok(Opened::Begun(object_at(alloc, reader)?)),
         _ => match leaf_at(alloc, reader, tag, expected) {
             Ok(value) => end_leaf(value, reader),
             Err(cause) => Err(cause),
@@ -142,28 +128,22 @@ fn leaf_at(
     ensures no_more { length reader.new ≤ length reader.old }
 {
     match tag {
-        Tag::Scalar(scalar) => scalar_at(reader, scalar, expected.ids),
+        Tag::Scalar(scalar) => Ok(value_of(scalar_at(reader, scalar, expected.ids)?)),
         Tag::String => text_at(alloc, reader),
-        Tag::Bytes => match hex_bytes(alloc, reader) {
-            Ok(bytes) => Ok(Value::Bytes(bytes)),
-            Err(cause) => Err(cause),
-        },
-        Tag::Bitmap => match hex_bytes(alloc, reader) {
-            Ok(bytes) => Ok(Value::Bitmap(bytes)),
-            Err(cause) => Err(cause),
-        },
-        Tag::Width => match two_words(reader, "height") {
-            Ok((width, height)) => Ok(Value::Rectangle(Rectangle { width, height })),
-            Err(cause) => Err(cause),
-        },
-        Tag::Num => match two_words(reader, "denom") {
-            Ok((num, denom)) => Ok(Value::Fraction(Fraction { num, denom })),
-            Err(cause) => Err(cause),
-        },
-        Tag::Pointer => match pointer_at(reader) {
-            Ok((type_, address)) => Ok(Value::Pointer(type_, address)),
-            Err(cause) => Err(cause),
-        },
+        Tag::Bytes => Ok(Value::Bytes(hex_bytes(alloc, reader)?)),
+        Tag::Bitmap => Ok(Value::Bitmap(hex_bytes(alloc, reader)?)),
+        Tag::Width => {
+            let (width, height) = two_words(reader, "height")?;
+            Ok(Value::Rectangle(Rectangle { width, height }))
+        }
+        Tag::Num => {
+            let (num, denom) = two_words(reader, "denom")?;
+            Ok(Value::Fraction(Fraction { num, denom }))
+        }
+        Tag::Pointer => {
+            let (type_, address) = pointer_at(reader)?;
+            Ok(Value::Pointer(type_, address))
+        }
         _ => Err(Cause::Name),
     }
 }
@@ -177,17 +157,17 @@ fn no_scalar(scalar: Scalar, token: Token<'_>) -> Cause {
 }
 
 /// Takes a number of this type.
-fn scalar_at(reader: &mut Reader<'_>, scalar: Scalar, ids: Table) -> Result<Value, Cause>
-    ensures said { IfOk result (λ v. grammar.tagged_scalar scalar ids reader.old ≡ Some (number_in v, reader.new)) }
-    ensures number { IfOk result (λ v. IsNumber v) }
-    ensures refused { IfErr result (λ _. grammar.tagged_scalar scalar ids reader.old ≡ None) }
+fn scalar_at(reader: &mut Reader<'_>, scalar: Scalar, ids: Table) -> Result<Element, Cause>
+    ensures said { MatchResult result
+        (λ e. grammar.tagged_scalar scalar ids reader.old ≡ Some (said_by e, reader.new))
+        (λ _. grammar.tagged_scalar scalar ids reader.old ≡ None) }
     ensures no_more { length reader.new ≤ length reader.old }
 {
     let Some(token) = any_token(reader) else {
         return Err(Cause::Token);
     };
     match scalar_of(scalar, ids, token) {
-        Some(value) => Ok(value),
+        Some(number) => Ok(number),
         None => Err(no_scalar(scalar, token)),
     }
 }
@@ -251,12 +231,10 @@ fn two_words(reader: &mut Reader<'_>, name: &str) -> Result<(u32, u32), Cause>
     let Some(first) = word(reader) else {
         return Err(Cause::Number);
     };
-    match key(reader, name) {
-        Ok(()) => match word(reader) {
-            Some(second) => Ok((first, second)),
-            None => Err(Cause::Number),
-        },
-        Err(cause) => Err(cause),
+    key(reader, name)?;
+    match word(reader) {
+        Some(second) => Ok((first, second)),
+        None => Err(Cause::Number),
     }
 }
 

@@ -10,8 +10,22 @@ use Rattle.spa_names.specs.declared.table.Table.{Table}
 use Rattle.spa_names.specs.Rows.{Row, Naming, name_in, row_of}
 use Rattle.spa_names.specs.Tables.{rows_of, aliases_of}
 use Rattle.spa_names.specs.Lookup.{row_at, name_of, number_of, alias_of, NamesComeBack, NumbersAreNamed}
-use Rattle.spa_names.proofs.Facts.{names_begin-all, names_come_back-all, numbers_are_named-all}
-use Rattle.spa_names.proofs.Sound.{begins, is_number}
+use Rattle.spa_names.proofs.Facts.{is_sound-all}
+use Rattle.spa_names.proofs.Sound.{begins, is_number, names_begin, names_come_back, numbers_are_named, numbers_rise}
+
+-- what is true of each table
+module _ (table : Table) where
+  pub numbers_rise-all : numbers_rise table ≡ true
+  numbers_rise-all = (and_parts _ _ (and_parts (names_begin table && numbers_rise table) _ (is_sound-all table)).0).1
+
+  names_begin-all : names_begin table ≡ true
+  names_begin-all = (and_parts _ _ (and_parts (names_begin table && numbers_rise table) _ (is_sound-all table)).0).0
+
+  names_come_back-all : names_come_back table ≡ true
+  names_come_back-all = (and_parts _ _ (and_parts (names_begin table && numbers_rise table) _ (is_sound-all table)).1).0
+
+  numbers_are_named-all : numbers_are_named table ≡ true
+  numbers_are_named-all = (and_parts (names_come_back table) _ (and_parts (names_begin table && numbers_rise table) _ (is_sound-all table)).1).1
 
 is_number-Some : (found : Option ℕ) (number : ℕ) → is_number found number ≡ true → found ≡ Some number
 is_number-Some None number is = search

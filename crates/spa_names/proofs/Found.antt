@@ -14,8 +14,7 @@ use Rattle.spa_names.specs.Rows.{row_of, naming_of, name_in}
 use Rattle.spa_names.specs.Tables.{rows_of, aliases_of}
 use Rattle.spa_names.specs.Lookup.{row_at, name_of, alias_of, number_of, object_at}
 use Rattle.spa_names.specs.declared.table.TheConstants.{OBJECTS}
-use Rattle.spa_names.proofs.Facts.{numbers_rise-all}
-use Rattle.spa_names.proofs.Coming.{NamesComeBack-all}
+use Rattle.spa_names.proofs.Coming.{NamesComeBack-all, numbers_rise-all}
 use Rattle.spa_names.proofs.Searching.{rises, rises-map, find-map, searched}
 
 is_eq-nat_cmp : (x y : ℕ) → (x == y) ≡ is_eq (nat_cmp x y)

@@ -29,3 +29,6 @@ names_come_back table = list_all (λ row. is_number (number_of table (name_in ro
 abbrev pub numbers_are_named : Table → Bool
 numbers_are_named table =
     list_all (λ row. is_some (name_of table row.0)) (rows_of table) && list_all (λ naming. is_some (name_of table naming.1)) (aliases_of table)
+
+abbrev pub is_sound : Table → Bool
+is_sound table = (names_begin table && numbers_rise table) && (names_come_back table && numbers_are_named table)

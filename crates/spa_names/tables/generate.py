@@ -288,10 +288,9 @@ def main():
     out += ["use Rattle.std.proofs.Common.{◌≡◌, true, refl}"]
     out += ["use Rattle.spa_names.specs.declared.table.Table.{Table}"]
     out += [f"use Rattle.spa_names.specs.declared.table.Table.TheVariants.{{{', '.join(variants)}}}"]
-    out += ["use Rattle.spa_names.proofs.Sound.{names_begin, numbers_rise, names_come_back, numbers_are_named}"]
-    for fact in ("names_begin", "numbers_rise", "names_come_back", "numbers_are_named"):
-        out += ["", f"pub {fact}-all : (table : Table) → {fact} table ≡ true"]
-        out += [f"{fact}-all {variant} = refl" for variant in variants]
+    out += ["use Rattle.spa_names.proofs.Sound.{is_sound}"]
+    out += ["", "pub is_sound-all : (table : Table) → is_sound table ≡ true"]
+    out += [f"is_sound-all {variant} = refl" for variant in variants]
     write("proofs/Facts.antt", out)
 
     out = [f"// Written {OF_C}", "//! The tables of names.", ""]

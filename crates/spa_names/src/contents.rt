@@ -2,7 +2,7 @@
 //! The contents of the tables.
 ghost use Rattle.std.specs.Prelude.{◌≡◌, map};
 ghost use Rattle.spa_names.specs.Rows.{naming_of, row_of};
-ghost use Rattle.spa_names.specs.Tables.{IsOfIds, aliases_of, rows_of};
+ghost use Rattle.spa_names.specs.Tables.{aliases_of, id_rows_of, rows_of};
 
 use crate::entry::{Entry, Naming};
 use crate::table::Table;
@@ -34,7 +34,7 @@ pub(crate) fn entries_of(table: Table) -> &'static [Entry]
 
 /// The entries of a table of types or ids; of any other none.
 fn id_entries_of(table: Table) -> &'static [Entry]
-    ensures { IsOfIds table → map row_of result.now ≡ rows_of table }
+    ensures { map row_of result.now ≡ id_rows_of table }
 {
     match table {
         Table::Types => id_entries::ENTRIES_OF_TYPES,

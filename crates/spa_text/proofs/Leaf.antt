@@ -7,6 +7,7 @@ use Rattle.std.specs.Int.Signed.{mag}
 use mir.Val.{SFits, of_z, to_z}
 use Rattle.std.proofs.lemmas.Int.{to_z-of_z}
 use Rattle.std.proofs.lemmas.Option.{none-some}
+use Rattle.std.proofs.lemmas.Slice.Eq.{bytes_eq-Decides}
 use Rattle.hex.specs.Hex.{IsBytes, encode_lower}
 use Rattle.json.specs.Token.{Token}
 use Rattle.spa_format.specs.Kind.{Fixed, id, int, long, float, double, rectangle, fraction, fd, none, bool}
@@ -120,42 +121,8 @@ same scalar.Double = refl
 same scalar.Fd = refl
 
 is_same : (j k : Scalar) → same_scalar j k ≡ true → j ≡ k
-is_same scalar.Id scalar.Id e = refl
-is_same scalar.Int scalar.Int e = refl
-is_same scalar.Long scalar.Long e = refl
-is_same scalar.Float scalar.Float e = refl
-is_same scalar.Double scalar.Double e = refl
-is_same scalar.Fd scalar.Fd e = refl
-is_same scalar.Id scalar.Int e = cc
-is_same scalar.Id scalar.Long e = cc
-is_same scalar.Id scalar.Float e = cc
-is_same scalar.Id scalar.Double e = cc
-is_same scalar.Id scalar.Fd e = cc
-is_same scalar.Int scalar.Id e = cc
-is_same scalar.Int scalar.Long e = cc
-is_same scalar.Int scalar.Float e = cc
-is_same scalar.Int scalar.Double e = cc
-is_same scalar.Int scalar.Fd e = cc
-is_same scalar.Long scalar.Id e = cc
-is_same scalar.Long scalar.Int e = cc
-is_same scalar.Long scalar.Float e = cc
-is_same scalar.Long scalar.Double e = cc
-is_same scalar.Long scalar.Fd e = cc
-is_same scalar.Float scalar.Id e = cc
-is_same scalar.Float scalar.Int e = cc
-is_same scalar.Float scalar.Long e = cc
-is_same scalar.Float scalar.Double e = cc
-is_same scalar.Float scalar.Fd e = cc
-is_same scalar.Double scalar.Id e = cc
-is_same scalar.Double scalar.Int e = cc
-is_same scalar.Double scalar.Long e = cc
-is_same scalar.Double scalar.Float e = cc
-is_same scalar.Double scalar.Fd e = cc
-is_same scalar.Fd scalar.Id e = cc
-is_same scalar.Fd scalar.Int e = cc
-is_same scalar.Fd scalar.Long e = cc
-is_same scalar.Fd scalar.Float e = cc
-is_same scalar.Fd scalar.Double e = cc
+is_same j k e =
+    let t : tag.Scalar j ≡ tag.Scalar k = sym (tag_text j) ∙ ap tag_named ((bytes_eq-Decides (scalar_text j) (scalar_text k)).0 e) ∙ tag_text k in cc
 
 -- what a test leads to
 pub choose : {A : Type 0} (b : Bool) (x y : A) → b ≡ true → (if b then x else y) ≡ x

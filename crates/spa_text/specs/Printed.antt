@@ -2,6 +2,7 @@
 use Rattle.std.specs.Prelude.{⊤, ℕ, zero, suc, List, [], ◌∷◌, ◌++◌, Bool, true, false, ◌==◌, if◌then◌else◌, Option, Some, None, codes, decimal}
 use Rattle.std.specs.Fmt.{signed_decimal}
 use Rattle.std.specs.Int.{w64, to_be_bytes}
+use Rattle.std.specs.Str.{bytes_eq}
 use Rattle.hex.specs.Hex.{encode_lower}
 use Rattle.json.specs.Token.{Token}
 use Rattle.json.specs.Print as json
@@ -86,15 +87,9 @@ scalar_text scalar.Float = codes "float"
 scalar_text scalar.Double = codes "double"
 scalar_text scalar.Fd = codes "fd"
 
--- the two are the same
+-- the two are the same: they have one tag
 abbrev pub same_scalar : Scalar → Scalar → Bool
-same_scalar scalar.Id scalar.Id = true
-same_scalar scalar.Int scalar.Int = true
-same_scalar scalar.Long scalar.Long = true
-same_scalar scalar.Float scalar.Float = true
-same_scalar scalar.Double scalar.Double = true
-same_scalar scalar.Fd scalar.Fd = true
-same_scalar _ _ = false
+same_scalar j k = bytes_eq (scalar_text j) (scalar_text k)
 
 -- a number bare where one of its type is expected, else with its tag
 abbrev pub scalar_tokens : Expected → Scalar → Token → List Token

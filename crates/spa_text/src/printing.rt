@@ -5,7 +5,6 @@ ghost use Rattle.json.specs.Lex.{tokens};
 ghost use Rattle.json.specs.Print as json;
 ghost use Rattle.spa_format.specs.Tree.{member_node_count, node_count, struct};
 ghost use Rattle.spa_text_read.specs.Grammar.{IsTextOf, an_object, key_number, nothing};
-ghost use Rattle.spa_text_read.specs.Numerals.{unsigned_number};
 ghost use Rattle.spa_text.specs.Line.{AreGood, HasNoEnd};
 ghost use Rattle.spa_text.specs.Left.{IsLess, PrintsNext, PrintsOrBegins, PrintsWhole, left_count};
 ghost use Rattle.spa_text.specs.Printed as printed;
@@ -23,7 +22,7 @@ use crate::printed::{Printed, begin_keyed_object, end_braced, print_name};
 use bitflags::Flags;
 use spa_names::{Expected, Table};
 use spa_text_read::names::{expected_under, ids_of, keys_of, name_of};
-use spa_text_read::numerals::unsigned;
+use spa_text_read::numerals::number_of_digits;
 use spa_value::{Object, Property, Value};
 use std::alloc::{AllocError, Global};
 use std::mem;
@@ -323,26 +322,13 @@ fn next_property<'a>(
     }
 }
 
-/// The number that a name is, if it is one. Hardly any begins with a digit, and the others needn't be read.
-#[inline(always)]
-fn number_in(name: &str) -> Option<u32>
-    ensures { result ≡ unsigned_number name.now }
-{
-    if let Some(first) = name.as_bytes().first() {
-        if *first > b'9' {
-            return None;
-        }
-    }
-    unsigned(name)
-}
-
 /// The name that is printed for a key: none that would be read as a number.
 fn key_name(keys: Table, key: u32) -> Option<&'static str>
     ensures number { IfSome result (λ name. key_number keys name.now ≡ Some key) }
     ensures text { MatchOption result (key_text keys key ≡ decimal key) (λ name. key_text keys key ≡ name.now) }
 {
     let name = name_of(keys, key)?;
-    match number_in(name) {
+    match number_of_digits(name) {
         Some(_) => None,
         None => Some(name),
     }

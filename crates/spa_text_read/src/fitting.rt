@@ -94,7 +94,7 @@ impl fmt::Display for InPlace {
 }
 
 /// The type that belongs under a key of an object of this type.
-pub(crate) fn type_under(type_: u32, key: u32) -> FullType
+pub fn type_under(type_: u32, key: u32) -> FullType
     ensures { result ≡ spec.type_under type_ key }
 {
     wanted_under(type_, key, expected_under(keys_of(type_), key))

@@ -23,5 +23,5 @@ mod tokens;
 
 pub use cause::Cause;
 pub use error::{AtPath, TextError};
-pub use fitting::{FullType, InPlace, Misfit, Strictness};
+pub use fitting::{FullType, InPlace, Misfit, Strictness, type_under};
 pub use reading::{TextReader, read, read_front};

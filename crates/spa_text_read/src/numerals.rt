@@ -23,7 +23,8 @@ pub fn unsigned(text: &str) -> Option<u32>
 
 /// The number that the name of a key is. Few are: behind the digits of ASCII no number begins.
 #[tactic(auto, using(crate::proofs::Digits::no_number))]
-pub(crate) fn number_of_digits(name: &str) -> Option<u32>
+#[inline(always)]
+pub fn number_of_digits(name: &str) -> Option<u32>
     ensures { result ≡ spec.unsigned_number name.now }
 {
     match name.as_bytes() {

@@ -1,13 +1,14 @@
 -- The tokens of what pw-dump prints of params, in the grammar's words: docs/TEXT.md, "What `pw-dump` prints".
 use Rattle.std.specs.Prelude.{ℕ, zero, suc, ◌==◌, ◌||◌, ◌&&◌, nat_eq, nat_lt, Bool, true, false, codes, decimal, List, [], ◌∷◌, ◌++◌, if◌then◌else◌, Option, Some, None}
 use Rattle.std.specs.List.{starts_with}
+use Rattle.std.specs.Option.{is_none, option_map_or}
 use Rattle.std.specs.Str.{bytes_eq}
 use Rattle.json.specs.Json.{Json, null, boolean, number, string, array, object, Items, no_items, item, Members, no_members, member}
 use Rattle.json.specs.Token.{Token}
 use Rattle.spa_text_read.specs.Fitting.{object_types}
 use Rattle.spa_text_read.specs.declared.fitting.FullType.{FullType}
 use Rattle.spa_text_read.specs.declared.fitting.Strictness.TheVariants.{Strict}
-use Rattle.spa_text_forms.specs.Order.{anywhere, ordered, wanted_under}
+use Rattle.spa_text_forms.specs.Order.{anywhere, ordered, under, wanted_under}
 use Rattle.spa_text_forms.specs.declared.order.Place.TheVariants.{Wants}
 
 -- ---- Choices
@@ -24,18 +25,12 @@ abbrev pub are_keys_of : (shape : List ℕ) → Members → Bool
 are_keys_of shape no_members = true
 are_keys_of shape (member k j ms) = is_key_of shape k && are_keys_of shape ms
 
-abbrev pub has_default : Members → Bool
-has_default no_members = false
-has_default (member k j ms) = bytes_eq k (codes "default") || has_default ms
-
--- the shape of the choice that these keys are of
-abbrev pub shape_by_keys : Members → Option (List ℕ)
-shape_by_keys ms =
-    if are_keys_of (codes "Enum") ms then Some (codes "Enum") else if are_keys_of (codes "Flags") ms then Some (codes "Flags")
-    else if are_keys_of (codes "Range") ms then Some (codes "Range") else if are_keys_of (codes "Step") ms then Some (codes "Step") else None
-
+-- the shape of the choice that these members are of, if they are of one
 abbrev pub shape_in : Members → Option (List ℕ)
-shape_in ms = if has_default ms then shape_by_keys ms else None
+shape_in ms =
+    if is_none (under (codes "default") ms) then None
+    else if are_keys_of (codes "Enum") ms then Some (codes "Enum") else if are_keys_of (codes "Flags") ms then Some (codes "Flags")
+    else if are_keys_of (codes "Range") ms then Some (codes "Range") else if are_keys_of (codes "Step") ms then Some (codes "Step") else None
 
 -- the turn in which a value of a choice is written, by its key: alternatives and flags share the last one, and stay in their order
 abbrev pub turn : List ℕ → ℕ
@@ -70,14 +65,13 @@ choice_or w None ms = ordered Strict (Wants w) (object ms)
 
 -- ---- Objects
 
--- the value of mediaType says video; among the members there is such a one
+-- the value under mediaType says video
 abbrev pub is_video_type : Json → Bool
 is_video_type (string s) = bytes_eq s (codes "video")
 is_video_type _ = false
 
 abbrev pub is_video : Members → Bool
-is_video no_members = false
-is_video (member k j ms) = if bytes_eq k (codes "mediaType") then is_video_type j else is_video ms
+is_video ms = option_map_or is_video_type (under (codes "mediaType") ms) false
 
 -- pw-dump prints some keys of audio and of video by one name: the grammar's name of the key, for formats of video and for other objects
 abbrev pub key_meant : (video : Bool) → List ℕ → List ℕ

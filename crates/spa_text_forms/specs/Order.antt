@@ -1,5 +1,6 @@
 -- The tokens of a text in the order of the grammar: docs/TEXT.md, "Texts in another order".
 use Rattle.std.specs.Prelude.{ℕ, zero, suc, ◌==◌, ◌||◌, ◌&&◌, Bool, true, false, codes, decimal, List, [], ◌∷◌, ◌++◌, if◌then◌else◌, Option, Some, None, unwrap_or}
+use Rattle.std.specs.Option.{option_map_or}
 use Rattle.std.specs.Str.{bytes_eq}
 use Rattle.json.specs.Json.{Json, null, boolean, number, string, array, object, Items, no_items, item, Members, no_members, member}
 use Rattle.json.specs.Token.{Token}
@@ -42,6 +43,11 @@ abbrev pub or_zero : Option ℕ → ℕ
 or_zero (Some n) = n
 or_zero None = 0
 
+-- the value under the first of these keys that has this name
+abbrev pub under : List ℕ → Members → Option Json
+under s no_members = None
+under s (member k j ms) = if bytes_eq k s then Some j else under s ms
+
 -- the number of the type that a value names, and of the one that an object names; 0 where it names none
 abbrev pub type_named : Json → ℕ
 type_named (string s) = or_zero (number_of Types s)
@@ -49,8 +55,7 @@ type_named (number s) = or_zero (unsigned_number s)
 type_named _ = 0
 
 abbrev pub type_in : Members → ℕ
-type_in no_members = 0
-type_in (member k j ms) = if bytes_eq k (codes "type") then type_named j else type_in ms
+type_in ms = option_map_or type_named (under (codes "type") ms) 0
 
 -- the type that belongs under a key of an object of this type
 abbrev pub type_of_key : (type : ℕ) → Option ℕ → FullType

@@ -6,7 +6,7 @@ ghost use Rattle.json.specs.Tree.{HasNumbers, ItemsHaveNumbers, MembersHaveNumbe
 ghost use Rattle.json.specs.Value.{items_view, members_view, value_view};
 ghost use Rattle.spa_text_forms.specs.Dump as spec;
 
-use crate::order::{ANYWHERE, Place, put, put_object, wanted_under};
+use crate::order::{ANYWHERE, Place, put, put_object, under, wanted_under};
 use json::{Value, Writer};
 use spa_text_read::{FullType, Strictness};
 use std::alloc::AllocError;
@@ -224,16 +224,9 @@ fn turn_of(key: &str) -> usize
 fn shape_in(members: &[(&str, Value<'_>)]) -> Option<&'static str>
     ensures { option_map (λ s. s.now) result ≡ spec.shape_in (members_view members.now) }
 {
-    if !has_default(members) {
+    if under(members, "default").is_none() {
         return None;
     }
-    shape_by_keys(members)
-}
-
-/// The shape that the keys of these members are of, if they are of one.
-fn shape_by_keys(members: &[(&str, Value<'_>)]) -> Option<&'static str>
-    ensures { option_map (λ s. s.now) result ≡ spec.shape_by_keys (members_view members.now) }
-{
     if are_keys_of("Enum", members) {
         Some("Enum")
     } else if are_keys_of("Flags", members) {
@@ -245,18 +238,6 @@ fn shape_by_keys(members: &[(&str, Value<'_>)]) -> Option<&'static str>
     } else {
         None
     }
-}
-
-/// Whether a default is among these members.
-fn has_default(members: &[(&str, Value<'_>)]) -> bool
-    ensures { result ≡ spec.has_default (members_view members.now) }
-{
-    for member in members {
-        if member.0 == "default" {
-            return true;
-        }
-    }
-    false
 }
 
 /// Whether the keys of these members are those of a choice of this shape.
@@ -289,12 +270,10 @@ fn is_key_of(shape: &str, key: &str) -> bool
 fn is_video(members: &[(&str, Value<'_>)]) -> bool
     ensures { result ≡ spec.is_video (members_view members.now) }
 {
-    for member in members {
-        if member.0 == "mediaType" {
-            return is_video_type(&member.1);
-        }
+    match under(members, "mediaType") {
+        Some(value) => is_video_type(value),
+        None => false,
     }
-    false
 }
 
 /// Whether this is the media type of video.

@@ -1,5 +1,5 @@
 //! The tokens of a value of JSON, in the order of the grammar.
-ghost use Rattle.std.specs.Prelude.{◌≡◌, ◌++◌, OnOk, Some};
+ghost use Rattle.std.specs.Prelude.{◌≡◌, ◌++◌, OnOk, Some, option_map};
 ghost use Rattle.json.specs.Tree.{HasNumbers, ItemsHaveNumbers, MembersHaveNumbers};
 ghost use Rattle.json.specs.Value.{items_view, members_view, value_view};
 ghost use Rattle.spa_text_read.specs.Fitting as fitting;
@@ -247,16 +247,29 @@ fn type_under(type_: u32, key: u32) -> FullType
     }
 }
 
+/// The value under the first of these keys that has this name.
+pub(crate) fn under<'a, 'k, 'b>(
+    members: &'a [(&'k str, Value<'b>)],
+    name: &str,
+) -> Option<&'a Value<'b>>
+    ensures { option_map (λ value. value_view value.now) result ≡ spec.under name.now (members_view members.now) }
+{
+    for member in members {
+        if member.0 == name {
+            return Some(&member.1);
+        }
+    }
+    None
+}
+
 /// The number of the type that the members of an object name; 0 where they name none.
 fn type_in(members: &[(&str, Value<'_>)]) -> u32
     ensures { result ≡ spec.type_in (members_view members.now) }
 {
-    for member in members {
-        if member.0 == "type" {
-            return type_named(&member.1);
-        }
+    match under(members, "type") {
+        Some(value) => type_named(value),
+        None => 0,
     }
-    0
 }
 
 /// The number of the type that a value names.

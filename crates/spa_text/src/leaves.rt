@@ -293,14 +293,14 @@ fn print_chosen<T: Printed>(
         }
         ChoiceEnum::Enum {
             default,
-            alternatives,
+            alternatives: others,
+        }
+        | ChoiceEnum::Flags {
+            default,
+            flags: others,
         } => {
             print_element(alloc, out, *default, expected)?;
-            print_elements(alloc, out, alternatives.as_slice(), expected)
-        }
-        ChoiceEnum::Flags { default, flags } => {
-            print_element(alloc, out, *default, expected)?;
-            print_elements(alloc, out, flags.as_slice(), expected)
+            print_elements(alloc, out, others.as_slice(), expected)
         }
     }
 }

@@ -2,17 +2,14 @@
 ghost use Rattle.std.specs.Prelude.{◌≡◌, ◌++◌, OnOk, Some, option_map};
 ghost use Rattle.json.specs.Tree.{HasNumbers, ItemsHaveNumbers, MembersHaveNumbers};
 ghost use Rattle.json.specs.Value.{items_view, members_view, value_view};
-ghost use Rattle.spa_text_read.specs.Fitting as fitting;
 ghost use Rattle.spa_text_read.specs.Grammar as grammar;
 ghost use Rattle.spa_text_forms.specs.Order as spec;
 
 use json::{Value, Writer};
-use spa_names::keys::{PARAM_ROUTE_DEVICES, PARAM_ROUTE_PROFILES};
-use spa_names::types::OBJECT_PARAM_ROUTE;
 use spa_names::{Table, number_of};
-use spa_text_read::names::{expected_under, keys_of};
+use spa_text_read::names::keys_of;
 use spa_text_read::numerals::unsigned;
-use spa_text_read::{FullType, Strictness};
+use spa_text_read::{FullType, Strictness, type_under};
 use spa_utils::SpaTypes;
 use std::alloc::AllocError;
 
@@ -227,23 +224,6 @@ pub fn key_number(keys: Table, name: &str) -> Option<u32>
     match unsigned(name) {
         Some(number) => Some(number),
         None => number_of(keys, name),
-    }
-}
-
-/// The type that belongs under a key of an object of this type.
-fn type_under(type_: u32, key: u32) -> FullType
-    ensures { result ≡ fitting.type_under type_ key }
-{
-    if type_ == OBJECT_PARAM_ROUTE && (key == PARAM_ROUTE_PROFILES || key == PARAM_ROUTE_DEVICES) {
-        return FullType {
-            type_: SpaTypes::Array,
-            element: SpaTypes::Int,
-        };
-    }
-    let expected = expected_under(keys_of(type_), key);
-    FullType {
-        type_: expected.type_,
-        element: expected.element,
     }
 }
 

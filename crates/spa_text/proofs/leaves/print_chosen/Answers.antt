@@ -1,4 +1,4 @@
-use Rattle.std.proofs.Common.{[], ◌∷◌, subst, sym}
+use Rattle.std.proofs.Common.{◌≡◌, ◌∙◌, [], ◌∷◌, ap, inl, inr, subst, sym}
 use Rattle.std.proofs.lemmas.Result.{on_ok_weaker}
 use Rattle.std.specs.Prelude.{map}
 use Rattle.spa_text.specs.Written.{Lists, values_in}
@@ -26,21 +26,12 @@ returns-in_ok-print_element-in-Step-3 g c =
 pub returns-in_ok-print_element-in-Enum : goal.returns-in_ok-print_element-in-Enum
 returns-in_ok-print_element-in-Enum g c =
     let pod = g.T.CanonicalFixedSizedPod in
+    let default = pod.fixed c.in-Enum.default in
+    let same : values_in pod.fixed c.args.values.now ≡ default ∷ map pod.fixed c.in-Enum.others.items =
+    elim c.in-Enum.is [ inl e ↦ ap (values_in pod.fixed) e | inr e ↦ ap (values_in pod.fixed) e ] in
     on_ok_weaker c.print_elements.result
     (λ w.
-    subst (λ v. Lists c.args.expected pod.kind (values_in pod.fixed v) c.args.out.now.tokens c.print_elements.new.out.tokens) (sym c.in-Enum.is)
-    (subst (λ l. Lists c.args.expected pod.kind (pod.fixed c.in-Enum.default ∷ map pod.fixed l) c.args.out.now.tokens c.print_elements.new.out.tokens)
-    c.as_slice.ensures.value
-    (more_listed c.args.expected pod.kind (pod.fixed c.in-Enum.default ∷ []) (map pod.fixed c.as_slice.result.now) _ _ _ c.in_ok-print_element-in-Enum.ensures w)))
+    subst (λ l. Lists c.args.expected pod.kind l c.args.out.now.tokens c.print_elements.new.out.tokens)
+    (ap (λ l. default ∷ map pod.fixed l) c.as_slice.ensures.value ∙ sym same)
+    (more_listed c.args.expected pod.kind (default ∷ []) (map pod.fixed c.as_slice.result.now) _ _ _ c.in_ok-print_element-in-Enum.ensures w))
     c.print_elements.ensures
-
-pub returns-in_ok-print_element-in-Flags : goal.returns-in_ok-print_element-in-Flags
-returns-in_ok-print_element-in-Flags g c =
-    let pod = g.T.CanonicalFixedSizedPod in
-    on_ok_weaker c.print_elements-in-Flags.result
-    (λ w.
-    subst (λ v. Lists c.args.expected pod.kind (values_in pod.fixed v) c.args.out.now.tokens c.print_elements-in-Flags.new.out.tokens) (sym c.in-Flags.is)
-    (subst (λ l. Lists c.args.expected pod.kind (pod.fixed c.in-Flags.default ∷ map pod.fixed l) c.args.out.now.tokens c.print_elements-in-Flags.new.out.tokens)
-    c.as_slice-in-Flags.ensures.value
-    (more_listed c.args.expected pod.kind (pod.fixed c.in-Flags.default ∷ []) (map pod.fixed c.as_slice-in-Flags.result.now) _ _ _ c.in_ok-print_element-in-Flags.ensures w)))
-    c.print_elements-in-Flags.ensures

@@ -1,7 +1,7 @@
 -- The frames of open trees, by place.
 use Rattle.std.proofs.Common.{◌≡◌, ℕ, ◌+◌, ◌<◌, List, [], ◌∷◌, ◌++◌, length, refl, ap, ◌∙◌, arith, length-append}
 use Rattle.std.specs.Prelude.{Some, slice_get, true, false}
-use Rattle.spa_builder.specs.State.{Partial, open_struct, open_object, open_property, open_array, open_choice, with_property}
+use Rattle.spa_builder.specs.State.{Partial, open_object, open_property, with_property}
 use Rattle.spa_format.specs.Tree.{Tree}
 use Rattle.spa_builder.specs.declared.begun.Stage.TheVariants.{Object}
 use Rattle.spa_builder.specs.Framed.{at_stage}

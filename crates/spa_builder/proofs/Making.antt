@@ -6,7 +6,7 @@ use Rattle.std.proofs.lemmas.Option.{same_Some, none-some}
 use borrow.Author.Tests.{ltb-true}
 use Rattle.spa_format.specs.Words.{extent, size_limit}
 use Rattle.spa_format.specs.Kind.{Fixed, Kind, kind_of, body_size, fixed_body}
-use Rattle.spa_format.specs.Tree.{Shape, Tree, fixed, string, bytes, bitmap, array, choice, pointer, struct, object, Trees, no_trees, member, Properties, no_properties, property, join_members, join_properties, property_node_count, type_of}
+use Rattle.spa_format.specs.Tree.{Shape, Tree, fixed, pointer, struct, object, Trees, no_trees, member, Properties, no_properties, property, join_members, join_properties, property_node_count, type_of}
 use Rattle.spa_format.specs.Encoding.{encoded_body, encoding_of, member_encodings, property_encodings}
 use Rattle.spa_format.proofs.FixedKinds.{size_fits, length-fixed_body}
 use Rattle.spa_format.proofs.Encodings.{length-encoded_pod, member_encodings-join, property_encodings-join, length-pointer, length-object, length-property_encoding}

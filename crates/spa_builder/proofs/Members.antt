@@ -11,7 +11,7 @@ use Rattle.spa_format.specs.Encoding.{array_body, fixed_bodies, member_encodings
 use Rattle.spa_format.proofs.Elements.{bodies_push, array_length}
 use Rattle.spa_format.proofs.FixedKinds.{length-fixed_body, same_kind}
 use Rattle.spa_format.proofs.Encodings.{two_words_length, length-behind_two}
-use Rattle.spa_builder.specs.State.{Partial, open_struct, open_object, open_property, open_array, open_choice, State}
+use Rattle.spa_builder.specs.State.{Partial, open_object, open_array, open_choice, State}
 use Rattle.spa_builder.specs.Step.{all_fit, takes_trees, state_with_value, child_kind, array_takes}
 use Rattle.spa_builder.specs.Fields.{BuilderFields, IsAt, IsNested, IsFair, so_far, all_so_far, body_so_far, type_of_partial, frames_of}
 use Rattle.spa_builder.specs.Innermost.{has_room_for, has_elements, takes_elements, is_first, takes_element, with_element}

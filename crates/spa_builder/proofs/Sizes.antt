@@ -4,7 +4,7 @@ use Rattle.std.specs.Prelude.{nat_lt, IsTrue}
 use Rattle.std.proofs.lemmas.Bool.Decides.{nat_tests}
 use borrow.Author.Tests.{ltb-true}
 use Rattle.spa_format.specs.Words.{word_bytes, extent}
-use Rattle.spa_format.specs.Kind.{Kind, none_kind, bool_kind, id_kind, int_kind, long_kind, float_kind, double_kind, rectangle_kind, fraction_kind, fd_kind, Fixed}
+use Rattle.spa_format.specs.Kind.{Kind, none_kind, Fixed}
 use Rattle.spa_format.specs.Tree.{shape_number}
 use Rattle.spa_format.specs.Normal.{kept_elements}
 use Rattle.spa_format.specs.Encoding.{array_body, fixed_bodies, property_encodings}

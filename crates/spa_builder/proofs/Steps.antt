@@ -8,7 +8,7 @@ use Rattle.std.proofs.lemmas.Bool.{and_parts}
 use Rattle.spa_format.specs.Words.{word_bytes, extent, padding}
 use Rattle.spa_format.specs.Kind.{Fixed, kind_of, body_size, type_number}
 use Rattle.spa_format.specs.Pod.{least_count}
-use Rattle.spa_format.specs.Tree.{Shape, Tree, fixed, string, bytes, bitmap, array, pointer, Trees, no_trees, member, Properties, no_properties, property, struct, object, choice, type_of, array_type, choice_type, object_type, struct_type}
+use Rattle.spa_format.specs.Tree.{Shape, Tree, fixed, bytes, Trees, no_trees, member, Properties, no_properties, property, struct, object, choice, type_of, array_type, choice_type, object_type, struct_type}
 use Rattle.spa_format.specs.Encoding.{encoded_pod, encoding_of, member_encodings, property_encodings, encoded_body}
 use Rattle.spa_format.proofs.WordLemmas.{length-word_bytes}
 use Rattle.spa_format.proofs.Encodings.{length-encoded_pod, member_encodings-join, property_encodings-join, two_words_length}

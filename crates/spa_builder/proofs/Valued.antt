@@ -7,9 +7,9 @@ use Rattle.std.proofs.lemmas.List.{append-nil, take_at}
 use Rattle.std.proofs.lemmas.List.Elements.{All-nil, All-cons, All-contains, Contains-append_right, Contains-append_cases}
 use Rattle.spa_sink.specs.Writing.{Begun, RefusesPiece, Sent, none_sent, some_sent}
 use Rattle.spa_sink.specs.declared.gen_error.GenError.{GenError}
-use Rattle.spa_sink.specs.declared.gen_error.GenError.TheVariants.{Full, TooLarge, NulInText, WrongCount, Failed, Io, OutOfMemory}
+use Rattle.spa_sink.specs.declared.gen_error.GenError.TheVariants.{TooLarge, NulInText}
 use Rattle.spa_format.specs.Kind.{Fixed}
-use Rattle.spa_format.specs.Tree.{Tree, fixed, string, bytes, bitmap, array, choice, pointer, struct, object, Trees, no_trees, member, Properties, no_properties, property, type_of, array_type, choice_type, object_type}
+use Rattle.spa_format.specs.Tree.{Tree, fixed, string, bytes, struct, object, Trees, no_trees, member, Properties, no_properties, property, type_of, array_type, choice_type, object_type}
 use Rattle.spa_format.specs.Encoding.{encoded_body, encoding_of, member_encodings}
 use Rattle.spa_format.specs.Words.{size_limit}
 use Rattle.spa_format.specs.Writable.{HasNul, SomeHasNul, SomeValueHasNul, IsTooLarge, IsWritable}

@@ -8,7 +8,7 @@ use Rattle.spa_format.specs.Tree.{Tree, fixed, type_of}
 use Rattle.spa_format.specs.Writable.{HasNul, IsTooLarge}
 use Rattle.spa_canonical.specs.Depth.{depth_of, levels_looked_into}
 use Rattle.spa_sink.specs.declared.gen_error.GenError.{GenError}
-use Rattle.spa_sink.specs.declared.gen_error.GenError.TheVariants.{Full, TooLarge, NulInText, WrongCount, Failed, Io, OutOfMemory}
+use Rattle.spa_sink.specs.declared.gen_error.GenError.TheVariants.{TooLarge, NulInText}
 use Rattle.spa_builder.specs.State.{Partial, State}
 use Rattle.spa_builder.specs.Step.{Call, Outcome, Accepts, Inval, Nospc, add, outcome_with_value, state_with_value, step, takes_trees}
 use Rattle.spa_builder.specs.Fields.{BuilderFields, IsAt}

@@ -6,7 +6,7 @@ use Rattle.spa_builder.specs.Innermost.{most_padding}
 use Rattle.spa_builder.specs.declared.begun.BegunPod.{BegunPod}
 use Rattle.spa_builder.specs.declared.begun.What.{What}
 use Rattle.spa_builder.specs.declared.begun.Stage.{Stage}
-use Rattle.spa_builder.specs.declared.begun.Stage.TheVariants.{Nothing, Struct, Property, Object, Array, Choice}
+use Rattle.spa_builder.specs.declared.begun.Stage.TheVariants.{Nothing}
 
 -- no pod is open at this stage
 abbrev pub no_stage : Stage → Bool

@@ -2,7 +2,7 @@
 use Rattle.std.specs.Prelude.{◌≡◌, ℕ, ◌+◌, ◌-◌, List, [], ◌∷◌, ◌++◌, length, Some, Result, MatchResult}
 use Rattle.spa_format.specs.Tree.{Tree, fixed, struct, object, Trees, no_trees, member, Properties, no_properties, property}
 use Rattle.spa_builder.specs.State.{State}
-use Rattle.spa_builder.specs.Step.{Call, abandon, add, add_prop, pop, push_array, push_choice, push_object, push_struct}
+use Rattle.spa_builder.specs.Step.{Call, abandon, add, add_prop, pop, push_object, push_struct}
 use Rattle.spa_builder.specs.Fields.{BuilderFields, IsAt}
 use Rattle.spa_builder.specs.Replay.{state_from}
 use Rattle.spa_utils.specs.declared.errno.Errno.{Errno}

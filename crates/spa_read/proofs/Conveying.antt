@@ -3,7 +3,7 @@ use Rattle.std.proofs.Common.{◌≡◌, ◌≢◌, ℕ, ◌<◌, ◌≤◌, ◌
 use Rattle.std.specs.Prelude.{⊤}
 use Rattle.std.proofs.lemmas.List.{append-nil, drop-append-le}
 use Rattle.spa_format.specs.Words.{word_at, body_of, header_size}
-use Rattle.spa_format.specs.Tree.{Tree, fixed, string, bytes, bitmap, array, choice, pointer, struct, object, Trees, no_trees, member, Properties, no_properties, property, join_members, join_properties, type_of, struct_type, object_type}
+use Rattle.spa_format.specs.Tree.{Tree, string, struct, object, Trees, no_trees, member, Properties, no_properties, property, join_members, join_properties, type_of, struct_type, object_type}
 use Rattle.spa_format.specs.Pod.{IsBody, IsChoice}
 use Rattle.spa_format.specs.Front.{Begins, HasFront, front_of}
 use Rattle.spa_format.specs.Faults.{Fault, Short, Text, InvalidType, InvalidChoiceType, MissingChoiceValues, WrongSize, IsInvalidType, no_type, of_elements, of_values, IsWrongSize, of_fixed, of_array, of_choice, of_pointer, short_array, short_choice, short_object}

@@ -2,7 +2,7 @@
 use Rattle.std.proofs.Common.{◌≡◌, ◌≢◌, ℕ, ◌+◌, ◌<◌, ◌≤◌, List, length, refl, sym, ap, ◌∙◌, subst, arith, Option, Some, None, Bool, true, false}
 use Rattle.std.specs.Prelude.{IfNone}
 use Rattle.spa_format.specs.Words.{header_size, word_at, body_of}
-use Rattle.spa_format.specs.Tree.{Tree, fixed, string, bytes, bitmap, array, choice, pointer, struct, object, Trees, no_trees, member, Properties, no_properties, property, join_members, join_properties, node_count, member_node_count, property_node_count, type_of, struct_type, object_type}
+use Rattle.spa_format.specs.Tree.{Tree, struct, object, Trees, no_trees, member, Properties, no_properties, property, join_members, join_properties, node_count, member_node_count, property_node_count, type_of, struct_type, object_type}
 use Rattle.spa_format.specs.Pod.{IsBody}
 use Rattle.spa_format.specs.Faults.{Stands, at_front, short_object}
 use Rattle.spa_format.specs.Front.{HasFront}

@@ -1,7 +1,7 @@
 -- Steps that are the same in both readings.
 use Rattle.std.proofs.Common.{◌≡◌, ◌≢◌, ℕ, ◌+◌, ◌≤◌, List, ◌++◌, length, refl, sym, ap, ◌∙◌, subst, arith, eqb, not, length-drop, Bool, true, false}
 use Rattle.spa_format.specs.Words.{word_at, header_size, extent, body_of}
-use Rattle.spa_format.specs.Tree.{Tree, fixed, string, bytes, bitmap, array, choice, pointer, struct, object, Trees, no_trees, member, Properties, join_members, join_properties, type_of, struct_type, object_type}
+use Rattle.spa_format.specs.Tree.{Tree, fixed, struct, object, Trees, no_trees, member, Properties, join_members, join_properties, type_of, struct_type, object_type}
 use Rattle.spa_format.specs.Pod.{IsBody}
 use Rattle.spa_format.specs.Front.{front_of}
 use Rattle.spa_format.proofs.Fronts.{front_and_rest, length-body_of}

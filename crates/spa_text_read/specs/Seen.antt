@@ -4,7 +4,6 @@ use Rattle.spa_format.specs.Kind.{Kind, none_kind, bool_kind, id_kind, int_kind,
 use Rattle.spa_format.specs.Tree.{Tree, fixed, bytes, bitmap, array, choice, pointer, struct, object}
 use Rattle.spa_value.specs.declared.array.ValueArray.{ValueArray}
 use Rattle.spa_value.specs.declared.array.ValueArray.TheVariants as A
-use Rattle.spa_value.specs.declared.value.Value.{Value}
 use Rattle.spa_value.specs.View.{view}
 use Rattle.spa_value.specs.Views.{views, property_views}
 use Rattle.spa_text_read.specs.Grammar as grammar

@@ -6,3 +6,4 @@ pub mod Flags
 pub mod Bounds
 pub mod Steps
 pub mod Narrowing
+pub mod Plain

@@ -3,6 +3,7 @@ ghost use Rattle.std.specs.Prelude.{◌*◌, ◌≡◌, ◌≤◌, ◌<◌, ◌�
 ghost use Rattle.spa_filter_elements.specs.Bounds.{IsChain, IsJoin, IsMeet, IsShared};
 ghost use Rattle.spa_filter_elements.specs.Flags.{AreAmong, IsFlagKind};
 ghost use Rattle.spa_filter_elements.specs.Order.{IsAtMost, IsNumber, place};
+ghost use Rattle.spa_filter_elements.specs.Plain.{IsPlainKind};
 
 use spa_fixed_sized::ChoiceElement;
 use spa_utils::{Fd, Float32, Float64, Fraction, Id, Rectangle};
@@ -16,6 +17,11 @@ pub trait Ordered: ChoiceElement {
     /// Whether this element has at least one bit, and no bits but those of the other.
     fn are_among(&self, other: &Self) -> bool
         ensures { IsTrue result ↔ AreAmong (Self.fixed self.now) (Self.fixed other.now) };
+}
+
+/// One of the five types without flags and without steps that aren't rectangles. What is written once for them is no other type's.
+pub trait Plain: Ordered {
+    ghost plain: { IsPlainKind Self.kind };
 }
 
 /// The greater of two elements of a type other than rectangles.
@@ -194,4 +200,24 @@ impl Ordered for Fd {
         let _other = *other;
         false
     }
+}
+
+impl Plain for bool {
+    ghost plain = { (tt, λ h. h, λ h. h) };
+}
+
+impl Plain for Float32 {
+    ghost plain = { (tt, λ h. h, λ h. h) };
+}
+
+impl Plain for Float64 {
+    ghost plain = { (tt, λ h. h, λ h. h) };
+}
+
+impl Plain for Fraction {
+    ghost plain = { (tt, λ h. h, λ h. h) };
+}
+
+impl Plain for Fd {
+    ghost plain = { (tt, λ h. h, λ h. h) };
 }

@@ -8,8 +8,8 @@ use crate::common_multiples::is_multiple;
 use crate::first::{first_multiple, first_signed};
 use crate::lattice::Lattice;
 use crate::number_steps::{NumberSteps, narrowed};
-use crate::ordered::Ordered;
-use spa_utils::{Fd, Float32, Float64, Fraction, Id, Rectangle};
+use crate::ordered::{Ordered, Plain};
+use spa_utils::{Id, Rectangle};
 
 /// The multiples of a step from one element to another.
 #[derive(Clone, Copy)]
@@ -143,7 +143,7 @@ fn first_side(steps: &Steps<u32>) -> Option<u32>
     }
 }
 
-impl Stepped for bool {
+impl<T: Plain> Stepped for T {
     fn is_multiple(&self, step: &Self) -> bool {
         let _step = *step;
         false
@@ -228,36 +228,6 @@ impl Stepped for i64 {
     }
 }
 
-impl Stepped for Float32 {
-    fn is_multiple(&self, step: &Self) -> bool {
-        let _step = *step;
-        false
-    }
-
-    fn narrowed(steps: &Steps<Self>, other: &Self) -> Steps<Self> {
-        narrowed_of_none(steps, other)
-    }
-
-    fn first(steps: &Steps<Self>) -> Option<Self> {
-        first_of_none(steps)
-    }
-}
-
-impl Stepped for Float64 {
-    fn is_multiple(&self, step: &Self) -> bool {
-        let _step = *step;
-        false
-    }
-
-    fn narrowed(steps: &Steps<Self>, other: &Self) -> Steps<Self> {
-        narrowed_of_none(steps, other)
-    }
-
-    fn first(steps: &Steps<Self>) -> Option<Self> {
-        first_of_none(steps)
-    }
-}
-
 impl Stepped for Rectangle {
     fn is_multiple(&self, step: &Self) -> bool {
         is_multiple(u64::from(self.width), u64::from(step.width))
@@ -287,35 +257,5 @@ impl Stepped for Rectangle {
         let width = first_side(&widths(steps))?;
         let height = first_side(&heights(steps))?;
         Some(Rectangle { width, height })
-    }
-}
-
-impl Stepped for Fraction {
-    fn is_multiple(&self, step: &Self) -> bool {
-        let _step = *step;
-        false
-    }
-
-    fn narrowed(steps: &Steps<Self>, other: &Self) -> Steps<Self> {
-        narrowed_of_none(steps, other)
-    }
-
-    fn first(steps: &Steps<Self>) -> Option<Self> {
-        first_of_none(steps)
-    }
-}
-
-impl Stepped for Fd {
-    fn is_multiple(&self, step: &Self) -> bool {
-        let _step = *step;
-        false
-    }
-
-    fn narrowed(steps: &Steps<Self>, other: &Self) -> Steps<Self> {
-        narrowed_of_none(steps, other)
-    }
-
-    fn first(steps: &Steps<Self>) -> Option<Self> {
-        first_of_none(steps)
     }
 }

@@ -4,11 +4,10 @@ use Rattle.std.proofs.Math.IntN.{pos-ne-negsuc}
 use Rattle.std.proofs.lemmas.Slice.{drop-append-drop}
 use Rattle.std.specs.Prelude.{ℤ}
 use Rattle.spa_format.specs.Encoding.{member_encodings}
+use Rattle.spa_format.specs.Tree.{Trees}
 use Rattle.spa_format.proofs.Short.{short_members}
 use Rattle.spa_canonical.specs.Rewriting.{AreRewritten}
-use Rattle.spa_lenient.specs.Rewriting.{AreRewrittenLeniently}
 use Rattle.spav.specs.Answers.{IsDone, IsPut}
-use Rattle.spav.specs.Lenient.{ConveyedIsWritten}
 use Rattle.spav.specs.Lists.{BeginsAs, IsWritten, ListIsWritten}
 
 begins_as : (bytes out : List ℕ) (count : ℕ) → take count out ≡ bytes → count ≤ length out → BeginsAs bytes count out
@@ -17,15 +16,10 @@ begins_as bytes out count e within =
     let n = ap length e in
     record { counted = omega arith; front = e }
 
-pub list_written : (input out : List ℕ) (count : ℕ) → AreRewritten input [] (take count out) → count ≤ length out → ListIsWritten input count out
-list_written input out count r within =
+pub list_written : (AreOf : Trees → List ℕ → Type 0) (input out : List ℕ) (count : ℕ) →
+    ((vs : Trees) × AreOf vs input × (take count out ≡ member_encodings vs)) → count ≤ length out → ListIsWritten AreOf input count out
+list_written AreOf input out count r within =
     record { values = r.0; members = r.1; written = begins_as (member_encodings r.0) out count r.2 within }
-
--- and of what conveys values
-pub conveyed_written : (input out : List ℕ) (count : ℕ) → AreRewrittenLeniently input [] (take count out) → count ≤ length out →
-    ConveyedIsWritten input count out
-conveyed_written input out count r within =
-    record { values = r.0; conveyed = r.1; written = begins_as (member_encodings r.0) out count r.2 within }
 
 -- what is put at the front of an output is written there
 pub put_written : (bytes put old new : List ℕ) (count : ℕ) → put ≡ bytes → new ≡ put ++ drop (length put) old → count ≡ length put →

@@ -65,29 +65,9 @@ IsUnfound answer = IsInvalid answer ⊎ IsMissing answer
 abbrev pub IsFound : ℤ → Type 0
 IsFound answer = IsDone answer ⊎ IsUnfound answer
 
--- the answers of a rewriting that is read, too
-abbrev pub IsReadLeniently : ℤ → Type 0
-IsReadLeniently answer = IsRewritten answer ⊎ IsTooDeep answer
-
--- the answers of a read of all items
-abbrev pub IsListRead : ℤ → Type 0
-IsListRead answer = IsPut answer ⊎ IsInvalid answer ⊎ IsTooDeep answer
-
 -- the answers of a read of a property
 abbrev pub IsRead : ℤ → Type 0
 IsRead answer = IsDone answer ⊎ IsOther answer ⊎ IsUnfound answer
-
--- the answers of a look-up of a name
-abbrev pub IsNamed : ℤ → Type 0
-IsNamed answer = IsPut answer ⊎ IsMissing answer
-
--- the answers of a search for the body of a value
-abbrev pub IsUnset : ℤ → Type 0
-IsUnset answer = IsOther answer ⊎ IsUnfound answer
-
--- the answers of a read of a text
-abbrev pub IsTextRead : ℤ → Type 0
-IsTextRead answer = IsNoRoom answer ⊎ IsRead answer
 
 -- -ENOTSUP
 abbrev pub IsUnsupported : ℤ → Type 0
@@ -109,17 +89,9 @@ IsJsonRead answer = IsRewritten answer ⊎ IsPast answer
 abbrev pub IsApart : ℤ → Type 0
 IsApart answer = IsInvalid answer ⊎ IsOther answer ⊎ IsUnsupported answer ⊎ IsDisjoint answer
 
--- the answers of a negotiation
-abbrev pub IsMet : ℤ → Type 0
-IsMet answer = IsDone answer ⊎ IsNoRoom answer ⊎ IsNoMemory answer ⊎ IsPast answer ⊎ IsApart answer
-
 -- the answers where two inputs aren't filtered
 abbrev pub IsUnfiltered : ℤ → Type 0
 IsUnfiltered answer = IsMissing answer ⊎ IsApart answer
-
--- the answers of a filtering
-abbrev pub IsFiltered : ℤ → Type 0
-IsFiltered answer = IsDone answer ⊎ IsNoRoom answer ⊎ IsNoMemory answer ⊎ IsPast answer ⊎ IsUnfiltered answer
 
 -- the answers of a list of calls that isn't made to its end
 abbrev pub IsStopped : ℤ → Type 0

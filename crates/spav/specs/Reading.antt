@@ -1,11 +1,12 @@
 -- Reads of the front of an input, and of a property of the object there: docs/CAPI.md, "Reading".
-use Rattle.std.specs.Prelude.{◌≡◌, ◌+◌, ◌++◌, ◌∷◌, [], ℕ, List, drop, length, Option, None, Some}
+use Rattle.std.specs.Prelude.{◌≡◌, ◌+◌, ◌++◌, ◌∷◌, [], ℕ, ℤ, List, drop, length, Option, None, Some}
 use Rattle.spa_format.specs.Words.{body_of, header_size, word_at}
 use Rattle.spa_format.specs.Kind.{Kind, Fixed, content}
 use Rattle.spa_format.specs.Front.{HasFront, front_of}
 use Rattle.spa_format.specs.Walk.{first_with_key, properties_of, property_walk}
 use Rattle.spa_view.specs.Settled.{settled_bytes}
 use Rattle.spa_view.specs.Tests.{IsNulEnded, IsObjectPod, IsOfKind, before_nul}
+use Rattle.spav.specs.Answers.{IsInvalid, IsMissing, IsOther, IsRead}
 
 -- the front is there, and is an object's pod by its type and its size
 pub record BeginsObject (input : List ℕ) : Type 0 where
@@ -47,6 +48,18 @@ SaysUnder kind key input said = HasUnder key input (λ pod. IsOfKind kind pod ×
 -- the value under this key isn't of this kind
 abbrev pub HasOtherUnder : Kind → ℕ → List ℕ → Type 0
 HasOtherUnder kind key input = HasUnder key input (λ pod. ¬ (IsOfKind kind pod))
+
+-- the answer of a read or a change of the value under a key, and, where it isn't 0, why: the value is another, the object lacks the key, or no
+-- object is at the front
+pub record IsAnswerFor (Differs Lacks : Type 0) (input : List ℕ) (answer : ℤ) : Type 0 where
+  pub differs : IsOther answer → Differs
+  pub lacks : IsMissing answer → Lacks
+  pub refused : IsInvalid answer → ¬ (BeginsObject input)
+  pub answers : IsRead answer
+
+-- the answer of a read of a value of this kind
+abbrev pub IsAnswerUnder : Kind → ℕ → List ℕ → ℤ → Type 0
+IsAnswerUnder kind key input answer = IsAnswerFor (HasOtherUnder kind key input) (HasNoneUnder key input) input answer
 
 -- the value under this key is a string whose body ends in NUL, and this is its text
 abbrev pub HasTextUnder : ℕ → List ℕ → List ℕ → Type 0

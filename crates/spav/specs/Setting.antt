@@ -1,11 +1,12 @@
 -- Values that are set in place: docs/CAPI.md, "Setting".
-use Rattle.std.specs.Prelude.{◌≡◌, ℕ, ◌+◌, List, ◌++◌, length, take, drop}
+use Rattle.std.specs.Prelude.{◌≡◌, ℕ, ℤ, ◌+◌, List, ◌++◌, length, take, drop}
 use Rattle.spa_format.specs.Front.{HasFront, front_of}
 use Rattle.spa_format.specs.Kind.{Kind}
 use Rattle.spa_format.specs.Words.{header_size}
 use Rattle.spa_view.specs.Settled.{settled_bytes}
 use Rattle.spa_view.specs.Tests.{IsOfKind}
-use Rattle.spav.specs.Items.{HasValueAt, settled_at}
+use Rattle.spav.specs.Items.{HasNoValue, HasValueAt, settled_at}
+use Rattle.spav.specs.Reading.{IsAnswerFor}
 
 -- a pod of this kind is at the front, or a None choice whose value is
 pub record BeginsKind (kind : Kind) (input : List ℕ) : Type 0 where
@@ -30,3 +31,7 @@ pub record IsSet (kind : Kind) (key : ℕ) (body old new : List ℕ) : Type 0 wh
   pub at : ℕ
   pub there : HasBodyAt kind key old at
   pub changed : new ≡ take at old ++ body ++ drop (at + length body) old
+
+-- the answer of a change of a value of this kind
+abbrev pub IsAnswerAt : Kind → ℕ → List ℕ → ℤ → Type 0
+IsAnswerAt kind key input answer = IsAnswerFor (HasOtherAt kind key input) (HasNoValue key input) input answer

@@ -1,10 +1,10 @@
 //! Filters objects in the caller's memory.
-ghost use Rattle.std.specs.Prelude.{◌≡◌, ◌<◌, List, length, ℕ};
+ghost use Rattle.std.specs.Prelude.{◌≡◌, ◌<◌, ◌⊎◌, List, length, ℕ};
 ghost use Rattle.spa_filter.specs.Filtering.{CanFilter};
 ghost use Rattle.spa_filter.specs.Refusals.{AreRefused};
 ghost use Rattle.spa_filter.specs.declared.error.FilterError.TheVariants.{Disjoint, Missing, OutOfMemory, TypeMismatch, Unsupported};
 ghost use Rattle.spa_filter_pods.specs.Fronts.{AreFrontsRefused, BeginBoth, FilterIn, FilterTooLarge};
-ghost use Rattle.spav.specs.Answers.{IsDisjoint, IsDone, IsFiltered, IsInvalid, IsMissing, IsNoMemory, IsNoRoom, IsOther, IsPast, IsUnfiltered, IsUnsupported};
+ghost use Rattle.spav.specs.Answers.{IsDisjoint, IsDone, IsInvalid, IsMissing, IsNoMemory, IsNoRoom, IsOther, IsPast, IsUnfiltered, IsUnsupported};
 ghost use Rattle.spav.specs.Lists.{IsWritten};
 ghost use Rattle.spav.specs.Sides.{HasNoObject};
 
@@ -45,7 +45,7 @@ pub extern "C" fn spav_filter(
     ensures disjoint { IsDisjoint result → BeginBoth a.now b.now (λ v w. AreRefused v w (Disjoint key_or_side.new)) }
     ensures past { IsPast result → BeginBoth a.now b.now FilterTooLarge }
     ensures memory { IsNoMemory result → AreFrontsRefused a.now b.now OutOfMemory }
-    ensures answers { IsFiltered result }
+    ensures answers { IsDone result ⊎ IsNoRoom result ⊎ IsNoMemory result ⊎ IsPast result ⊎ IsUnfiltered result }
     ensures unchanged { ¬ (IsDone result) → out.new ≡ out.old }
 {
     match filter_pods(alloc, a, b) {

@@ -1,6 +1,8 @@
 //! Canonicalizes lists of pods in place, in the caller's memory.
 ghost use Rattle.std.specs.Prelude.{◌≡◌, false, true, ℕ};
 ghost use Rattle.spa_fixed_sized.specs.declared.fault.DeserializeError.TheVariants as refused;
+ghost use Rattle.spa_format.specs.Front.{IsRefused};
+ghost use Rattle.spa_format.specs.Pod.{AreMembers};
 ghost use Rattle.spa_rewrite.specs.Refusals.{RefusesListAt};
 ghost use Rattle.spa_canonical.specs.Rewriting.{ArePodsWithin};
 ghost use Rattle.spa_canonical.specs.Depth.{levels_looked_into};
@@ -24,8 +26,8 @@ pub extern "C" fn spav_rewrite_in_place(
     written: &mut usize,
     at: &mut usize,
 ) -> i32
-    ensures done { IsDone result → ListIsWritten bytes.old written.new bytes.new }
-    ensures refused { IsInvalid result → ListIsRefused bytes.old at.new }
+    ensures done { IsDone result → ListIsWritten AreMembers bytes.old written.new bytes.new }
+    ensures refused { IsInvalid result → ListIsRefused AreMembers IsRefused bytes.old at.new }
     ensures memory { IsNoMemory result → (place : ℕ) × RefusesListAt bytes.old place refused.OutOfMemory }
     ensures shallow { IsNoMemory result → ¬ (ArePodsWithin levels_looked_into bytes.old) }
     ensures answers { IsChecked result }

@@ -1,11 +1,11 @@
 //! Reads the contents of the caller's pods as items, in the caller's memory.
-ghost use Rattle.std.specs.Prelude.{◌≡◌, ◌≤◌, IfNone, IfSome, ℕ};
+ghost use Rattle.std.specs.Prelude.{◌≡◌, ◌≤◌, ◌⊎◌, IfNone, IfSome, ℕ};
 ghost use Rattle.spa_format.specs.Front.{HasFront};
 ghost use Rattle.spa_format.specs.Pod.{AreMembers};
 ghost use Rattle.spa_format.specs.Tree.{Trees};
 ghost use Rattle.spa_canonical.specs.Depth.{levels_looked_into, member_depth};
 ghost use Rattle.spa_view.specs.View.{pod_bytes};
-ghost use Rattle.spav.specs.Answers.{IsChanged, IsDone, IsFound, IsInvalid, IsListRead, IsMissing, IsNoRoom, IsPut, IsTooDeep};
+ghost use Rattle.spav.specs.Answers.{IsChanged, IsDone, IsFound, IsInvalid, IsMissing, IsNoRoom, IsPut, IsTooDeep};
 ghost use Rattle.spav.specs.Faults.{FaultStands, NestsTooDeep};
 ghost use Rattle.spav.specs.Items.{ArePast, AreRead, BeginsNoElements, BeginsStruct, HasElements, HasFewerElements, HasMemberAt, HasNoElements, HasNoMember, HasNoValue, HasValueAt, SaysElement, SaysElements, SaysFront, SaysItem};
 ghost use Rattle.spav.specs.Reading.{BeginsObject};
@@ -70,7 +70,7 @@ pub extern "C" fn spav_read(
         × (member_depth values ≤ levels_looked_into) }
     ensures refused { IsInvalid result → (top : ℕ) × FaultStands input.now kind.new top at.new }
     ensures deep { IsTooDeep result → NestsTooDeep input.now }
-    ensures answers { IsListRead result }
+    ensures answers { IsPut result ⊎ IsInvalid result ⊎ IsTooDeep result }
     ensures unchanged { IsInvalid result → out.new ≡ out.old }
     ensures kept { IsTooDeep result → out.new ≡ out.old }
 {

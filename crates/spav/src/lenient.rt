@@ -7,13 +7,13 @@ ghost use Rattle.spa_format.specs.Lenient.{ConveyMembers};
 ghost use Rattle.spa_format.specs.Tree.{Trees};
 ghost use Rattle.spa_format.specs.Walk.{walk};
 ghost use Rattle.spa_lenient.specs.Rewriting.{RefusesList};
-ghost use Rattle.spa_read.specs.Reading.{StandsLeniently};
+ghost use Rattle.spa_read.specs.Reading.{ConveysNothing, StandsLeniently};
 ghost use Rattle.spa_canonical.specs.Rewriting.{ArePodsWithin};
 ghost use Rattle.spa_canonical.specs.Depth.{NestsDeeper, SomeOf, levels_looked_into};
-ghost use Rattle.spav.specs.Answers.{IsAsked, IsChecked, IsDone, IsInvalid, IsNoMemory, IsNoRoom, IsReadLeniently, IsRewritten, IsTooDeep};
+ghost use Rattle.spav.specs.Answers.{IsAsked, IsChecked, IsDone, IsInvalid, IsNoMemory, IsNoRoom, IsRewritten, IsTooDeep};
 ghost use Rattle.spav.specs.Items.{ArePast, AreRead};
-ghost use Rattle.spav.specs.Lists.{IsForBytes};
-ghost use Rattle.spav.specs.Lenient.{ConveyedIsWritten, ConveyedLacksRoom, FaultStandsLeniently, NoneAreConveyed};
+ghost use Rattle.spav.specs.Lists.{IsForBytes, ListIsRefused, ListIsWritten, ListLacksRoom};
+ghost use Rattle.spav.specs.Lenient.{FaultStandsLeniently};
 
 use crate::answers::{DONE, INVALID, NO_MEMORY, NO_ROOM, TOO_DEEP};
 use crate::faults::{NO_FAULT, number_of};
@@ -37,9 +37,9 @@ pub extern "C" fn spav_rewrite_leniently(
     written: &mut usize,
     at: &mut usize,
 ) -> i32
-    ensures done { IsDone result → ConveyedIsWritten input.now written.new out.new }
-    ensures refused { IsInvalid result → NoneAreConveyed input.now at.new }
-    ensures room { IsNoRoom result → ConveyedLacksRoom input.now written.new out.old }
+    ensures done { IsDone result → ListIsWritten ConveyMembers input.now written.new out.new }
+    ensures refused { IsInvalid result → ListIsRefused ConveyMembers ConveysNothing input.now at.new }
+    ensures room { IsNoRoom result → ListLacksRoom ConveyMembers input.now written.new out.old }
     ensures across { IsNoMemory result → length input.now ≤ length out.old
         → ¬ (ArePodsWithin levels_looked_into input.now) }
     ensures answers { IsRewritten result }
@@ -68,9 +68,9 @@ fn write_shorter(
     written: &mut usize,
     at: &mut usize,
 ) -> i32
-    ensures done { IsDone result → ConveyedIsWritten input.now written.new out.new }
-    ensures refused { IsInvalid result → NoneAreConveyed input.now at.new }
-    ensures room { IsNoRoom result → ConveyedLacksRoom input.now written.new out.old }
+    ensures done { IsDone result → ListIsWritten ConveyMembers input.now written.new out.new }
+    ensures refused { IsInvalid result → ListIsRefused ConveyMembers ConveysNothing input.now at.new }
+    ensures room { IsNoRoom result → ListLacksRoom ConveyMembers input.now written.new out.old }
     ensures answers { IsRewritten result }
     ensures behind { drop (length input.now) out.new ≡ drop (length input.now) out.old }
     ensures short { IsDone result → drop written.new out.new ≡ drop written.new out.old }
@@ -87,7 +87,7 @@ fn write_shorter(
 #[tactic(auto, using(crate::proofs::Refusals::none_conveyed))]
 fn refused(input: &[u8], left: &[u8], error: DeserializeError<&[u8]>, at: &mut usize) -> i32
     requires { RefusesList input.now left.now error }
-    ensures refused { IsInvalid result → NoneAreConveyed input.now at.new }
+    ensures refused { IsInvalid result → ListIsRefused ConveyMembers ConveysNothing input.now at.new }
     ensures answers { IsNoMemory result ⊎ IsInvalid result }
     ensures unchanged { ¬ (IsInvalid result) → at.new ≡ at.old }
 {
@@ -113,8 +113,8 @@ pub extern "C" fn spav_rewrite_in_place_leniently(
     written: &mut usize,
     at: &mut usize,
 ) -> i32
-    ensures done { IsDone result → ConveyedIsWritten bytes.old written.new bytes.new }
-    ensures refused { IsInvalid result → NoneAreConveyed bytes.old at.new }
+    ensures done { IsDone result → ListIsWritten ConveyMembers bytes.old written.new bytes.new }
+    ensures refused { IsInvalid result → ListIsRefused ConveyMembers ConveysNothing bytes.old at.new }
     ensures shallow { IsNoMemory result → ¬ (ArePodsWithin levels_looked_into bytes.old) }
     ensures answers { IsChecked result }
     ensures unchanged { ¬ (IsDone result) → bytes.new ≡ bytes.old }
@@ -139,7 +139,7 @@ pub extern "C" fn spav_rewrite_in_place_leniently(
 #[unsafe(no_mangle)]
 pub extern "C" fn spav_check_leniently(alloc: Global, input: &[u8], at: &mut usize) -> i32
     ensures done { IsDone result → (values : Trees) × ConveyMembers values input.now }
-    ensures refused { IsInvalid result → NoneAreConveyed input.now at.new }
+    ensures refused { IsInvalid result → ListIsRefused ConveyMembers ConveysNothing input.now at.new }
     ensures shallow { IsNoMemory result → ¬ (ArePodsWithin levels_looked_into input.now) }
     ensures answers { IsChecked result }
     ensures unchanged { ¬ (IsInvalid result) → at.new ≡ at.old }
@@ -240,17 +240,17 @@ pub extern "C" fn spav_read_leniently(
     count: &mut usize,
     at: &mut usize,
 ) -> i32
-    ensures done { IsDone result → ConveyedIsWritten input.now written.new out.new
+    ensures done { IsDone result → ListIsWritten ConveyMembers input.now written.new out.new
         × AreRead (take written.new out.new) count.new items.old items.new }
-    ensures room { IsNoRoom result → length out.old < written.new → ConveyedLacksRoom input.now written.new out.old }
-    ensures past { IsNoRoom result → written.new ≤ length out.old → ConveyedIsWritten input.now written.new out.new
+    ensures room { IsNoRoom result → length out.old < written.new → ListLacksRoom ConveyMembers input.now written.new out.old }
+    ensures past { IsNoRoom result → written.new ≤ length out.old → ListIsWritten ConveyMembers input.now written.new out.new
         × ArePast (take written.new out.new) count.new items.new }
-    ensures deep { IsTooDeep result → ConveyedIsWritten input.now written.new out.new
+    ensures deep { IsTooDeep result → ListIsWritten ConveyMembers input.now written.new out.new
         × SomeOf (NestsDeeper levels_looked_into) (walk (take written.new out.new)) }
-    ensures refused { IsInvalid result → NoneAreConveyed input.now at.new }
+    ensures refused { IsInvalid result → ListIsRefused ConveyMembers ConveysNothing input.now at.new }
     ensures across { IsNoMemory result → length input.now ≤ length out.old
         → ¬ (ArePodsWithin levels_looked_into input.now) }
-    ensures answers { IsReadLeniently result }
+    ensures answers { IsRewritten result ⊎ IsTooDeep result }
     ensures unchanged { IsInvalid result ⊎ IsNoMemory result → (out.new ≡ out.old) × (items.new ≡ items.old) }
     ensures kept { IsNoRoom result → length out.old < written.new → (out.new ≡ out.old) × (items.new ≡ items.old) }
     ensures unread { IsTooDeep result → items.new ≡ items.old }

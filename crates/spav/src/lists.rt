@@ -1,5 +1,6 @@
 //! Rewrites lists of pods into the caller's memory, and checks them.
 ghost use Rattle.std.specs.Prelude.{◌≡◌, ◌<◌, ◌≤◌, ◌++◌, drop, false, IfNone, IfSome, length, true};
+ghost use Rattle.spa_format.specs.Front.{IsRefused};
 ghost use Rattle.spa_format.specs.Pod.{AreMembers};
 ghost use Rattle.spa_format.specs.Tree.{Trees};
 ghost use Rattle.spa_canonical.specs.Rewriting.{ArePodsWithin};
@@ -27,9 +28,9 @@ pub extern "C" fn spav_rewrite(
     written: &mut usize,
     at: &mut usize,
 ) -> i32
-    ensures done { IsDone result → ListIsWritten input.now written.new out.new }
-    ensures refused { IsInvalid result → ListIsRefused input.now at.new }
-    ensures room { IsNoRoom result → ListLacksRoom input.now written.new out.old }
+    ensures done { IsDone result → ListIsWritten AreMembers input.now written.new out.new }
+    ensures refused { IsInvalid result → ListIsRefused AreMembers IsRefused input.now at.new }
+    ensures room { IsNoRoom result → ListLacksRoom AreMembers input.now written.new out.old }
     ensures memory { IsNoMemory result → ¬ (AreShallow levels_looked_into input.now) }
     ensures across { IsNoMemory result → length input.now ≤ length out.old
         → ¬ (ArePodsWithin levels_looked_into input.now) }
@@ -59,8 +60,8 @@ pub extern "C" fn spav_rewrite(
 
 /// The answer where no memory is needed: the output is as long as the input, or shorter than the encodings. None: memory is needed.
 fn put_into(input: &[u8], out: &mut [u8], written: &mut usize) -> Option<i32>
-    ensures done { IfSome result (λ answer. IsDone answer → ListIsWritten input.now written.new out.new) }
-    ensures room { IfSome result (λ answer. IsNoRoom answer → ListLacksRoom input.now written.new out.old) }
+    ensures done { IfSome result (λ answer. IsDone answer → ListIsWritten AreMembers input.now written.new out.new) }
+    ensures room { IfSome result (λ answer. IsNoRoom answer → ListLacksRoom AreMembers input.now written.new out.old) }
     ensures answers { IfSome result (λ answer. IsPut answer) }
     ensures behind { drop (length input.now) out.new ≡ drop (length input.now) out.old }
     ensures room_for_all { IfSome result (λ answer. IsDone answer → length input.now ≤ length out.old) }
@@ -90,7 +91,7 @@ fn put_into(input: &[u8], out: &mut [u8], written: &mut usize) -> Option<i32>
 #[unsafe(no_mangle)]
 pub extern "C" fn spav_check(alloc: Global, input: &[u8], at: &mut usize) -> i32
     ensures done { IsDone result → (values : Trees) × AreMembers values input.now }
-    ensures refused { IsInvalid result → ListIsRefused input.now at.new }
+    ensures refused { IsInvalid result → ListIsRefused AreMembers IsRefused input.now at.new }
     ensures memory { IsNoMemory result → ¬ (AreShallow levels_looked_into input.now) }
     ensures shallow { IsNoMemory result → ¬ (ArePodsWithin levels_looked_into input.now) }
     ensures answers { IsChecked result }

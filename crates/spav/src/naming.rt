@@ -1,8 +1,8 @@
 //! Looks PipeWire's names up.
-ghost use Rattle.std.specs.Prelude.{◌≡◌, ◌≤◌, List, None, Some, length, ℕ};
+ghost use Rattle.std.specs.Prelude.{◌≡◌, ◌≤◌, ◌⊎◌, List, None, Some, length, ℕ};
 ghost use Rattle.std.specs.Str.{IsUtf8};
 ghost use Rattle.spa_names.specs.Lookup.{name_of, number_of};
-ghost use Rattle.spav.specs.Answers.{IsDone, IsFound, IsInvalid, IsMissing, IsNamed, IsNoRoom};
+ghost use Rattle.spav.specs.Answers.{IsDone, IsFound, IsInvalid, IsMissing, IsNoRoom, IsPut};
 ghost use Rattle.spav.specs.Names.{table_of};
 ghost use Rattle.spav.specs.Reading.{TextIsPut};
 
@@ -49,7 +49,7 @@ pub extern "C" fn spav_name(
     ensures room { IsNoRoom result → (name : List ℕ) × (name_of (table_of names type_ key) number ≡ Some name)
         × (len.new ≡ length name) × (length out.old ≤ length name) }
     ensures missing { IsMissing result → name_of (table_of names type_ key) number ≡ None }
-    ensures answers { IsNamed result }
+    ensures answers { IsPut result ⊎ IsMissing result }
     ensures unchanged { ¬ (IsDone result) → out.new ≡ out.old }
     ensures kept { IsMissing result → len.new ≡ len.old }
 {

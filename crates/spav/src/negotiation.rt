@@ -1,10 +1,10 @@
 //! Negotiates objects in the caller's memory.
-ghost use Rattle.std.specs.Prelude.{◌≡◌, ◌<◌, List, length, ℕ};
+ghost use Rattle.std.specs.Prelude.{◌≡◌, ◌<◌, ◌⊎◌, List, length, ℕ};
 ghost use Rattle.spa_negotiate.specs.Fronts.{AreFrontsRefused, BeginBoth, MeetIn, MeetTooLarge};
 ghost use Rattle.spa_negotiate.specs.Meeting.{CanMeet};
 ghost use Rattle.spa_negotiate.specs.Refusals.{AreRefused};
 ghost use Rattle.spa_negotiate.specs.declared.error.NegotiateError.TheVariants.{Disjoint, OutOfMemory, TypeMismatch, Unsupported};
-ghost use Rattle.spav.specs.Answers.{IsApart, IsDisjoint, IsDone, IsInvalid, IsMet, IsNoMemory, IsNoRoom, IsOther, IsPast, IsUnsupported};
+ghost use Rattle.spav.specs.Answers.{IsApart, IsDisjoint, IsDone, IsInvalid, IsNoMemory, IsNoRoom, IsOther, IsPast, IsUnsupported};
 ghost use Rattle.spav.specs.Lists.{IsWritten};
 ghost use Rattle.spav.specs.Sides.{HasNoObject};
 
@@ -44,7 +44,7 @@ pub extern "C" fn spav_negotiate(
     ensures disjoint { IsDisjoint result → BeginBoth a.now b.now (λ v w. AreRefused v w (Disjoint key_or_side.new)) }
     ensures past { IsPast result → BeginBoth a.now b.now MeetTooLarge }
     ensures memory { IsNoMemory result → AreFrontsRefused a.now b.now OutOfMemory }
-    ensures answers { IsMet result }
+    ensures answers { IsDone result ⊎ IsNoRoom result ⊎ IsNoMemory result ⊎ IsPast result ⊎ IsApart result }
     ensures unchanged { ¬ (IsDone result) → out.new ≡ out.old }
 {
     match negotiate_pods(alloc, a, b) {

@@ -1,13 +1,13 @@
 //! Reads the pod at the front of the caller's bytes, and the properties of the object there.
 //!
 //! A read looks only at type and size, as the views of PipeWire do: the bytes may be anything.
-ghost use Rattle.std.specs.Prelude.{◌≡◌, ◌≤◌, ◌↔◌, List, ℕ, IfErr, IfOk, length};
+ghost use Rattle.std.specs.Prelude.{◌≡◌, ◌≤◌, ◌↔◌, ◌⊎◌, List, ℕ, IfErr, IfOk, length};
 ghost use Rattle.spa_format.specs.Front.{HasFront};
 ghost use Rattle.spa_format.specs.Kind as k;
 ghost use Rattle.spa_format.specs.Words.{extent, word_at};
 ghost use Rattle.spa_view.specs.View.{pod_bytes};
-ghost use Rattle.spav.specs.Answers.{IsChanged, IsDone, IsInvalid, IsMissing, IsNoRoom, IsOther, IsPut, IsRead, IsTextRead, IsUnfound};
-ghost use Rattle.spav.specs.Reading.{BeginsObject, HasNoTextUnder, HasNoneUnder, HasOtherUnder, HasTextUnder, IsUnder, SaysObject, SaysUnder, TextIsPut};
+ghost use Rattle.spav.specs.Answers.{IsChanged, IsDone, IsInvalid, IsMissing, IsNoRoom, IsOther, IsPut, IsRead, IsUnfound};
+ghost use Rattle.spav.specs.Reading.{BeginsObject, HasNoTextUnder, HasNoneUnder, HasTextUnder, IsAnswerUnder, IsUnder, SaysObject, SaysUnder, TextIsPut};
 
 use crate::answers::{DONE, INVALID, MISSING, NO_ROOM, OTHER};
 use spa_bytes::{extent_of, open, u32_at};
@@ -89,10 +89,7 @@ fn value_under(input: &[u8], key: u32) -> Result<Pod<'_>, i32>
 #[unsafe(no_mangle)]
 pub extern "C" fn spav_bool(input: &[u8], key: u32, value: &mut bool) -> i32
     ensures said { IsDone result → SaysUnder k.bool_kind key input.now (k.bool value.new) }
-    ensures other { IsOther result → HasOtherUnder k.bool_kind key input.now }
-    ensures missing { IsMissing result → HasNoneUnder key input.now }
-    ensures refused { IsInvalid result → ¬ (BeginsObject input.now) }
-    ensures answers { IsRead result }
+    ensures failed { IsAnswerUnder k.bool_kind key input.now result }
     ensures unchanged { ¬ (IsDone result) → value.new ≡ value.old }
 {
     match value_under(input, key) {
@@ -114,10 +111,7 @@ pub extern "C" fn spav_bool(input: &[u8], key: u32, value: &mut bool) -> i32
 #[unsafe(no_mangle)]
 pub extern "C" fn spav_id(input: &[u8], key: u32, value: &mut u32) -> i32
     ensures said { IsDone result → SaysUnder k.id_kind key input.now (k.id value.new) }
-    ensures other { IsOther result → HasOtherUnder k.id_kind key input.now }
-    ensures missing { IsMissing result → HasNoneUnder key input.now }
-    ensures refused { IsInvalid result → ¬ (BeginsObject input.now) }
-    ensures answers { IsRead result }
+    ensures failed { IsAnswerUnder k.id_kind key input.now result }
     ensures unchanged { ¬ (IsDone result) → value.new ≡ value.old }
 {
     match value_under(input, key) {
@@ -139,10 +133,7 @@ pub extern "C" fn spav_id(input: &[u8], key: u32, value: &mut u32) -> i32
 #[unsafe(no_mangle)]
 pub extern "C" fn spav_int(input: &[u8], key: u32, value: &mut i32) -> i32
     ensures said { IsDone result → SaysUnder k.int_kind key input.now (k.int value.new) }
-    ensures other { IsOther result → HasOtherUnder k.int_kind key input.now }
-    ensures missing { IsMissing result → HasNoneUnder key input.now }
-    ensures refused { IsInvalid result → ¬ (BeginsObject input.now) }
-    ensures answers { IsRead result }
+    ensures failed { IsAnswerUnder k.int_kind key input.now result }
     ensures unchanged { ¬ (IsDone result) → value.new ≡ value.old }
 {
     match value_under(input, key) {
@@ -164,10 +155,7 @@ pub extern "C" fn spav_int(input: &[u8], key: u32, value: &mut i32) -> i32
 #[unsafe(no_mangle)]
 pub extern "C" fn spav_long(input: &[u8], key: u32, value: &mut i64) -> i32
     ensures said { IsDone result → SaysUnder k.long_kind key input.now (k.long value.new) }
-    ensures other { IsOther result → HasOtherUnder k.long_kind key input.now }
-    ensures missing { IsMissing result → HasNoneUnder key input.now }
-    ensures refused { IsInvalid result → ¬ (BeginsObject input.now) }
-    ensures answers { IsRead result }
+    ensures failed { IsAnswerUnder k.long_kind key input.now result }
     ensures unchanged { ¬ (IsDone result) → value.new ≡ value.old }
 {
     match value_under(input, key) {
@@ -189,10 +177,7 @@ pub extern "C" fn spav_long(input: &[u8], key: u32, value: &mut i64) -> i32
 #[unsafe(no_mangle)]
 pub extern "C" fn spav_float(input: &[u8], key: u32, bits: &mut u32) -> i32
     ensures said { IsDone result → SaysUnder k.float_kind key input.now (k.float bits.new) }
-    ensures other { IsOther result → HasOtherUnder k.float_kind key input.now }
-    ensures missing { IsMissing result → HasNoneUnder key input.now }
-    ensures refused { IsInvalid result → ¬ (BeginsObject input.now) }
-    ensures answers { IsRead result }
+    ensures failed { IsAnswerUnder k.float_kind key input.now result }
     ensures unchanged { ¬ (IsDone result) → bits.new ≡ bits.old }
 {
     match value_under(input, key) {
@@ -214,10 +199,7 @@ pub extern "C" fn spav_float(input: &[u8], key: u32, bits: &mut u32) -> i32
 #[unsafe(no_mangle)]
 pub extern "C" fn spav_double(input: &[u8], key: u32, bits: &mut u64) -> i32
     ensures said { IsDone result → SaysUnder k.double_kind key input.now (k.double bits.new) }
-    ensures other { IsOther result → HasOtherUnder k.double_kind key input.now }
-    ensures missing { IsMissing result → HasNoneUnder key input.now }
-    ensures refused { IsInvalid result → ¬ (BeginsObject input.now) }
-    ensures answers { IsRead result }
+    ensures failed { IsAnswerUnder k.double_kind key input.now result }
     ensures unchanged { ¬ (IsDone result) → bits.new ≡ bits.old }
 {
     match value_under(input, key) {
@@ -239,10 +221,7 @@ pub extern "C" fn spav_double(input: &[u8], key: u32, bits: &mut u64) -> i32
 #[unsafe(no_mangle)]
 pub extern "C" fn spav_fd(input: &[u8], key: u32, value: &mut i64) -> i32
     ensures said { IsDone result → SaysUnder k.fd_kind key input.now (k.fd value.new) }
-    ensures other { IsOther result → HasOtherUnder k.fd_kind key input.now }
-    ensures missing { IsMissing result → HasNoneUnder key input.now }
-    ensures refused { IsInvalid result → ¬ (BeginsObject input.now) }
-    ensures answers { IsRead result }
+    ensures failed { IsAnswerUnder k.fd_kind key input.now result }
     ensures unchanged { ¬ (IsDone result) → value.new ≡ value.old }
 {
     match value_under(input, key) {
@@ -264,10 +243,7 @@ pub extern "C" fn spav_fd(input: &[u8], key: u32, value: &mut i64) -> i32
 #[unsafe(no_mangle)]
 pub extern "C" fn spav_rectangle(input: &[u8], key: u32, width: &mut u32, height: &mut u32) -> i32
     ensures said { IsDone result → SaysUnder k.rectangle_kind key input.now (k.rectangle width.new height.new) }
-    ensures other { IsOther result → HasOtherUnder k.rectangle_kind key input.now }
-    ensures missing { IsMissing result → HasNoneUnder key input.now }
-    ensures refused { IsInvalid result → ¬ (BeginsObject input.now) }
-    ensures answers { IsRead result }
+    ensures failed { IsAnswerUnder k.rectangle_kind key input.now result }
     ensures unchanged { ¬ (IsDone result) → (width.new ≡ width.old) × (height.new ≡ height.old) }
 {
     match value_under(input, key) {
@@ -290,10 +266,7 @@ pub extern "C" fn spav_rectangle(input: &[u8], key: u32, width: &mut u32, height
 #[unsafe(no_mangle)]
 pub extern "C" fn spav_fraction(input: &[u8], key: u32, num: &mut u32, denom: &mut u32) -> i32
     ensures said { IsDone result → SaysUnder k.fraction_kind key input.now (k.fraction num.new denom.new) }
-    ensures other { IsOther result → HasOtherUnder k.fraction_kind key input.now }
-    ensures missing { IsMissing result → HasNoneUnder key input.now }
-    ensures refused { IsInvalid result → ¬ (BeginsObject input.now) }
-    ensures answers { IsRead result }
+    ensures failed { IsAnswerUnder k.fraction_kind key input.now result }
     ensures unchanged { ¬ (IsDone result) → (num.new ≡ num.old) × (denom.new ≡ denom.old) }
 {
     match value_under(input, key) {
@@ -322,7 +295,7 @@ pub extern "C" fn spav_string(input: &[u8], key: u32, out: &mut [u8], len: &mut 
     ensures other { IsOther result → HasNoTextUnder key input.now }
     ensures missing { IsMissing result → HasNoneUnder key input.now }
     ensures refused { IsInvalid result → ¬ (BeginsObject input.now) }
-    ensures answers { IsTextRead result }
+    ensures answers { IsNoRoom result ⊎ IsRead result }
     ensures unchanged { ¬ (IsDone result) → out.new ≡ out.old }
 {
     match value_under(input, key) {

@@ -1,11 +1,11 @@
 //! Sets values of fixed size under keys of the object at the front, in place.
-ghost use Rattle.std.specs.Prelude.{◌≡◌, ◌+◌, ◌≤◌, ◌^◌, IfErr, IfOk, length};
+ghost use Rattle.std.specs.Prelude.{◌≡◌, ◌+◌, ◌≤◌, ◌^◌, ◌⊎◌, IfErr, IfOk, length};
 ghost use Rattle.spa_format.specs.Kind as k;
 ghost use Rattle.spa_format.specs.Kind.{fixed_body};
-ghost use Rattle.spav.specs.Answers.{IsDone, IsInvalid, IsMissing, IsOther, IsRead, IsUnset};
+ghost use Rattle.spav.specs.Answers.{IsDone, IsInvalid, IsMissing, IsOther, IsUnfound};
 ghost use Rattle.spav.specs.Items.{HasNoValue};
 ghost use Rattle.spav.specs.Reading.{BeginsObject};
-ghost use Rattle.spav.specs.Setting.{HasBodyAt, HasOtherAt, IsSet};
+ghost use Rattle.spav.specs.Setting.{HasBodyAt, HasOtherAt, IsAnswerAt, IsSet};
 
 use crate::answers::{DONE, OTHER};
 use crate::items::{NONE_VALUE_AT, spav_find};
@@ -22,7 +22,7 @@ fn body_under<T: CanonicalFixedSizedPod>(input: &[u8], key: u32) -> Result<usize
     ensures other { IfErr result (λ answer. IsOther answer → HasOtherAt T.kind key input.now) }
     ensures missing { IfErr result (λ answer. IsMissing answer → HasNoValue key input.now) }
     ensures refused { IfErr result (λ answer. IsInvalid answer → ¬ (BeginsObject input.now)) }
-    ensures answers { IfErr result IsUnset }
+    ensures answers { IfErr result (λ answer. IsOther answer ⊎ IsUnfound answer) }
 {
     let mut at = 0;
     let answer = spav_find(input, key, &mut at);
@@ -49,10 +49,7 @@ fn body_under<T: CanonicalFixedSizedPod>(input: &[u8], key: u32) -> Result<usize
 /// Sets the value under a key, where one of its type is there. The answer is -EINVAL, -ENOENT or -EPROTO where it isn't, and nothing is changed.
 fn set_under<T: CanonicalFixedSizedPod>(bytes: &mut [u8], key: u32, value: T) -> i32
     ensures set { IsDone result → IsSet T.kind key (fixed_body (T.fixed value)) bytes.old bytes.new }
-    ensures other { IsOther result → HasOtherAt T.kind key bytes.old }
-    ensures missing { IsMissing result → HasNoValue key bytes.old }
-    ensures refused { IsInvalid result → ¬ (BeginsObject bytes.old) }
-    ensures answers { IsRead result }
+    ensures failed { IsAnswerAt T.kind key bytes.old result }
     ensures unchanged { ¬ (IsDone result) → bytes.new ≡ bytes.old }
 {
     match body_under::<T>(bytes, key) {
@@ -71,10 +68,7 @@ fn set_under<T: CanonicalFixedSizedPod>(bytes: &mut [u8], key: u32, value: T) ->
 #[unsafe(no_mangle)]
 pub extern "C" fn spav_set_bool(bytes: &mut [u8], key: u32, value: bool) -> i32
     ensures set { IsDone result → IsSet k.bool_kind key (fixed_body (k.bool value)) bytes.old bytes.new }
-    ensures other { IsOther result → HasOtherAt k.bool_kind key bytes.old }
-    ensures missing { IsMissing result → HasNoValue key bytes.old }
-    ensures refused { IsInvalid result → ¬ (BeginsObject bytes.old) }
-    ensures answers { IsRead result }
+    ensures failed { IsAnswerAt k.bool_kind key bytes.old result }
     ensures unchanged { ¬ (IsDone result) → bytes.new ≡ bytes.old }
 {
     set_under(bytes, key, value)
@@ -87,10 +81,7 @@ pub extern "C" fn spav_set_bool(bytes: &mut [u8], key: u32, value: bool) -> i32
 #[unsafe(no_mangle)]
 pub extern "C" fn spav_set_id(bytes: &mut [u8], key: u32, value: u32) -> i32
     ensures set { IsDone result → IsSet k.id_kind key (fixed_body (k.id value)) bytes.old bytes.new }
-    ensures other { IsOther result → HasOtherAt k.id_kind key bytes.old }
-    ensures missing { IsMissing result → HasNoValue key bytes.old }
-    ensures refused { IsInvalid result → ¬ (BeginsObject bytes.old) }
-    ensures answers { IsRead result }
+    ensures failed { IsAnswerAt k.id_kind key bytes.old result }
     ensures unchanged { ¬ (IsDone result) → bytes.new ≡ bytes.old }
 {
     set_under(bytes, key, Id(value))
@@ -103,10 +94,7 @@ pub extern "C" fn spav_set_id(bytes: &mut [u8], key: u32, value: u32) -> i32
 #[unsafe(no_mangle)]
 pub extern "C" fn spav_set_int(bytes: &mut [u8], key: u32, value: i32) -> i32
     ensures set { IsDone result → IsSet k.int_kind key (fixed_body (k.int value)) bytes.old bytes.new }
-    ensures other { IsOther result → HasOtherAt k.int_kind key bytes.old }
-    ensures missing { IsMissing result → HasNoValue key bytes.old }
-    ensures refused { IsInvalid result → ¬ (BeginsObject bytes.old) }
-    ensures answers { IsRead result }
+    ensures failed { IsAnswerAt k.int_kind key bytes.old result }
     ensures unchanged { ¬ (IsDone result) → bytes.new ≡ bytes.old }
 {
     set_under(bytes, key, value)
@@ -119,10 +107,7 @@ pub extern "C" fn spav_set_int(bytes: &mut [u8], key: u32, value: i32) -> i32
 #[unsafe(no_mangle)]
 pub extern "C" fn spav_set_long(bytes: &mut [u8], key: u32, value: i64) -> i32
     ensures set { IsDone result → IsSet k.long_kind key (fixed_body (k.long value)) bytes.old bytes.new }
-    ensures other { IsOther result → HasOtherAt k.long_kind key bytes.old }
-    ensures missing { IsMissing result → HasNoValue key bytes.old }
-    ensures refused { IsInvalid result → ¬ (BeginsObject bytes.old) }
-    ensures answers { IsRead result }
+    ensures failed { IsAnswerAt k.long_kind key bytes.old result }
     ensures unchanged { ¬ (IsDone result) → bytes.new ≡ bytes.old }
 {
     set_under(bytes, key, value)
@@ -135,10 +120,7 @@ pub extern "C" fn spav_set_long(bytes: &mut [u8], key: u32, value: i64) -> i32
 #[unsafe(no_mangle)]
 pub extern "C" fn spav_set_float(bytes: &mut [u8], key: u32, bits: u32) -> i32
     ensures set { IsDone result → IsSet k.float_kind key (fixed_body (k.float bits)) bytes.old bytes.new }
-    ensures other { IsOther result → HasOtherAt k.float_kind key bytes.old }
-    ensures missing { IsMissing result → HasNoValue key bytes.old }
-    ensures refused { IsInvalid result → ¬ (BeginsObject bytes.old) }
-    ensures answers { IsRead result }
+    ensures failed { IsAnswerAt k.float_kind key bytes.old result }
     ensures unchanged { ¬ (IsDone result) → bytes.new ≡ bytes.old }
 {
     set_under(bytes, key, Float32(bits))
@@ -151,10 +133,7 @@ pub extern "C" fn spav_set_float(bytes: &mut [u8], key: u32, bits: u32) -> i32
 #[unsafe(no_mangle)]
 pub extern "C" fn spav_set_double(bytes: &mut [u8], key: u32, bits: u64) -> i32
     ensures set { IsDone result → IsSet k.double_kind key (fixed_body (k.double bits)) bytes.old bytes.new }
-    ensures other { IsOther result → HasOtherAt k.double_kind key bytes.old }
-    ensures missing { IsMissing result → HasNoValue key bytes.old }
-    ensures refused { IsInvalid result → ¬ (BeginsObject bytes.old) }
-    ensures answers { IsRead result }
+    ensures failed { IsAnswerAt k.double_kind key bytes.old result }
     ensures unchanged { ¬ (IsDone result) → bytes.new ≡ bytes.old }
 {
     set_under(bytes, key, Float64(bits))
@@ -167,10 +146,7 @@ pub extern "C" fn spav_set_double(bytes: &mut [u8], key: u32, bits: u64) -> i32
 #[unsafe(no_mangle)]
 pub extern "C" fn spav_set_fd(bytes: &mut [u8], key: u32, value: i64) -> i32
     ensures set { IsDone result → IsSet k.fd_kind key (fixed_body (k.fd value)) bytes.old bytes.new }
-    ensures other { IsOther result → HasOtherAt k.fd_kind key bytes.old }
-    ensures missing { IsMissing result → HasNoValue key bytes.old }
-    ensures refused { IsInvalid result → ¬ (BeginsObject bytes.old) }
-    ensures answers { IsRead result }
+    ensures failed { IsAnswerAt k.fd_kind key bytes.old result }
     ensures unchanged { ¬ (IsDone result) → bytes.new ≡ bytes.old }
 {
     set_under(bytes, key, Fd(value))
@@ -183,10 +159,7 @@ pub extern "C" fn spav_set_fd(bytes: &mut [u8], key: u32, value: i64) -> i32
 #[unsafe(no_mangle)]
 pub extern "C" fn spav_set_rectangle(bytes: &mut [u8], key: u32, width: u32, height: u32) -> i32
     ensures set { IsDone result → IsSet k.rectangle_kind key (fixed_body (k.rectangle width height)) bytes.old bytes.new }
-    ensures other { IsOther result → HasOtherAt k.rectangle_kind key bytes.old }
-    ensures missing { IsMissing result → HasNoValue key bytes.old }
-    ensures refused { IsInvalid result → ¬ (BeginsObject bytes.old) }
-    ensures answers { IsRead result }
+    ensures failed { IsAnswerAt k.rectangle_kind key bytes.old result }
     ensures unchanged { ¬ (IsDone result) → bytes.new ≡ bytes.old }
 {
     set_under(bytes, key, Rectangle { width, height })
@@ -199,10 +172,7 @@ pub extern "C" fn spav_set_rectangle(bytes: &mut [u8], key: u32, width: u32, hei
 #[unsafe(no_mangle)]
 pub extern "C" fn spav_set_fraction(bytes: &mut [u8], key: u32, num: u32, denom: u32) -> i32
     ensures set { IsDone result → IsSet k.fraction_kind key (fixed_body (k.fraction num denom)) bytes.old bytes.new }
-    ensures other { IsOther result → HasOtherAt k.fraction_kind key bytes.old }
-    ensures missing { IsMissing result → HasNoValue key bytes.old }
-    ensures refused { IsInvalid result → ¬ (BeginsObject bytes.old) }
-    ensures answers { IsRead result }
+    ensures failed { IsAnswerAt k.fraction_kind key bytes.old result }
     ensures unchanged { ¬ (IsDone result) → bytes.new ≡ bytes.old }
 {
     set_under(bytes, key, Fraction { num, denom })

@@ -1,9 +1,9 @@
 use Rattle.std.proofs.Common.{arith}
-use Rattle.spav.proofs.Written.{conveyed_written}
+use Rattle.spav.proofs.Written.{list_written}
 use Rattle.spav.proofs.lenient.spav_rewrite_in_place_leniently.Goals as goal
 
 pub returns-in-Ok-clause-done : goal.returns-in-Ok-clause-done
 returns-in-Ok-clause-done c = λ _.
     let within = c.in-Ok.ensures.within in
     let same = c.rewrite_in_place_leniently.auto.bytes in
-    conveyed_written _ _ _ c.in-Ok.ensures.rewritten (omega arith)
+    list_written _ _ _ _ c.in-Ok.ensures.rewritten (omega arith)

@@ -7,4 +7,4 @@ returns-then-input-out-clause-done c = λ _.
     let fits = c.if-input-out.true in
     let within = c.in-Some.ensures.within in
     let same = c.rewrite_into.auto.out in
-    list_written _ _ _ (c.in-Some.ensures.rewritten (omega arith)) (omega arith)
+    list_written _ _ _ _ (c.in-Some.ensures.rewritten (omega arith)) (omega arith)

@@ -1,18 +1,17 @@
 -- Zero-copy views of offers.
 use Rattle.std.proofs.Common.{◌≡◌, ℕ, ◌<◌, ◌≤◌, List, [], ◌∷◌, length, take, drop, sym, ap, ◌∙◌, subst, arith}
-use Rattle.std.specs.Prelude.{◌≤ℤ◌, Contains}
-use Rattle.std.specs.Int.{w32, w64, cast_signed}
+use Rattle.std.specs.Prelude.{Contains}
 use Rattle.std.proofs.lemmas.List.Elements.{Contains-append_right}
 use Rattle.std.proofs.lemmas.List.{length-take-le, drop-drop, take_all, drop_all}
 use Rattle.spa_format.specs.Words.{word_at, word_bytes, wide_at, wide_bytes}
-use Rattle.spa_format.specs.Kind.{Kind, id_kind, int_kind, long_kind, Fixed, id, int, long, content, body_size, type_number}
+use Rattle.spa_format.specs.Kind.{Kind, Fixed, content, body_size, type_number}
 use Rattle.spa_format.specs.Tree.{Shape, none_choice, range_choice, step_choice, enum_choice, flags_choice, shape_number, Tree, fixed, choice, choice_type, type_of}
 use Rattle.spa_format.specs.Pod.{AreElements, IsBody, IsPod, values_taken}
 use Rattle.spa_format.specs.Typed.{IsBytes}
 use Rattle.spa_format.proofs.Choices.{same_shape}
 use Rattle.spa_format.proofs.FixedKinds.{same_kind}
 use Rattle.spa_format.proofs.Shapes.{choice_only, fixed_only}
-use Rattle.spa_format.proofs.WordLemmas.{IsBytes-take, word_at-take, word_at-drop}
+use Rattle.spa_format.proofs.WordLemmas.{IsBytes-take, word_at-drop}
 use Rattle.spa_bytes.specs.Opening.{Opens}
 use Rattle.spa_canonical.proofs.Words.{word_there, wide_back, wide_of_take}
 use Rattle.spa_filter_offers.specs.Admits.{AdmitsContent}
@@ -29,30 +28,6 @@ pub same_wides : (a b : List ℕ) → IsBytes a → IsBytes b → 8 ≤ length a
 same_wides a b h i l m e =
     sym (wide_back (take 8 a) (IsBytes-take 8 a h) (length-take-le 8 a l)) ∙ ap wide_bytes (wide_of_take a ∙ e ∙ sym (wide_of_take b))
     ∙ wide_back (take 8 b) (IsBytes-take 8 b i) (length-take-le 8 b m)
-
-value_id : (b : List ℕ) → value_of id_kind b ≡ id (word_at b 0)
-value_id b = ap id (word_at-take 4 0 b (omega arith))
-
-value_int : (b : List ℕ) → value_of int_kind b ≡ int (cast_signed w32 (word_at b 0))
-value_int b = ap (λ n. int (cast_signed w32 n)) (word_at-take 4 0 b (omega arith))
-
-value_long : (b : List ℕ) → value_of long_kind b ≡ long (cast_signed w64 (wide_at b 0))
-value_long b = ap (λ n. long (cast_signed w64 n)) (wide_of_take b)
-
-pub at_most_id : (type : ℕ) (a b : List ℕ) → type ≡ 3 → word_at a 0 ≤ word_at b 0 → (k : Kind) → type ≡ type_number k → IsRangeKind k × IsAtMost (value_of k a) (value_of k b)
-at_most_id type a b t h k e =
-    subst (λ j. IsRangeKind j × IsAtMost (value_of j a) (value_of j b)) (same_kind id_kind k (sym t ∙ e))
-    (tt, (subst (λ y. IsAtMost (value_of id_kind a) y) (sym (value_id b)) (subst (λ x. IsAtMost x (id (word_at b 0))) (sym (value_id a)) h)))
-
-pub at_most_int : (type : ℕ) (a b : List ℕ) → type ≡ 4 → cast_signed w32 (word_at a 0) ≤ℤ cast_signed w32 (word_at b 0) → (k : Kind) → type ≡ type_number k → IsRangeKind k × IsAtMost (value_of k a) (value_of k b)
-at_most_int type a b t h k e =
-    subst (λ j. IsRangeKind j × IsAtMost (value_of j a) (value_of j b)) (same_kind int_kind k (sym t ∙ e))
-    (tt, (subst (λ y. IsAtMost (value_of int_kind a) y) (sym (value_int b)) (subst (λ x. IsAtMost x (int (cast_signed w32 (word_at b 0)))) (sym (value_int a)) h)))
-
-pub at_most_long : (type : ℕ) (a b : List ℕ) → type ≡ 5 → cast_signed w64 (wide_at a 0) ≤ℤ cast_signed w64 (wide_at b 0) → (k : Kind) → type ≡ type_number k → IsRangeKind k × IsAtMost (value_of k a) (value_of k b)
-at_most_long type a b t h k e =
-    subst (λ j. IsRangeKind j × IsAtMost (value_of j a) (value_of j b)) (same_kind long_kind k (sym t ∙ e))
-    (tt, (subst (λ y. IsAtMost (value_of long_kind a) y) (sym (value_long b)) (subst (λ x. IsAtMost x (long (cast_signed w64 (wide_at b 0)))) (sym (value_long a)) h)))
 
 -- the elements that are left
 pub record AreElementsLeft (k : Kind) (ys : List Fixed) (left : List ℕ) : Type 0 where

@@ -11,8 +11,9 @@ ghost use Rattle.spa_negotiate.specs.Offering.{AreAdmitting, HasValues, IsElemen
 use spa_bodies::{CHOICE_HEADER_LEN, VALUE_TYPE_AT};
 use spa_bytes::{HEADER_LEN, open, u32_at, u64_at};
 use spa_canonical::fixed_len;
+use spa_filter_elements::Ordered;
 use spa_fixed_sized::{ENUM_SHAPE, NONE_SHAPE, RANGE_SHAPE};
-use spa_utils::SpaTypes;
+use spa_utils::{Id, SpaTypes};
 use std::alloc::{AllocError, Global};
 
 /// The length in bytes of a body of one word.
@@ -105,35 +106,21 @@ fn is_at_most(type_: u32, value: &[u8], other: &[u8]) -> bool
         × IsAtMost (value_of k value.now) (value_of k other.now) }
 {
     match SpaTypes(type_) {
-        SpaTypes::Id => {
-            if value.len() < ONE_WORD || other.len() < ONE_WORD {
-                return false;
-            }
-            if u32_at(value, 0) > u32_at(other, 0) {
-                return false;
-            }
-            true
-        }
-        SpaTypes::Int => {
-            if value.len() < ONE_WORD || other.len() < ONE_WORD {
-                return false;
-            }
-            if u32_at(value, 0).cast_signed() > u32_at(other, 0).cast_signed() {
-                return false;
-            }
-            true
-        }
-        SpaTypes::Long => {
-            if value.len() < TWO_WORDS || other.len() < TWO_WORDS {
-                return false;
-            }
-            if u64_at(value, 0).cast_signed() > u64_at(other, 0).cast_signed() {
-                return false;
-            }
-            true
-        }
+        SpaTypes::Id => is_in_order::<Id>(value, other),
+        SpaTypes::Int => is_in_order::<i32>(value, other),
+        SpaTypes::Long => is_in_order::<i64>(value, other),
         _ => false,
     }
+}
+
+/// Whether the first value of the type `T` is no greater than the second. The bytes behind the two don't count.
+fn is_in_order<T: Ordered>(value: &[u8], other: &[u8]) -> bool
+    ensures { result ≡ true → IsAtMost (value_of T.kind value.now) (value_of T.kind other.now) }
+{
+    if value.len() < T::SIZE || other.len() < T::SIZE {
+        return false;
+    }
+    T::of_body(&value[..T::SIZE]).is_at_most(&T::of_body(&other[..T::SIZE]))
 }
 
 /// Whether the value is among these, by a linear search.

@@ -6,14 +6,6 @@ use Rattle.hex.specs.Hex.{encode_lower, encode_with, lower_digits}
 use Rattle.spa_text_commands.specs.Dump.{blanks, hex_lines, letter_of, place_text, row_line, rows, spaced}
 use Rattle.spa_text_commands.specs.Lines.{Adds}
 
-one_byte : (b : ℕ) (bs : List ℕ) → encode_lower (b ∷ bs) ≡ encode_lower (b ∷ []) ++ encode_lower bs
-unfolding encode_with
-one_byte b bs = refl
-
-no_bytes : encode_lower [] ≡ []
-unfolding encode_with
-no_bytes = refl
-
 two_digits : (b : ℕ) → encode_lower (b ∷ []) ≡ slice_index lower_digits (b / 16) ∷ slice_index lower_digits (b % 16) ∷ []
 unfolding encode_with
 two_digits b = refl
@@ -23,16 +15,6 @@ pub digits_pushed : (a b c : List ℕ) (x y n : ℕ) → b ≡ a ++ (x ∷ []) �
 digits_pushed a b c x y n first second high low =
     second ∙ ap (λ z. z ++ (y ∷ [])) first ∙ append_assoc a (x ∷ []) (y ∷ []) ∙ ap (λ z. a ++ (z ∷ y ∷ [])) high
     ∙ ap (λ z. a ++ (slice_index lower_digits (n / 16) ∷ z ∷ [])) low ∙ ap (λ z. a ++ z) (sym (two_digits n))
-
-pub hex_pushed : (left behind mid new all : List ℕ) (b : ℕ) → mid ++ encode_lower left ≡ all → left ≡ b ∷ behind → new ≡ mid ++ encode_lower (b ∷ []) →
-    new ++ encode_lower behind ≡ all
-hex_pushed left behind mid new all b h e n =
-    ap (λ z. z ++ encode_lower behind) n ∙ append_assoc mid (encode_lower (b ∷ [])) (encode_lower behind)
-    ∙ ap (λ z. mid ++ z) (sym (one_byte b behind)) ∙ ap (λ z. mid ++ encode_lower z) (sym e) ∙ h
-
-pub hex_ended : (left mid all : List ℕ) → mid ++ encode_lower left ≡ all → length left ≡ 0 → mid ≡ all
-hex_ended left mid all h e =
-    sym (append-nil mid) ∙ ap (λ z. mid ++ z) (sym no_bytes) ∙ ap (λ z. mid ++ encode_lower z) (sym (nil_from_length left e)) ∙ h
 
 pub spaced_pushed : (left behind mid one new all : List ℕ) (b : ℕ) → mid ++ spaced left ≡ all → left ≡ b ∷ behind → one ≡ mid ++ (32 ∷ []) →
     new ≡ one ++ encode_lower (b ∷ []) → new ++ spaced behind ≡ all

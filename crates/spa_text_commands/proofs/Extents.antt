@@ -1,5 +1,6 @@
 -- Where texts end, and the lines and columns of their bytes.
 use Rattle.std.proofs.Common.{◌≡◌, ◌≢◌, ◌≤◌, ◌<◌, ℕ, ◌+◌, ◌-◌, List, [], ◌∷◌, ◌++◌, refl, sym, arith, length, take, ◌∙◌, ap, subst, length-append, append_assoc, append-nil}
+use Rattle.std.proofs.Math.Seq.{take-append_seam}
 use Rattle.std.proofs.lemmas.Bool.Decides.{nat_tests}
 use Rattle.std.proofs.lemmas.List.{nil_from_length}
 use Rattle.std.proofs.lemmas.Bool.{and_parts, ne_eqb}
@@ -85,11 +86,7 @@ all_passed bytes left p n so e some =
     }
 
 pub taken : (xs ys : List ℕ) (n : ℕ) → n ≡ length xs → take n (xs ++ ys) ≡ xs
-taken xs ys n e = ap (λ k. take k (xs ++ ys)) e ∙ front xs ys
-  where
-    front : (xs ys : List ℕ) → take (length xs) (xs ++ ys) ≡ xs
-    front [] ys = refl
-    front (x ∷ xs) ys = ap (λ l. x ∷ l) (front xs ys)
+taken xs ys n e = ap (λ k. take k (xs ++ ys)) e ∙ take-append_seam xs ys
 
 pub text_passed : (bytes left behind text : List ℕ) (p : Place) (n x k : ℕ) (is_end : Bool) → Passed bytes left p n → left ≡ x ∷ behind →
     is_end ≡ (x == 10 && n == 0) → is_end ≡ true → k ≡ length bytes - length left → text ≡ take k bytes → bytes ≢ [] →

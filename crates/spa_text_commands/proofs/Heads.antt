@@ -2,7 +2,7 @@
 use Rattle.std.proofs.Common.{◌≡◌, ◌≢◌, ◌<◌, ℕ, Bool, true, false, ◌==◌, List, [], ◌∷◌, ◌++◌, ◌≤◌, append_assoc, arith, length, pos, refl, sym, ap, subst, ◌∙◌, true≢false, Option, Some, None, is_some, option_map, slice_set}
 use Rattle.std.specs.Prelude.{◌&&◌, if◌then◌else◌, not, nat_lt}
 use Rattle.spa_format.specs.Kind.{none, bool, int, long}
-use Rattle.spa_format.specs.Tree.{Tree, Trees, fixed, string, struct, type_of, array_type, choice_type, object_type}
+use Rattle.spa_format.specs.Tree.{Tree, Trees, fixed, string, struct, type_of, array_type, choice_type, object_type, struct_type}
 use Rattle.spa_value.proofs.TypeLaws.{type_of-array_view, type_of-choice_view, type_of-object_view}
 use Rattle.spa_value.specs.declared.value.Value.{Value, roll-Value, roll-out-Value}
 use Rattle.spa_value.specs.declared.value.Value.TheVariants as V
@@ -12,15 +12,13 @@ use Rattle.spa_text_commands.specs.Messages.{across_runs, bool_in, head_in, head
 use Rattle.spa_text_commands.specs.Unread.{message_of}
 use Rattle.spa_text_commands.specs.declared.message.Head.{Head}
 
--- such a value is no member that a recorded message begins with, and no message itself
+-- such a value is no member that a recorded message begins with
 record SaysNothing (t : Tree) : Type 0 where
   mark : is_mark t ≡ false
   truth : bool_in t ≡ None
   number : int_in t ≡ None
   wide : long_in t ≡ None
   name : name_in t ≡ None
-  head : head_in t ≡ None
-  same : across_runs t ≡ t
 
 -- the types of arrays, objects and choices
 abbrev is_of_many : ℕ → Bool
@@ -33,7 +31,7 @@ says_nothing (fixed (int x)) n e m = absurd (true≢false (sym (subst (λ k. is_
 says_nothing (fixed (long x)) n e m = absurd (true≢false (sym (subst (λ k. is_of_many k ≡ true) (sym e) m)))
 says_nothing (string s) n e m = absurd (true≢false (sym (subst (λ k. is_of_many k ≡ true) (sym e) m)))
 says_nothing (struct vs) n e m = absurd (true≢false (sym (subst (λ k. is_of_many k ≡ true) (sym e) m)))
-says_nothing _ n e m = record { mark = refl; truth = refl; number = refl; wide = refl; name = refl; head = refl; same = refl }
+says_nothing _ n e m = record { mark = refl; truth = refl; number = refl; wide = refl; name = refl }
 
 of_array : (a : _) → SaysNothing (array_view a)
 of_array a = says_nothing (array_view a) array_type (type_of-array_view a) refl
@@ -80,12 +78,18 @@ no_name (V.Choice c) m n = (of_choice c).name
 no_name (V.Object o) m n = (of_object o).name
 no_name _ m n = refl
 
-pub no_struct : (v : Value) → ((x : _) → v ≢ V.Struct x) → (head_in (view v) ≡ None) × (across_runs (view v) ≡ view v)
+-- a value that is no struct has another type
+pub no_struct : (v : Value) → ((x : _) → v ≢ V.Struct x) → (type_of (view v) == struct_type) ≡ false
 no_struct (V.Struct' s r) n = absurd (n _ (sym (roll-out-Value (V.Struct' s r)) ∙ ap roll-Value (V.outs-Struct' s r) ∙ V.rolls-Struct _))
-no_struct (V.ValueArray a) n = ((of_array a).head, (of_array a).same)
-no_struct (V.Choice c) n = ((of_choice c).head, (of_choice c).same)
-no_struct (V.Object o) n = ((of_object o).head, (of_object o).same)
-no_struct _ n = (refl, refl)
+no_struct (V.ValueArray a) n = ap (λ t. t == struct_type) (type_of-array_view a)
+no_struct (V.Choice c) n = ap (λ t. t == struct_type) (type_of-choice_view c)
+no_struct (V.Object o) n = ap (λ t. t == struct_type) (type_of-object_view o)
+no_struct _ n = refl
+
+-- and is no recorded message
+pub no_message : (t : Tree) → (type_of t == struct_type) ≡ false → (head_in t ≡ None) × (across_runs t ≡ t)
+no_message (struct vs) e = absurd (true≢false e)
+no_message _ e = (refl, refl)
 
 -- the head of a struct is that of its members
 pub struct_head : (h : Option Head) (vs : Trees) → option_map message_of h ≡ message_in vs →

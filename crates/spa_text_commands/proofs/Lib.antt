@@ -13,8 +13,6 @@ pub mod ReadTexts
 mod ReadHexadecimal
 pub mod Changing
 pub mod Differing
-pub mod Compared
-mod Named
 mod Items
 mod Heads
 mod Names

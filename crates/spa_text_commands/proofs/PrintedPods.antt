@@ -8,9 +8,8 @@ use Rattle.spa_format.specs.Pod.{AreMembers}
 use Rattle.spa_format.specs.Tree.{Tree, Trees, no_trees, member, join_members}
 use Rattle.spa_format.proofs.Refused.{refused_behind_members}
 use Rattle.spa_format.proofs.Sequences.{members_joined, members_push}
-use Rattle.spa_text_commands.specs.Unread.{AddsLine, AddsTextLine, AddsTexts, IsBegun, IsMarked, IsNoFront, IsStopped}
-use Rattle.spa_text_commands.specs.Texts.{AreTexts, IsTextAt, Prints, RefusesPods, head_field, in_fields, path_field, wrapped}
-use Rattle.spa_text_commands.specs.declared.printing.Layout.{Layout}
+use Rattle.spa_text_commands.specs.Unread.{AddsLine, AddsTextLine, AddsTexts, IsBegun, IsMarked, IsNoFront}
+use Rattle.spa_text_commands.specs.Texts.{AreTexts, RefusesPods, head_field, in_fields, path_field, wrapped}
 use Rattle.spa_text_commands.specs.declared.answer.Failure.{Failure}
 use Rattle.spa_text_commands.specs.declared.answer.Failure.TheVariants.{NoPods, Line, OutOfMemory, WriteFailed}
 
@@ -122,38 +121,41 @@ ends IsText start left old out so e =
     let all : start ≡ so.first = so.whole ∙ ap (λ l. so.first ++ l) (nil_from_length left e) ∙ append-nil so.first in
     (so.values, so.lines, subst (AreMembers so.values) (sym all) so.members, so.texts, so.made)
 
-pub stops : (IsText : Tree → List ℕ → Type 0) (start left old out : List ℕ) (why : Failure) → PrintedSoFar IsText start left old out →
-    ¬ (length left ≡ 0) → IsNoFront left why → IsStopped start why
-stops IsText start left old out NoPods so some h = (left, (so.values, so.first, so.whole, so.members, λ d. some (ap length d)), h)
-stops IsText start left old out (Line n c k w p m) so some h = absurd h
-stops IsText start left old out OutOfMemory so some h = tt
-stops IsText start left old out WriteFailed so some h = absurd h
-
-pub runs_out : (start : List ℕ) (why : Failure) → why ≡ OutOfMemory → IsStopped start why
-runs_out start why e = subst (IsStopped start) (sym e) tt
-
--- behind first pods it stops in the whole
-pub stops_whole : (input first left : List ℕ) (vs : Trees) (why : Failure) → input ≡ first ++ left → AreMembers vs first → IsStopped left why →
-    RefusesPods input why
-stops_whole input first left vs NoPods whole members h =
-    let b = h.1 in
-    let all : input ≡ (first ++ b.1) ++ h.0 = whole ∙ ap (λ l. first ++ l) b.2 ∙ sym (append_assoc first b.1 h.0) in
-    let both = members_joined vs b.0 first b.1 members b.3 in
+-- where no pod begins behind some first ones, the whole isn't pods
+pub front_refused : (input first left : List ℕ) (vs : Trees) (why : Failure) → input ≡ first ++ left → AreMembers vs first → ¬ (length left ≡ 0) →
+    IsNoFront left why → RefusesPods input why
+front_refused input first left vs NoPods whole members some h =
+    let more = λ (d : left ≡ []). some (ap length d) in
     record {
-      left = h.0;
-      behind = (join_members vs b.0, first ++ b.1, all, both, b.4);
-      no_pod = h.2;
-      refused = λ us m. refused_behind_members (join_members vs b.0) us (first ++ b.1) h.0 both b.4 h.2 (subst (AreMembers us) all m);
+      left = left;
+      behind = (vs, first, whole, members, more);
+      no_pod = h;
+      refused = λ us m. refused_behind_members vs us first left members more h (subst (AreMembers us) whole m);
     }
-stops_whole input first left vs (Line n c k w p m) whole members h = absurd h
-stops_whole input first left vs OutOfMemory whole members h = tt
-stops_whole input first left vs WriteFailed whole members h = absurd h
+front_refused input first left vs (Line n c k w p m) whole members some h = absurd h
+front_refused input first left vs OutOfMemory whole members some h = tt
+front_refused input first left vs WriteFailed whole members some h = absurd h
 
--- all of an input
-pub prints_all : (layout : Layout) (path input old out : List ℕ) → AddsTexts (IsTextAt layout path) input old out → path ≡ [] → old ≡ [] →
-    Prints layout input out
-prints_all layout path input old out h p o =
-    (h.0, h.2, subst (AreTexts (IsTextAt layout []) h.0) (sym (h.4 ∙ ap (λ l. l ++ h.1) o)) (subst (λ k. AreTexts (IsTextAt layout k) h.0 h.1) p h.3))
+-- nor where what follows them isn't
+pub rest_refused : (input first left : List ℕ) (vs : Trees) (why : Failure) → input ≡ first ++ left → AreMembers vs first → RefusesPods left why →
+    RefusesPods input why
+rest_refused input first left vs NoPods whole members h =
+    let b = h.behind in
+    front_refused input (first ++ b.1) h.left (join_members vs b.0) NoPods
+    (whole ∙ ap (λ l. first ++ l) b.2 ∙ sym (append_assoc first b.1 h.left)) (members_joined vs b.0 first b.1 members b.3)
+    (λ z. b.4 (nil_from_length h.left z)) h.no_pod
+rest_refused input first left vs (Line n c k w p m) whole members h = absurd h
+rest_refused input first left vs OutOfMemory whole members h = tt
+rest_refused input first left vs WriteFailed whole members h = absurd h
 
-pub refuses_all : (input : List ℕ) (why : Failure) → IsStopped input why → RefusesPods input why
-refuses_all input why h = stops_whole input [] input no_trees why refl refl h
+pub stops : (IsText : Tree → List ℕ → Type 0) (start left old out : List ℕ) (why : Failure) → PrintedSoFar IsText start left old out →
+    ¬ (length left ≡ 0) → IsNoFront left why → RefusesPods start why
+stops IsText start left old out why so some h = front_refused start so.first left so.values why so.whole so.members some h
+
+pub runs_out : (start : List ℕ) (why : Failure) → why ≡ OutOfMemory → RefusesPods start why
+runs_out start why e = subst (RefusesPods start) (sym e) tt
+
+-- all of an input, behind nothing
+pub printed_all : (IsText : Tree → List ℕ → Type 0) (input old out : List ℕ) → AddsTexts IsText input old out → old ≡ [] →
+    (vs : Trees) × AreMembers vs input × AreTexts IsText vs out
+printed_all IsText input old out h o = (h.0, h.2, subst (AreTexts IsText h.0) (sym (h.4 ∙ ap (λ l. l ++ h.1) o)) h.3)

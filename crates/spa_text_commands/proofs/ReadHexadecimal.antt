@@ -1,9 +1,8 @@
 -- Lines of digits, read byte by byte.
 use Rattle.std.proofs.Common.{◌≡◌, ◌≢◌, ◌≤◌, ◌<◌, ℕ, ◌+◌, ◌-◌, ◌*◌, List, [], ◌∷◌, ◌++◌, refl, sym, arith, length, drop, ◌∙◌, ap, subst, append_assoc, append-nil, length-drop}
 use Rattle.std.proofs.lemmas.List.{nil_from_length}
-use Rattle.std.specs.Prelude.{Bool, true, false, ◌==◌, ◌&&◌, if◌then◌else◌, Option, Some, None, is_none, is_some}
+use Rattle.std.specs.Prelude.{Bool, true, false, ◌==◌, ◌&&◌, if◌then◌else◌, Option, Some, None}
 use Rattle.hex.specs.Hex.{hex_digit_value}
-use Rattle.spa_text_commands.specs.Texts.{is_space}
 use Rattle.spa_text_commands.specs.Hexadecimal.{BeginLines, ReadsHexadecimal, RefusesHexadecimal, begins_letters, begins_with_offset, behind_colon, behind_digits, behind_line, behind_space, bytes_behind, bytes_in, ends_row, first_has_offset, first_line, is_between, no_line, one_line, said, said_in, with_byte}
 use Rattle.spa_text_commands.specs.ReadingHexadecimal.{IsLineAt, IsNext, SaysMore}
 use Rattle.spa_text_commands.specs.declared.answer.Failure.{Failure}
@@ -24,45 +23,6 @@ behind_fits (x ∷ xs) = let h = behind_by x xs (x == 10) refl (behind_fits xs) 
 pub fewer_behind : (xs : List ℕ) → xs ≢ [] → length (behind_line xs) < length xs
 fewer_behind [] n = absurd (n refl)
 fewer_behind (x ∷ xs) n = let h = behind_by x xs (x == 10) refl (behind_fits xs) in omega (arith, h)
-
--- ---- What follows white space and digits
-
-pub space_passed : (text left behind : List ℕ) (x : ℕ) (b : Bool) → (behind_space text ≡ behind_space left) × (length left ≤ length text) →
-    left ≡ x ∷ behind → b ≡ is_space x → b ≡ true → (behind_space text ≡ behind_space behind) × (length behind ≤ length text)
-space_passed text left behind x b so e t d =
-    let l = ap length e in
-    let n = so.1 in
-    (so.0 ∙ ap behind_space e ∙ ap (λ c. if c then behind_space behind else x ∷ behind) (sym t ∙ d), omega (arith, l, n))
-
-pub space_ended : (text left behind : List ℕ) (x : ℕ) (b : Bool) → behind_space text ≡ behind_space left → left ≡ x ∷ behind → b ≡ is_space x →
-    b ≡ false → left ≡ behind_space text
-space_ended text left behind x b so e t d =
-    e ∙ sym (so ∙ ap behind_space e ∙ ap (λ c. if c then behind_space behind else x ∷ behind) (sym t ∙ d))
-
-pub space_all : (text left : List ℕ) → behind_space text ≡ behind_space left → length left ≡ 0 → left ≡ behind_space text
-space_all text left so e = let none = nil_from_length left e in none ∙ sym (so ∙ ap behind_space none)
-
-is_digit-none : (v : Option ℕ) (b : Bool) → is_none v ≡ b → is_some v ≡ (if b then false else true)
-is_digit-none None b e = ap (λ c. if c then false else true) e
-is_digit-none (Some n) b e = ap (λ c. if c then false else true) e
-
-pub digit_passed : (text left behind : List ℕ) (x : ℕ) (v : Option ℕ) → (behind_digits text ≡ behind_digits left) × (length left ≤ length text) →
-    left ≡ x ∷ behind → v ≡ hex_digit_value x → is_none v ≡ false → (behind_digits text ≡ behind_digits behind) × (length behind ≤ length text)
-digit_passed text left behind x v so e t d =
-    let l = ap length e in
-    let n = so.1 in (
-      so.0 ∙ ap behind_digits e
-          ∙ ap (λ c. if c then behind_digits behind else x ∷ behind) (ap is_some (sym t) ∙ is_digit-none v false d),
-      omega (arith, l, n),
-    )
-
-pub digit_ended : (text left behind : List ℕ) (x : ℕ) (v : Option ℕ) → behind_digits text ≡ behind_digits left → left ≡ x ∷ behind →
-    v ≡ hex_digit_value x → is_none v ≡ true → left ≡ behind_digits text
-digit_ended text left behind x v so e t d =
-    e ∙ sym (so ∙ ap behind_digits e ∙ ap (λ c. if c then behind_digits behind else x ∷ behind) (ap is_some (sym t) ∙ is_digit-none v true d))
-
-pub digits_all : (text left : List ℕ) → behind_digits text ≡ behind_digits left → length left ≡ 0 → left ≡ behind_digits text
-digits_all text left so e = let none = nil_from_length left e in none ∙ sym (so ∙ ap behind_digits none)
 
 -- ---- The loop over a row
 

@@ -1,7 +1,6 @@
 -- Texts that are read, one by one.
 use Rattle.std.proofs.Common.{◌≡◌, ◌≢◌, ◌≤◌, ℕ, ◌+◌, ◌-◌, List, [], ◌∷◌, ◌++◌, refl, sym, inl, inr, arith, length, take, drop, ◌∙◌, ap, subst, length-append, append_assoc, append-nil}
 use Rattle.std.specs.Prelude.{◌⊎◌}
-use Rattle.std.specs.Str.{IsUtf8}
 use Rattle.spa_format.specs.Encoding.{encoding_of, member_encodings}
 use Rattle.spa_format.specs.Tree.{Tree, Trees, no_trees, member, join_members}
 use Rattle.spa_format.specs.Writable.{HasNul, IsTooLarge}
@@ -130,12 +129,6 @@ not_read f input left text behind pods line WriteFailed so b is h = absurd h
 
 -- ---- Why a text has no pod
 
-pub not_utf8 : (f : Form) (line : List ℕ) → ¬ (IsUtf8 line) → HasNoPod f line
-not_utf8 f line h = inl h
-
-pub no_text : (f : Form) (line : List ℕ) → ((v : Tree) → ¬ (IsTextAs f v line)) → HasNoPod f line
-no_text f line h = inr (inl h)
-
 -- of a struct that was read member by member
 pub struct_added : (s : Strictness) (text old new : List ℕ) → ((v : Tree) × IsTextAsItStands s v text × (new ≡ old ++ encoding_of v)) →
     (v : Tree) × IsTextAs (Named s) v text × (new ≡ old ++ member_encodings (pods_in (Named s) v))
@@ -148,7 +141,7 @@ is_for f line (unread.For kind words offset path misfit) h w = h
 
 pub no_value : (f : Form) (line text : List ℕ) (c : Cause) → text ≡ line → (c ≢ cause.OutOfMemory → (v : Tree) → ¬ (IsTextAs f v text)) →
     c ≢ cause.OutOfMemory → HasNoPod f line
-no_value f line text c e h w = no_text f line (λ v t. h w v (subst (IsTextAs f v) (sym e) t))
+no_value f line text c e h w = inr (inl (λ v t. h w v (subst (IsTextAs f v) (sym e) t)))
 
 -- ---- What has no pod
 

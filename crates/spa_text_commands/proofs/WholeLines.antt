@@ -104,21 +104,16 @@ document_closed j text e =
 
 -- ---- Lexemes
 
+-- the tokens among lexemes
+abbrev tokens_among : List Lexeme → List Token
+tokens_among [] = []
+tokens_among (token t ∷ ls) = t ∷ tokens_among ls
+tokens_among (comma ∷ ls) = tokens_among ls
+tokens_among (colon ∷ ls) = tokens_among ls
+
 -- no token is bad, and behind these lexemes no bracket is open, of so many before them
 abbrev Leaves : ℕ → List Lexeme → Type 0
-Leaves n [] = n ≡ 0
-Leaves n (token Token.begin_object ∷ ls) = Leaves (n + 1) ls
-Leaves n (token Token.end_object ∷ ls) = Leaves (n - 1) ls
-Leaves n (token Token.begin_array ∷ ls) = Leaves (n + 1) ls
-Leaves n (token Token.end_array ∷ ls) = Leaves (n - 1) ls
-Leaves n (token (Token.key s) ∷ ls) = Leaves n ls
-Leaves n (token (Token.string s) ∷ ls) = Leaves n ls
-Leaves n (token (Token.number s) ∷ ls) = Leaves n ls
-Leaves n (token (Token.boolean b) ∷ ls) = Leaves n ls
-Leaves n (token Token.null ∷ ls) = Leaves n ls
-Leaves n (token Token.bad ∷ ls) = ⊥
-Leaves n (comma ∷ ls) = Leaves n ls
-Leaves n (colon ∷ ls) = Leaves n ls
+Leaves n ls = Ends n (tokens_among ls)
 
 allowed : (b : Bool) (t : Token) (k : At → List Token) (q : At) (n : ℕ) → Ends n (if_allowed b t k q) → Ends n (t ∷ k q)
 allowed true t k q n h = h
@@ -174,39 +169,29 @@ at in_escape = escaped
 abbrev class_by : Bool → Bool → Bool → Bool → Class
 class_by q b o s = cond q lexing.quote (cond b lexing.backslash (cond o lexing.operator (cond s lexing.space lexing.other)))
 
-by_quote : (q b o s : Bool) → class_by q b o s ≡ lexing.quote → q ≡ true
-by_quote true b o s e = refl
-by_quote false true o s e = cc
-by_quote false false true s e = cc
-by_quote false false false true e = cc
-by_quote false false false false e = cc
+-- which of them a byte of this class passes, and which it doesn't
+abbrev Passes : (q b o s : Bool) → Class → Type 0
+Passes q b o s lexing.quote = q ≡ true
+Passes q b o s lexing.backslash = b ≡ true
+Passes q b o s lexing.operator = o ≡ true
+Passes q b o s lexing.space = (q ≡ false) × (o ≡ false)
+Passes q b o s lexing.other = (q ≡ false) × (o ≡ false) × (s ≡ false)
 
-by_backslash : (q b o s : Bool) → class_by q b o s ≡ lexing.backslash → b ≡ true
-by_backslash true b o s e = cc
-by_backslash false true o s e = refl
-by_backslash false false true s e = cc
-by_backslash false false false true e = cc
-by_backslash false false false false e = cc
+by_tests : (q b o s : Bool) → Passes q b o s (class_by q b o s)
+by_tests true b o s = refl
+by_tests false true o s = refl
+by_tests false false true s = refl
+by_tests false false false true = (refl, refl)
+by_tests false false false false = (refl, refl, refl)
 
-by_operator : (q b o s : Bool) → class_by q b o s ≡ lexing.operator → o ≡ true
-by_operator true b o s e = cc
-by_operator false true o s e = cc
-by_operator false false true s e = refl
-by_operator false false false true e = cc
-by_operator false false false false e = cc
-
-by_other : (q b o s : Bool) → class_by q b o s ≡ lexing.other → (q ≡ false) × (o ≡ false) × (s ≡ false)
-by_other true b o s e = cc
-by_other false true o s e = cc
-by_other false false true s e = cc
-by_other false false false true e = cc
-by_other false false false false e = (refl, refl, refl)
+classed : (x : ℕ) (c : Class) → class x ≡ c → Passes (x == 34) (x == 92) (is_operator x) (is_space x) c
+classed x c e = subst (Passes (x == 34) (x == 92) (is_operator x) (is_space x)) e (by_tests (x == 34) (x == 92) (is_operator x) (is_space x))
 
 is_quote : (x : ℕ) → class x ≡ lexing.quote → x ≡ 34
-is_quote x e = eqb-true x 34 (by_quote (x == 34) (x == 92) (is_operator x) (is_space x) e)
+is_quote x e = eqb-true x 34 (classed x lexing.quote e)
 
 is_backslash : (x : ℕ) → class x ≡ lexing.backslash → x ≡ 92
-is_backslash x e = eqb-true x 92 (by_backslash (x == 34) (x == 92) (is_operator x) (is_space x) e)
+is_backslash x e = eqb-true x 92 (classed x lexing.backslash e)
 
 -- ---- Words
 
@@ -221,7 +206,7 @@ bare_end (x ∷ xs) h = (
   (λ e. true≢false (sym h ∙ ap (λ y. is_operator y || is_space y) e)),
   (λ e. true≢false (sym h ∙ ap (λ y. is_operator y || is_space y) e)),
   λ e.
-      let o = by_other (x == 34) (x == 92) (is_operator x) (is_space x) e in
+      let o = classed x lexing.other e in
       absurd (true≢false (sym h ∙ ap (λ b. b || is_space x) o.1 ∙ o.2)),
 )
 
@@ -408,18 +393,11 @@ other_is x n xs q o h =
     subst (λ b. Closed (if b then within else outside) (open_behind outside x n) xs) (sym q)
     (subst (λ k. Closed outside k xs) (sym (no_brackets (x == 123) (x == 125) (x == 91) (x == 93) (x == 58) (x == 44) n o)) h)
 
-by_space_other : (q b o s : Bool) → class_by q b o s ≡ lexing.space → (q ≡ false) × (o ≡ false)
-by_space_other true b o s e = cc
-by_space_other false true o s e = cc
-by_space_other false false true s e = cc
-by_space_other false false false true e = (refl, refl)
-by_space_other false false false false e = cc
-
 space_is : (x n : ℕ) (xs : List ℕ) → class x ≡ lexing.space → Closed outside n xs → Closed outside n (x ∷ xs)
-space_is x n xs e h = let t = by_space_other (x == 34) (x == 92) (is_operator x) (is_space x) e in other_is x n xs t.0 t.1 h
+space_is x n xs e h = let t = classed x lexing.space e in other_is x n xs t.0 t.1 h
 
 in_other : (x n : ℕ) (xs : List ℕ) → class x ≡ lexing.other → Closed outside n xs → Closed outside n (x ∷ xs)
-in_other x n xs e h = let t = by_other (x == 34) (x == 92) (is_operator x) (is_space x) e in other_is x n xs t.0 t.1 h
+in_other x n xs e h = let t = classed x lexing.other e in other_is x n xs t.0 t.1 h
 
 string_byte : (x n : ℕ) (xs : List ℕ) → x ≢ 10 → x ≢ 34 → x ≢ 92 → Closed within n xs → Closed within n (x ∷ xs)
 string_byte x n xs f q s h = subst (λ p. Closed p n xs) (sym (stays x q s f)) h
@@ -429,14 +407,14 @@ step : (m : Mode) (c : Class) (x n : ℕ) (xs : List ℕ) → class x ≡ c → 
 step between lexing.quote x n xs e f fits go h =
     subst (λ y. Closed outside n (y ∷ xs)) (sym (is_quote x e)) (go in_string n tt (string_passed (content plain xs) n (lex in_string xs) h))
 step between lexing.backslash x n xs e f fits go h = absurd h
-step between lexing.operator x n xs e f fits go h = operator_is x n xs (by_operator (x == 34) (x == 92) (is_operator x) (is_space x) e) go h
+step between lexing.operator x n xs e f fits go h = operator_is x n xs (classed x lexing.operator e) go h
 step between lexing.space x n xs e f fits go h = space_is x n xs e (go between n tt h)
 step between lexing.other x n xs e f fits go h =
     let w = word_passed (x ∷ xs) (word (x ∷ xs)) n (lex in_word xs) (word_is (x ∷ xs)) h in
     in_other x n xs e (go in_word n (w.0.2 e) w.1)
 step in_word lexing.quote x n xs e f fits go h = absurd (fits.0 (is_quote x e))
 step in_word lexing.backslash x n xs e f fits go h = absurd (fits.1 (is_backslash x e))
-step in_word lexing.operator x n xs e f fits go h = operator_is x n xs (by_operator (x == 34) (x == 92) (is_operator x) (is_space x) e) go h
+step in_word lexing.operator x n xs e f fits go h = operator_is x n xs (classed x lexing.operator e) go h
 step in_word lexing.space x n xs e f fits go h = space_is x n xs e (go between n tt h)
 step in_word lexing.other x n xs e f fits go h = in_other x n xs e (go in_word n (fits.2 e) h)
 step in_string lexing.quote x n xs e f fits go h = subst (λ y. Closed within n (y ∷ xs)) (sym (is_quote x e)) (go between n tt h)

@@ -1,5 +1,6 @@
 -- Bytes written as hexadecimal digits, and rows of dumps: docs/TEXT.md, "Bytes in hexadecimal".
-use Rattle.std.specs.Prelude.{◌≡◌, ◌≢◌, ◌+◌, ◌-◌, ◌*◌, ◌==◌, ◌&&◌, ◌||◌, ⊤, ℕ, Bool, true, false, Option, Some, None, List, [], ◌∷◌, ◌++◌, length, if◌then◌else◌, nat_le}
+use Rattle.std.specs.Prelude.{◌≡◌, ◌≢◌, ◌+◌, ◌-◌, ◌*◌, ◌==◌, ◌&&◌, ◌||◌, ⊤, ℕ, Bool, true, false, Option, Some, None, List, [], ◌∷◌, ◌++◌, drop, length, if◌then◌else◌, nat_le}
+use Rattle.std.specs.List.{prefix_len}
 use Rattle.hex.specs.Hex.{hex_digit_value, is_hex_digit}
 use Rattle.spa_text_commands.specs.Texts.{is_space}
 use Rattle.spa_text_commands.specs.declared.answer.Failure.{Failure}
@@ -14,18 +15,16 @@ abbrev pub behind_line : List ℕ → List ℕ
 behind_line [] = []
 behind_line (x ∷ xs) = if x == 10 then xs else behind_line xs
 
--- what follows white space, and what follows digits
+-- what follows white space
 abbrev pub behind_space : List ℕ → List ℕ
-behind_space [] = []
-behind_space (x ∷ xs) = if is_space x then behind_space xs else x ∷ xs
+behind_space text = drop (prefix_len is_space text) text
+
+-- how many digits a text begins with, and what follows them
+abbrev pub digit_count : List ℕ → ℕ
+digit_count text = prefix_len is_hex_digit text
 
 abbrev pub behind_digits : List ℕ → List ℕ
-behind_digits [] = []
-behind_digits (x ∷ xs) = if is_hex_digit x then behind_digits xs else x ∷ xs
-
--- how many digits a text begins with
-abbrev pub digit_count : List ℕ → ℕ
-digit_count text = length text - length (behind_digits text)
+behind_digits text = drop (digit_count text) text
 
 -- an offset without a colon has six digits or more
 abbrev pub begins_with_offset : List ℕ → Bool

@@ -4,6 +4,7 @@ ghost use Rattle.hex.specs.Hex.{encode_lower};
 ghost use Rattle.spa_text_commands.specs.Dump as spec;
 ghost use Rattle.spa_text_commands.specs.Dump.{blanks, hex_lines, place_text, row_line, spaced};
 
+use hex::encode;
 use std::alloc::AllocError;
 
 /// How many bytes a line shows.
@@ -106,12 +107,8 @@ fn letter_of(byte: u8) -> u8
 pub(crate) fn add_hex(lines: &mut Vec<u8>, bytes: &[u8]) -> Result<(), AllocError>
     ensures { OnOk result (lines.new.items ≡ lines.old.items ++ encode_lower bytes.now) }
 {
-    let mut left = bytes;
-    while let Some((byte, behind)) = left.split_first() {
-        add_digits(lines, *byte)?;
-        left = behind;
-    }
-    Ok(())
+    let digits = encode(*lines.allocator(), bytes)?;
+    lines.extend_from_slice(digits.as_bytes())
 }
 
 /// Adds the two digits of a byte.

@@ -1,5 +1,6 @@
 //! Bytes read from hexadecimal digits, as `xxd`, `hexdump -C` and `od` write them.
 ghost use Rattle.std.specs.Prelude.{◌≡◌, ◌+◌, ◌-◌, ◌<◌, ◌≤◌, ◌++◌, [], Bool, IfErr, IfOk, IfSome, MatchOption, None, Some, length};
+ghost use Rattle.std.specs.List.{prefix_len};
 ghost use Rattle.hex.specs.Hex.{hex_digit_value};
 ghost use Rattle.spa_text_commands.specs.Hexadecimal as spec;
 ghost use Rattle.spa_text_commands.specs.Hexadecimal.{ReadsHexadecimal, RefusesHexadecimal, behind_line, first_line, said_in};
@@ -8,6 +9,7 @@ ghost use Rattle.spa_text_commands.specs.Texts as texts;
 
 use crate::answer::Failure;
 use crate::extent::split_line;
+use crate::reading::is_space;
 use std::alloc::{AllocError, Global};
 
 /// The fewest digits of an offset without a colon.
@@ -48,42 +50,37 @@ fn first_has_offset(input: &[u8]) -> bool
 }
 
 /// What follows white space.
-#[tactic(auto, using(crate::proofs::ReadHexadecimal::space_passed, crate::proofs::ReadHexadecimal::space_ended, crate::proofs::ReadHexadecimal::space_all))]
 fn behind_space(text: &[u8]) -> &[u8]
     ensures rest { result.now ≡ spec.behind_space text.now }
     ensures within { length result.now ≤ length text.now }
 {
-    let mut left = text;
-    while let Some((byte, behind)) = left.split_first() {
-        if !is_space(*byte) {
-            return left;
-        }
-        left = behind;
-    }
-    left
+    text.split_at(space_count(text)).1
+}
+
+/// How many bytes of white space a text begins with.
+fn space_count(text: &[u8]) -> usize
+    ensures count { result ≡ prefix_len texts.is_space text.now }
+    ensures within { result ≤ length text.now }
+{
+    text.iter().take_while(|byte| is_space(**byte)).count()
 }
 
 /// What follows digits.
-#[tactic(auto, using(crate::proofs::ReadHexadecimal::digit_passed, crate::proofs::ReadHexadecimal::digit_ended, crate::proofs::ReadHexadecimal::digits_all))]
 fn behind_digits(text: &[u8]) -> &[u8]
     ensures rest { result.now ≡ spec.behind_digits text.now }
     ensures within { length result.now ≤ length text.now }
 {
-    let mut left = text;
-    while let Some((byte, behind)) = left.split_first() {
-        if digit_value(*byte).is_none() {
-            return left;
-        }
-        left = behind;
-    }
-    left
+    text.split_at(digit_count(text)).1
 }
 
 /// How many digits a text begins with.
 fn digit_count(text: &[u8]) -> usize
-    ensures { result ≡ spec.digit_count text.now }
+    ensures count { result ≡ spec.digit_count text.now }
+    ensures within { result ≤ length text.now }
 {
-    text.len() - behind_digits(text).len()
+    text.iter()
+        .take_while(|byte| digit_value(**byte).is_some())
+        .count()
 }
 
 /// Whether a text begins with an offset without a colon, if it begins with one.
@@ -91,13 +88,6 @@ fn begins_with_offset(text: &[u8]) -> bool
     ensures { result ≡ spec.begins_with_offset text.now }
 {
     digit_count(text) >= OFFSET_LEN
-}
-
-/// Whether this is white space.
-fn is_space(byte: u8) -> bool
-    ensures { result ≡ texts.is_space byte }
-{
-    byte == b' ' || byte == b'\t' || byte == b'\r'
 }
 
 /// The value of a digit.

@@ -130,6 +130,7 @@ fn head_of_members<'a>(members: &'a [Value]) -> Option<Head<'a>>
 }
 
 /// Whether the value is the first member of a recorded message.
+#[tactic(auto, using(crate::proofs::Heads::no_mark))]
 fn is_mark(value: &Value) -> bool
     ensures { result ≡ is_mark (view value.now) }
 {
@@ -140,6 +141,7 @@ fn is_mark(value: &Value) -> bool
 }
 
 /// The truth value that a member says.
+#[tactic(auto, using(crate::proofs::Heads::no_truth))]
 fn bool_of(value: &Value) -> Option<bool>
     ensures { result ≡ bool_in (view value.now) }
 {
@@ -150,6 +152,7 @@ fn bool_of(value: &Value) -> Option<bool>
 }
 
 /// The number that a member says.
+#[tactic(auto, using(crate::proofs::Heads::no_number))]
 fn int_of(value: &Value) -> Option<i32>
     ensures { result ≡ int_in (view value.now) }
 {
@@ -160,6 +163,7 @@ fn int_of(value: &Value) -> Option<i32>
 }
 
 /// The number that a member says.
+#[tactic(auto, using(crate::proofs::Heads::no_wide))]
 fn long_of(value: &Value) -> Option<i64>
     ensures { result ≡ long_in (view value.now) }
 {
@@ -170,6 +174,7 @@ fn long_of(value: &Value) -> Option<i64>
 }
 
 /// The name that a member says, which is none where the member is None. None: it is another value.
+#[tactic(auto, using(crate::proofs::Heads::no_name))]
 fn name_of<'a>(value: &'a Value) -> Option<Option<&'a str>>
     ensures { option_map (λ name. option_map (λ s. s.now) name) result ≡ name_in (view value.now) }
 {

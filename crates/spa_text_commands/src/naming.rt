@@ -37,12 +37,7 @@ pub fn are_names(named: Named, names: &str) -> bool
     ensures named { result ≡ true → AreNames named names.now }
     ensures other { result ≡ false → ¬ (AreNames named names.now) }
 {
-    for name in names.split(',') {
-        if !is_name(named, name) {
-            return false;
-        }
-    }
-    true
+    names.split(',').all(|name| is_name(named, name))
 }
 
 /// Whether a type, or an id or a key of objects of some type, has this name, or this is the number of one.

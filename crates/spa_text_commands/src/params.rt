@@ -4,7 +4,7 @@ ghost use Rattle.json.specs.Tree.{HasNumbers, ItemsHaveNumbers, MembersHaveNumbe
 ghost use Rattle.json.specs.Value.{items_view, members_view, value_view};
 ghost use Rattle.spa_text.specs.Line.{HasNoEnd};
 ghost use Rattle.spa_text_commands.specs.Params as spec;
-ghost use Rattle.spa_text_commands.specs.Params.{AddsParam, AreItemsIn, AreMembersIn, PrintsParams, RefusesParams};
+ghost use Rattle.spa_text_commands.specs.Params.{AddsParam, IsValueIn, PrintsParams, RefusesParams};
 ghost use Rattle.spa_text_forms.specs.Forms.{IsTextAs};
 ghost use Rattle.spa_value.specs.View.{view};
 
@@ -15,7 +15,6 @@ use spa_text::{Cause, TextPrinter};
 use spa_text_forms::{Form, FreeReader};
 use spa_value::{Held, Value, same};
 use std::alloc::{AllocError, Global};
-use std::fmt::Write;
 
 /// Why pods aren't printed as `pw-dump` prints params.
 #[derive(Clone, Copy, Debug)]
@@ -204,9 +203,9 @@ fn put_members(
     ensures before { writer.new.before ≡ writer.old.before }
 {
     match first_key(members) {
-        "type" => match last_members(members) {
-            Some(props) => put_properties(alloc, props, writer),
-            None => Ok(false),
+        "type" => match last_value(members) {
+            Some(Json::Object(props)) => put_properties(alloc, props.as_slice(), writer),
+            _ => Ok(false),
         },
         "choice" | "array" | "struct" => put_values(alloc, members, writer),
         "width" | "num" => put_numbers(members, writer),
@@ -246,14 +245,14 @@ fn put_values(
     requires { MembersHaveNumbers (members_view members.now) }
     ensures before { writer.new.before ≡ writer.old.before }
 {
-    let Some(items) = last_items(members) else {
+    let Some(Json::Array(items)) = last_value(members) else {
         return Ok(false);
     };
     if first_key(members) != "choice" {
-        return put_items(alloc, None, items, writer);
+        return put_items(alloc, None, items.as_slice(), writer);
     }
     match shape_in(members) {
-        Some(shape) => put_items(alloc, Some(shape), items, writer),
+        Some(shape) => put_items(alloc, Some(shape), items.as_slice(), writer),
         None => Ok(false),
     }
 }
@@ -307,26 +306,12 @@ fn put_label(
     match (shape, place) {
         (None, _) => Ok(()),
         (Some(_), 0) => writer.key("default"),
-        (Some("Enum"), _) => put_numbered(alloc, "alt", place, writer),
-        (Some("Flags"), _) => put_numbered(alloc, "flag", place, writer),
+        (Some("Enum"), _) => writer.key(format!(in alloc; "alt{place}")?.as_str()),
+        (Some("Flags"), _) => writer.key(format!(in alloc; "flag{place}")?.as_str()),
         (Some(_), 1) => writer.key("min"),
         (Some(_), 2) => writer.key("max"),
         (Some(_), _) => writer.key("step"),
     }
-}
-
-/// Writes a label of this word and this number.
-fn put_numbered(
-    alloc: Global,
-    word: &str,
-    number: usize,
-    writer: &mut Writer,
-) -> Result<(), AllocError>
-    ensures before { writer.new.before ≡ writer.old.before }
-{
-    let mut label = String::new(alloc);
-    write!(label, "{word}{number}")?;
-    writer.key(label.as_str())
 }
 
 /// The key of the first of these members, if there is one.
@@ -339,46 +324,24 @@ fn first_key<'a>(members: &[(&'a str, Json<'_>)]) -> &'a str {
 
 /// The shape of the choice of these members, where they have it and its values alone, and it isn't None, whose default `pw-dump` prints plain.
 fn shape_in<'a>(members: &[(&str, Json<'a>)]) -> Option<&'a str> {
-    match members {
-        [shape, _] => shape_named(&shape.1),
-        _ => None,
-    }
-}
-
-/// The shape that a value names.
-fn shape_named<'a>(value: &Json<'a>) -> Option<&'a str> {
-    match value {
+    let [shape, _] = members else {
+        return None;
+    };
+    match &shape.1 {
         Json::String(name) => { if *name == "None" { None } else { Some(*name) } }
         _ => None,
     }
 }
 
-/// The values of the list that is last in these members.
-fn last_items<'a, 'b>(members: &'a [(&str, Json<'b>)]) -> Option<&'a [Json<'b>]>
+/// The value that is last in these members.
+fn last_value<'a, 'b>(members: &'a [(&str, Json<'b>)]) -> Option<&'a Json<'b>>
     requires { MembersHaveNumbers (members_view members.now) }
-    ensures { IfSome result (λ items. AreItemsIn items.now members.now) }
+    ensures { IfSome result (λ value. IsValueIn value.now members.now) }
 {
     let Some((last, _)) = members.split_last() else {
         return None;
     };
-    match &last.1 {
-        Json::Array(items) => Some(items.as_slice()),
-        _ => None,
-    }
-}
-
-/// The members of the object that is last in these.
-fn last_members<'a, 'b>(members: &'a [(&str, Json<'b>)]) -> Option<&'a [(&'b str, Json<'b>)]>
-    requires { MembersHaveNumbers (members_view members.now) }
-    ensures { IfSome result (λ inner. AreMembersIn inner.now members.now) }
-{
-    let Some((last, _)) = members.split_last() else {
-        return None;
-    };
-    match &last.1 {
-        Json::Object(inner) => Some(inner.as_slice()),
-        _ => None,
-    }
+    Some(&last.1)
 }
 
 /// Whether these properties are those of a format of video.

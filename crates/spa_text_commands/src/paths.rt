@@ -1,7 +1,5 @@
 //! The path from a top-level pod to one inside it.
-ghost use Rattle.std.specs.Prelude.{◌≡◌, ◌+◌, ◌<◌, ◌^◌, ◌&&◌, ◌++◌, IfOk, OnOk, length, nat_eq, nat_le, slice_index_or, string_bytes};
-ghost use Rattle.spa_format.specs.Tree.{object_type};
-ghost use Rattle.spa_format.specs.Words.{header_size};
+ghost use Rattle.std.specs.Prelude.{◌≡◌, ◌+◌, ◌<◌, ◌^◌, ◌++◌, IfOk, OnOk, length, slice_index_or, string_bytes};
 ghost use Rattle.spa_text_commands.specs.Numbers.{AreNumbers, IsCountedIn};
 ghost use Rattle.spa_text_commands.specs.Paths as spec;
 ghost use Rattle.spa_text_commands.specs.Paths.{is_keyed, is_object_in, numbered, path_to, step_in};
@@ -40,14 +38,8 @@ pub(crate) fn event_at(events: &[Event], number: usize) -> Event
 pub(crate) fn is_object_in(pod: &[u8], event: Event) -> bool
     ensures { result ≡ is_object_in pod.now event }
 {
-    is_object(event) && OBJECT_LEN <= pod.len().saturating_sub(event.at)
-}
-
-/// Whether the event is of an object that has room for its type and id.
-fn is_object(event: Event) -> bool
-    ensures { result ≡ (nat_eq event.type_ object_type && nat_le header_size event.size) }
-{
-    event.type_ == SpaTypes::Object.0 && HEADER_LEN <= event.size as usize
+    (event.type_ == SpaTypes::Object.0 && HEADER_LEN <= event.size as usize)
+        && OBJECT_LEN <= pod.len().saturating_sub(event.at)
 }
 
 /// Whether a key and flags stand before this byte.

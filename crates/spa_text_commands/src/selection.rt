@@ -91,12 +91,7 @@ pub(crate) fn is_asked(names: Option<&str>, table: Table, number: u32) -> bool
 pub(crate) fn is_among(table: Table, number: u32, names: &str) -> bool
     ensures { result ≡ spec.is_among table number names.now }
 {
-    for name in names.split(',') {
-        if is_named(table, number, name) {
-            return true;
-        }
-    }
-    false
+    names.split(',').any(|name| is_named(table, number, name))
 }
 
 /// Whether a number of this table has this name, or these digits.

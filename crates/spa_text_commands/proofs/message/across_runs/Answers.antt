@@ -3,7 +3,7 @@ use Rattle.spa_format.specs.Tree.{struct}
 use Rattle.spa_value.proofs.ViewLaws.{view-struct}
 use Rattle.spa_value.specs.View.{view}
 use Rattle.spa_text_commands.specs.Messages.{across_runs}
-use Rattle.spa_text_commands.proofs.Heads.{no_struct}
+use Rattle.spa_text_commands.proofs.Heads.{no_message, no_struct}
 use Rattle.spa_text_commands.proofs.message.across_runs.Goals as goal
 
 pub returns-in-Struct : goal.returns-in-Struct
@@ -12,4 +12,4 @@ returns-in-Struct c =
     ∙ sym (ap across_runs (ap view c.in-Struct.is ∙ view-struct c.in-Struct.members))
 
 pub returns-in_default : goal.returns-in_default
-returns-in_default c = sym (no_struct c.args.value c.in_default.not-Struct).1
+returns-in_default c = sym (no_message _ (no_struct c.args.value c.in_default.not-Struct)).1

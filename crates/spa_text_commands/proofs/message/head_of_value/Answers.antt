@@ -3,7 +3,7 @@ use Rattle.spa_value.proofs.ViewLaws.{view-struct}
 use Rattle.spa_value.specs.View.{view}
 use Rattle.spa_value.specs.Views.{views}
 use Rattle.spa_text_commands.specs.Messages.{head_in, message_in}
-use Rattle.spa_text_commands.proofs.Heads.{no_struct, struct_head}
+use Rattle.spa_text_commands.proofs.Heads.{no_message, no_struct, struct_head}
 use Rattle.spa_text_commands.proofs.message.head_of_value.Goals as goal
 
 pub returns-in-Struct : goal.returns-in-Struct
@@ -13,4 +13,4 @@ returns-in-Struct c =
     ∙ sym (ap head_in (ap view c.in-Struct.is ∙ view-struct c.in-Struct.members))
 
 pub returns-in_default : goal.returns-in_default
-returns-in_default c = sym (no_struct c.args.value.now c.in_default.not-Struct).0
+returns-in_default c = sym (no_message _ (no_struct c.args.value.now c.in_default.not-Struct)).0

@@ -1,31 +1,25 @@
-use Rattle.std.proofs.Common.{arith, subst}
-use Rattle.std.specs.List.{All}
-use Rattle.std.proofs.lemmas.Iterator.Consumers.{YieldsList-at, YieldsList-end, YieldsList-turn}
+use Rattle.std.proofs.Common.{◌∙◌, ◌<◌, ℕ, List, arith, length, rules, subst, sym, tests, true≢false}
+use Rattle.std.specs.Bool.{MatchBool}
+use Rattle.std.specs.List.{AllWithin, HoldsAt}
+use Rattle.std.proofs.lemmas.Iterator.{cases_from_all}
+use Rattle.std.proofs.lemmas.Iterator.Search.{true_from_All}
 use Rattle.std.proofs.lemmas.Iterator.Splits.{YieldsList-from_str_split}
+use Rattle.std.proofs.lemmas.List.Elements.{All-from_all_within}
 use Rattle.spa_text_commands.specs.Naming.{IsName}
 use Rattle.spa_text_commands.specs.Selection.{names_in}
-use Rattle.spa_text_commands.proofs.Named.{all_more, one_lacks}
 use Rattle.spa_text_commands.proofs.naming.are_names.Goals as goal
 
-pub loop-name-preserved : goal.loop-name-preserved
-loop-name-preserved c =
-    (tt, tt, all_more (IsName c.args.named) c.loop-name.yielded c.in-Some.name c.loop-name.invariant.2 (c.is_name.ensures.named c.if-not-is_name.false))
-
-pub returns-then-not-is_name-clause-other : goal.returns-then-not-is_name-clause-other
-returns-then-not-is_name-clause-other c =
-    let split = c.split-name-items.ensures in
-    let seen =
-    YieldsList-at c.into_iter-name-iterator.ensures.into_iter_gives
-    (YieldsList-from_str_split 44 c.args.names.now (omega arith) split.text split.has_more split.pattern) in
-    λ e. one_lacks (IsName c.args.named) (names_in c.args.names.now) _ c.in-Some.name.now
-    (YieldsList-turn seen c.loop-name.yielded _ c.loop-name.yielded_by _ _ c.in-Some.name c.in-Some.is c.next.ensures.steps)
-    (c.is_name.ensures.other c.if-not-is_name.true)
-
-pub returns-clause-named : goal.returns-clause-named
-returns-clause-named c =
-    let split = c.split-name-items.ensures in
-    let seen =
-    YieldsList-at c.into_iter-name-iterator.ensures.into_iter_gives
-    (YieldsList-from_str_split 44 c.args.names.now (omega arith) split.text split.has_more split.pattern) in
-    λ e. subst (All (IsName c.args.named))
-    (YieldsList-end seen c.loop-name.yielded _ c.loop-name.yielded_by _ _ c.in-None.is c.next.ensures.steps).0 c.loop-name.invariant.2
+pub returns : goal.returns
+returns c =
+    let Is = IsName c.args.named in
+    let names = names_in c.args.names.now in
+    let split = c.split.ensures in
+    let tested : MatchBool c.all.result (AllWithin Is names 0 (length names)) ((k : ℕ) × (k < length names) × HoldsAt (λ name. ¬ (Is name)) names k) =
+    cases_from_all _ _ c.all.result Is (λ name. ¬ (Is name)) c.all.ensures.ran
+    (YieldsList-from_str_split 44 c.args.names.now (omega arith) split.text split.has_more split.pattern) (λ x q k. search (rules, tests))
+    (λ x q k. search (rules, tests)) in
+    record {
+      named = λ t. All-from_all_within Is names
+          (subst (λ b. MatchBool b (AllWithin Is names 0 (length names)) ((k : ℕ) × (k < length names) × HoldsAt (λ name. ¬ (Is name)) names k)) t tested);
+      other = λ f all. true≢false (sym (true_from_All Is (λ name. ¬ (Is name)) c.all.result names (λ x is not. not is) tested all) ∙ f);
+    }

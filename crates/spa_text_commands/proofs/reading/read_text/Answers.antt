@@ -1,10 +1,10 @@
-use Rattle.std.proofs.Common.{inr, subst}
+use Rattle.std.proofs.Common.{inl, inr, subst}
 use Rattle.spa_text_forms.specs.Forms.{IsTextAs}
-use Rattle.spa_text_commands.proofs.ReadTexts.{is_for, no_value, not_utf8}
+use Rattle.spa_text_commands.proofs.ReadTexts.{is_for, no_value}
 use Rattle.spa_text_commands.proofs.reading.read_text.Goals as goal
 
 pub returns-in-Err-clause-refused : goal.returns-in-Err-clause-refused
-returns-in-Err-clause-refused c = is_for _ _ _ (not_utf8 _ _ c.in-Err.ensures.cases.0) c.unread_at.ensures
+returns-in-Err-clause-refused c = is_for _ _ _ (inl c.in-Err.ensures.cases.0) c.unread_at.ensures
 
 pub returns-in-Some-clause-refused : goal.returns-in-Some-clause-refused
 returns-in-Some-clause-refused c =

@@ -1,6 +1,0 @@
-use Rattle.std.proofs.Common.{sym}
-use Rattle.spa_text_commands.proofs.Heads.{no_number}
-use Rattle.spa_text_commands.proofs.message.int_of.Goals as goal
-
-pub returns-in_default : goal.returns-in_default
-returns-in_default c = sym (no_number c.args.value.now c.in_default.not-Int)

@@ -28,12 +28,8 @@ Ends n (Token.begin_object ∷ ts) = Ends (n + 1) ts
 Ends n (Token.end_object ∷ ts) = Ends (n - 1) ts
 Ends n (Token.begin_array ∷ ts) = Ends (n + 1) ts
 Ends n (Token.end_array ∷ ts) = Ends (n - 1) ts
-Ends n (Token.key s ∷ ts) = Ends n ts
-Ends n (Token.string s ∷ ts) = Ends n ts
-Ends n (Token.number s ∷ ts) = Ends n ts
-Ends n (Token.boolean b ∷ ts) = Ends n ts
-Ends n (Token.null ∷ ts) = Ends n ts
 Ends n (Token.bad ∷ ts) = ⊥
+Ends n (_ ∷ ts) = Ends n ts
 
 -- what is read before the second tokens leaves as many open, or one more, or one fewer
 abbrev pub Keeps : (ts us : List Token) → Type 0
@@ -201,10 +197,7 @@ begun_if false ts us e = absurd (none-some us e)
 abbrev Tagged : Opened → (ts us : List Token) → Type 0
 Tagged (leaf l) ts us = Closes ts us
 Tagged (begun (a_struct false)) ts us = ⊥
-Tagged (begun (a_struct true)) ts us = Begins ts us
-Tagged (begun (an_array t k)) ts us = Begins ts us
-Tagged (begun (a_choice s f t k)) ts us = Begins ts us
-Tagged (begun (an_object t i)) ts us = Begins ts us
+Tagged (begun _) ts us = Begins ts us
 
 ending_tagged : {A : Type 0} (f : A → Leaf) (r : Option (A × List Token)) (o : Opened) (ts us : List Token) →
     ((x : A) (vs : List Token) → r ≡ Some (x, vs) → Keeps ts vs) → ending f r ≡ Some (o, us) → Tagged o ts us
@@ -277,18 +270,12 @@ tagged c tag.Other o ts us e = absurd (none-some _ e)
 abbrev Opens : Opened → (ts us : List Token) → Type 0
 Opens (leaf l) ts us = Keeps ts us
 Opens (begun (a_struct false)) ts us = Begins ts us
-Opens (begun (a_struct true)) ts us = (n : ℕ) → Ends (n + 1 + 1) us → Ends n ts
-Opens (begun (an_array t k)) ts us = (n : ℕ) → Ends (n + 1 + 1) us → Ends n ts
-Opens (begun (a_choice s f t k)) ts us = (n : ℕ) → Ends (n + 1 + 1) us → Ends n ts
-Opens (begun (an_object t i)) ts us = (n : ℕ) → Ends (n + 1 + 1) us → Ends n ts
+Opens (begun _) ts us = (n : ℕ) → Ends (n + 1 + 1) us → Ends n ts
 
 behind_key : (o : Opened) (all ts us : List Token) → Begins all ts → Tagged o ts us → Opens o all us
 behind_key (leaf l) all ts us b t = λ n h. b n (t n h)
 behind_key (begun (a_struct false)) all ts us b t = absurd t
-behind_key (begun (a_struct true)) all ts us b t = λ n h. b n (t (n + 1) h)
-behind_key (begun (an_array q k)) all ts us b t = λ n h. b n (t (n + 1) h)
-behind_key (begun (a_choice s f q k)) all ts us b t = λ n h. b n (t (n + 1) h)
-behind_key (begun (an_object q i)) all ts us b t = λ n h. b n (t (n + 1) h)
+behind_key (begun _) all ts us b t = λ n h. b n (t (n + 1) h)
 
 one_token : (q o : Opened) (all ts us : List Token) → Opens q all ts → and_then ts (Some q) ≡ Some (o, us) → Opens o all us
 one_token q o all ts us k e = subst (λ p. Opens p.0 all p.1) (same_Some (q, ts) (o, us) e) k
@@ -397,11 +384,7 @@ mutual
   value_kept (object t i ps) c h all ts rest a e =
       let o = opened c h _ all ts e.0 a e.2 in
       λ n z. o n (properties_closed (keys_of t) ps e.0 e.1 e.3 (n + 1) (closed_object e.1 rest e.4 n z))
-  value_kept (fixed x) c h all ts rest a e = opened c h _ all ts rest a e
-  value_kept (Tree.string x) c h all ts rest a e = opened c h _ all ts rest a e
-  value_kept (bytes x) c h all ts rest a e = opened c h _ all ts rest a e
-  value_kept (bitmap x) c h all ts rest a e = opened c h _ all ts rest a e
-  value_kept (pointer t x) c h all ts rest a e = opened c h _ all ts rest a e
+  value_kept _ c h all ts rest a e = opened c h _ all ts rest a e
 
   members_closed : (vs : Trees) (ts rest : List Token) → AreMembers vs ts rest → Closes ts rest
   members_closed no_trees ts rest e = closed_array ts rest e

@@ -1,5 +1,6 @@
 -- What values say as members of recorded messages.
 use Rattle.std.proofs.Common.{◌≡◌, ◌≢◌, ◌<◌, ℕ, Bool, true, false, ◌==◌, List, [], ◌∷◌, ◌++◌, ◌≤◌, append_assoc, arith, length, pos, refl, sym, ap, subst, ◌∙◌, true≢false, Option, Some, None, is_some, option_map, slice_set}
+use Rattle.std.proofs.lemmas.Option.{none-some}
 use Rattle.std.specs.Prelude.{◌&&◌, if◌then◌else◌, not, nat_lt}
 use Rattle.spa_format.specs.Kind.{none, bool, int, long}
 use Rattle.spa_format.specs.Tree.{Tree, Trees, fixed, string, struct, type_of, array_type, choice_type, object_type, struct_type}
@@ -111,31 +112,28 @@ few_members (a ∷ b ∷ c ∷ d ∷ e ∷ f ∷ g ∷ h ∷ []) l = refl
 few_members (a ∷ b ∷ c ∷ d ∷ e ∷ f ∷ g ∷ h ∷ i ∷ vs) l = absurd (omega (arith, l))
 
 -- what is found to be one has five members or more,
-pub some_message : (h : Option Head) (vs : List Value) → option_map message_of h ≡ message_in (views vs) → is_some h ≡ true →
-    is_some (message_in (views vs)) ≡ true
-some_message None vs e s = absurd (true≢false (sym s))
-some_message (Some h) vs e s = sym (ap is_some e)
-
-pub five_members : (vs : List Value) → is_some (message_in (views vs)) ≡ true → 5 ≤ length vs
-five_members [] s = absurd (true≢false (sym s))
-five_members (a ∷ []) s = absurd (true≢false (sym s))
-five_members (a ∷ b ∷ []) s = absurd (true≢false (sym s))
-five_members (a ∷ b ∷ c ∷ []) s = absurd (true≢false (sym s))
-five_members (a ∷ b ∷ c ∷ d ∷ []) s = absurd (true≢false (sym s))
-five_members (a ∷ b ∷ c ∷ d ∷ e ∷ vs) s = omega arith
+pub five_members : (h : Option Head) (vs : List Value) → is_some h ≡ true → option_map message_of h ≡ message_in (views vs) → 5 ≤ length vs
+five_members None vs s e = absurd (true≢false (sym s))
+five_members (Some h) [] s e = absurd (none-some _ (sym e))
+five_members (Some h) (a ∷ []) s e = absurd (none-some _ (sym e))
+five_members (Some h) (a ∷ b ∷ []) s e = absurd (none-some _ (sym e))
+five_members (Some h) (a ∷ b ∷ c ∷ []) s e = absurd (none-some _ (sym e))
+five_members (Some h) (a ∷ b ∷ c ∷ d ∷ []) s e = absurd (none-some _ (sym e))
+five_members (Some h) (a ∷ b ∷ c ∷ d ∷ e ∷ vs) s m = omega arith
 
 -- of which two become 0
-pub without_both : (vs : List Value) → is_some (message_in (views vs)) ≡ true →
+pub without_both : (h : Option Head) (vs : List Value) → is_some h ≡ true → option_map message_of h ≡ message_in (views vs) →
     views (slice_set (slice_set vs 1 (V.Long (pos 0))) 4 (V.Int (pos 0)))
     ≡ (if is_some (message_in (views vs)) then without_run (views vs) else views vs)
-without_both [] s = absurd (true≢false (sym s))
-without_both (a ∷ []) s = absurd (true≢false (sym s))
-without_both (a ∷ b ∷ []) s = absurd (true≢false (sym s))
-without_both (a ∷ b ∷ c ∷ []) s = absurd (true≢false (sym s))
-without_both (a ∷ b ∷ c ∷ d ∷ []) s = absurd (true≢false (sym s))
-without_both (a ∷ b ∷ c ∷ d ∷ e ∷ vs) s =
+without_both None vs s e = absurd (true≢false (sym s))
+without_both (Some h) [] s e = absurd (none-some _ (sym e))
+without_both (Some h) (a ∷ []) s e = absurd (none-some _ (sym e))
+without_both (Some h) (a ∷ b ∷ []) s e = absurd (none-some _ (sym e))
+without_both (Some h) (a ∷ b ∷ c ∷ []) s e = absurd (none-some _ (sym e))
+without_both (Some h) (a ∷ b ∷ c ∷ d ∷ []) s e = absurd (none-some _ (sym e))
+without_both (Some h) (a ∷ b ∷ c ∷ d ∷ e ∷ vs) s m =
     let all = views (a ∷ b ∷ c ∷ d ∷ e ∷ vs) in
-    subst (λ t. without_run all ≡ (if t then without_run all else all)) (sym s) refl
+    ap (λ o. if is_some o then without_run all else all) m
 
 -- the parts of a head behind one another
 pub head_put : (old first second third new time way whose method : List ℕ) → first ≡ old ++ time → second ≡ first ++ way → third ≡ second ++ whose →

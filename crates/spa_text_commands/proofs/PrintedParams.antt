@@ -18,16 +18,15 @@ use Rattle.spa_text.specs.Line.{HasNoEnd}
 use Rattle.spa_text.proofs.Lines.{no_end-print}
 use Rattle.spa_text_commands.specs.Params.{IsValueIn, RefusesParams, cause_of}
 use Rattle.spa_text_commands.specs.Texts.{RefusesPods}
-use Rattle.spa_text_commands.specs.declared.answer.Failure.TheVariants.{NoPods, Line, OutOfMemory, WriteFailed}
+use Rattle.spa_text_commands.specs.declared.answer.Failure.TheVariants.{NoPods, OutOfMemory}
 use Rattle.spa_text_commands.specs.declared.answer.Failure.{Failure}
 use Rattle.spa_text_commands.specs.declared.params.Unprinted.{Unprinted}
 
 -- why pods aren't printed is why they aren't read
 pub not_printed : (start : List ℕ) (why : Failure) (r : Unprinted) → RefusesPods start why → r ≡ cause_of why → RefusesParams start r
 not_printed start NoPods r h e = subst (RefusesParams start) (sym e) h
-not_printed start (Line n c k w p m) r h e = absurd h
 not_printed start OutOfMemory r h e = subst (RefusesParams start) (sym e) tt
-not_printed start WriteFailed r h e = absurd h
+not_printed start _ r h e = absurd h
 
 -- the last of some members has numbers, and fewer tokens than they
 pub last_numbers : {A : Type 0} (ms : List (Bor (List ℕ) × Json A)) (m : Bor (List ℕ) × Json A) → MembersHaveNumbers (members_view (ms ++ m ∷ [])) →

@@ -11,7 +11,7 @@ use Rattle.spa_format.proofs.Sequences.{members_joined, members_push}
 use Rattle.spa_text_commands.specs.Unread.{AddsLine, AddsTextLine, AddsTexts, IsBegun, IsMarked, IsNoFront}
 use Rattle.spa_text_commands.specs.Texts.{AreTexts, RefusesPods, head_field, in_fields, path_field, wrapped}
 use Rattle.spa_text_commands.specs.declared.answer.Failure.{Failure}
-use Rattle.spa_text_commands.specs.declared.answer.Failure.TheVariants.{NoPods, Line, OutOfMemory, WriteFailed}
+use Rattle.spa_text_commands.specs.declared.answer.Failure.TheVariants.{NoPods, OutOfMemory}
 
 -- how far the loop over pods is: some first ones are printed, and this is left
 pub record PrintedSoFar (IsText : Tree → List ℕ → Type 0) (start left old out : List ℕ) : Type 0 where
@@ -132,9 +132,8 @@ front_refused input first left vs NoPods whole members some h =
       no_pod = h;
       refused = λ us m. refused_behind_members vs us first left members more h (subst (AreMembers us) whole m);
     }
-front_refused input first left vs (Line n c k w p m) whole members some h = absurd h
 front_refused input first left vs OutOfMemory whole members some h = tt
-front_refused input first left vs WriteFailed whole members some h = absurd h
+front_refused input first left vs _ whole members some h = absurd h
 
 -- nor where what follows them isn't
 pub rest_refused : (input first left : List ℕ) (vs : Trees) (why : Failure) → input ≡ first ++ left → AreMembers vs first → RefusesPods left why →
@@ -144,9 +143,8 @@ rest_refused input first left vs NoPods whole members h =
     front_refused input (first ++ b.1) h.left (join_members vs b.0) NoPods
     (whole ∙ ap (λ l. first ++ l) b.2 ∙ sym (append_assoc first b.1 h.left)) (members_joined vs b.0 first b.1 members b.3)
     (λ z. b.4 (nil_from_length h.left z)) h.no_pod
-rest_refused input first left vs (Line n c k w p m) whole members h = absurd h
 rest_refused input first left vs OutOfMemory whole members h = tt
-rest_refused input first left vs WriteFailed whole members h = absurd h
+rest_refused input first left vs _ whole members h = absurd h
 
 pub stops : (IsText : Tree → List ℕ → Type 0) (start left old out : List ℕ) (why : Failure) → PrintedSoFar IsText start left old out →
     ¬ (length left ≡ 0) → IsNoFront left why → RefusesPods start why

@@ -6,7 +6,7 @@ use Rattle.hex.specs.Hex.{hex_digit_value}
 use Rattle.spa_text_commands.specs.Hexadecimal.{BeginLines, ReadsHexadecimal, RefusesHexadecimal, begins_letters, begins_with_offset, behind_colon, behind_digits, behind_line, behind_space, bytes_behind, bytes_in, ends_row, first_has_offset, first_line, is_between, no_line, one_line, said, said_in, with_byte}
 use Rattle.spa_text_commands.specs.ReadingHexadecimal.{IsLineAt, IsNext, SaysMore}
 use Rattle.spa_text_commands.specs.declared.answer.Failure.{Failure}
-use Rattle.spa_text_commands.specs.declared.answer.Failure.TheVariants.{NoPods, Line, OutOfMemory, WriteFailed}
+use Rattle.spa_text_commands.specs.declared.answer.Failure.TheVariants.{Line, OutOfMemory}
 use Rattle.spa_text_commands.specs.declared.hexadecimal.Next.TheVariants.{End, Between, Byte, Other}
 
 -- ---- The first line
@@ -207,9 +207,7 @@ some_left xs h = λ e. let l = ap length e in omega (arith, l, h)
 pub not_said : (input left bytes new line : List ℕ) (lines unread : ℕ) (offsets : Bool) (why : Failure) → LinesSoFar input left bytes lines →
     line ≡ first_line left → offsets ≡ first_has_offset input → SaysMore (said_in offsets line) bytes new unread → 0 < unread →
     IsLineAt (lines + 1) (length line - unread + 1) why → RefusesHexadecimal input why
-not_said input left bytes new line lines unread offsets NoPods so e o s u w = absurd w
 not_said input left bytes new line lines unread offsets OutOfMemory so e o s u w = tt
-not_said input left bytes new line lines unread offsets WriteFailed so e o s u w = absurd w
 not_said input left bytes new line lines unread offsets (Line l c kind words path misfit) so e o s u w =
     let same : said_in offsets line ≡ said_in (first_has_offset input) (first_line left) =
     ap (λ f. said_in f line) o ∙ ap (said_in (first_has_offset input)) e in
@@ -223,3 +221,4 @@ not_said input left bytes new line lines unread offsets (Line l c kind words pat
       its_line = w.0;
       its_column = w.1 ∙ ap (λ t. length t - unread + 1) e ∙ ap (λ k. length (first_line left) - k + 1) count;
     }
+not_said input left bytes new line lines unread offsets _ so e o s u w = absurd w

@@ -19,7 +19,7 @@ use Rattle.spa_text_commands.specs.Unread.{AddsText, AreUnwritable, IsFor, IsFou
 use Rattle.spa_text_commands.specs.declared.reading.Found.{Found}
 use Rattle.spa_text_commands.specs.declared.reading.Found.TheVariants as found
 use Rattle.spa_text_commands.specs.declared.answer.Failure.{Failure}
-use Rattle.spa_text_commands.specs.declared.answer.Failure.TheVariants.{NoPods, Line, OutOfMemory, WriteFailed}
+use Rattle.spa_text_commands.specs.declared.answer.Failure.TheVariants.{Line, OutOfMemory}
 use Rattle.spa_text_commands.specs.declared.reading.Unread.{Unread}
 use Rattle.spa_text_commands.specs.declared.reading.Unread.TheVariants as unread
 use Rattle.spa_text_read.specs.declared.cause.Cause.{Cause}
@@ -112,7 +112,6 @@ refused_at f text part k first line column none cut l c = record {
 
 pub not_read : (f : Form) (input left text behind pods : List ℕ) (line : ℕ) (why : Failure) → ReadSoFar f input left pods → BeginsText left text behind →
     line ≡ line_behind 1 (take (length input - length left) input) → IsNoText f text line why → RefusesTexts f input why
-not_read f input left text behind pods line NoPods so b is h = absurd h
 not_read f input left text behind pods line (Line l c k w p m) so b is h = record {
   values = so.values;
   before = so.before;
@@ -125,7 +124,7 @@ not_read f input left text behind pods line (Line l c k w p m) so b is h = recor
   refused = subst (λ n. IsRefusedAt f text n l c) (is ∙ ap (line_behind 1) (before_is f input left pods so)) h;
 }
 not_read f input left text behind pods line OutOfMemory so b is h = tt
-not_read f input left text behind pods line WriteFailed so b is h = absurd h
+not_read f input left text behind pods line _ so b is h = absurd h
 
 -- ---- Why a text has no pod
 

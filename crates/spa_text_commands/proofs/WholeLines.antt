@@ -137,20 +137,10 @@ placed : (p : At) (ls : List Lexeme) (n : ℕ) → Ends n (punctuate p ls) → L
 unfolding punctuate
 placed fresh [] n h = h
 placed after_value [] n h = h
-placed after_comma [] n h = absurd h
-placed after_key [] n h = absurd h
-placed fresh (token t ∷ ls) n h = token_placed fresh t (begins_colon ls) (λ q. punctuate q ls) n ls (λ q m z. placed q ls m z) h
-placed after_value (token t ∷ ls) n h = token_placed after_value t (begins_colon ls) (λ q. punctuate q ls) n ls (λ q m z. placed q ls m z) h
-placed after_comma (token t ∷ ls) n h = token_placed after_comma t (begins_colon ls) (λ q. punctuate q ls) n ls (λ q m z. placed q ls m z) h
-placed after_key (token t ∷ ls) n h = token_placed after_key t (begins_colon ls) (λ q. punctuate q ls) n ls (λ q m z. placed q ls m z) h
-placed fresh (comma ∷ ls) n h = absurd h
+placed p (token t ∷ ls) n h = token_placed p t (begins_colon ls) (λ q. punctuate q ls) n ls (λ q m z. placed q ls m z) h
 placed after_value (comma ∷ ls) n h = placed after_comma ls n h
-placed after_comma (comma ∷ ls) n h = absurd h
-placed after_key (comma ∷ ls) n h = absurd h
-placed fresh (colon ∷ ls) n h = absurd h
-placed after_value (colon ∷ ls) n h = absurd h
-placed after_comma (colon ∷ ls) n h = absurd h
 placed after_key (colon ∷ ls) n h = placed fresh ls n h
+placed _ _ n h = absurd h
 
 -- ---- Bytes
 
@@ -196,93 +186,101 @@ is_backslash x e = eqb-true x 92 (classed x lexing.backslash e)
 -- ---- Words
 
 -- no quote and no backslash stands in the rest of a word
-abbrev Bare : List ℕ → Type 0
-Bare [] = ⊤
-Bare (x ∷ xs) = (x ≢ 34) × (x ≢ 92) × (class x ≡ lexing.other → Bare xs)
+abbrev bare_byte : Class → Bool → Bool
+bare_byte lexing.quote rest = false
+bare_byte lexing.backslash rest = false
+bare_byte lexing.operator rest = true
+bare_byte lexing.space rest = true
+bare_byte lexing.other rest = rest
 
-bare_end : (t : List ℕ) → ends_word t ≡ true → Bare t
-bare_end [] h = tt
-bare_end (x ∷ xs) h = (
-  (λ e. true≢false (sym h ∙ ap (λ y. is_operator y || is_space y) e)),
-  (λ e. true≢false (sym h ∙ ap (λ y. is_operator y || is_space y) e)),
-  λ e.
-      let o = classed x lexing.other e in
-      absurd (true≢false (sym h ∙ ap (λ b. b || is_space x) o.1 ∙ o.2)),
-)
+abbrev bare : List ℕ → Bool
+bare [] = true
+bare (x ∷ xs) = bare_byte (class x) (bare xs)
 
-bare_one : (c : ℕ) (t : List ℕ) → c ≢ 34 → c ≢ 92 → (head t == c) ≡ true → Bare (drop 1 t) → Bare t
-bare_one c [] p q e h = tt
-bare_one c (x ∷ xs) p q e h = let i = eqb-true x c e in ((λ z. p (sym i ∙ z)), (λ z. q (sym i ∙ z)), λ o. h)
+bare_by : (q b o s rest : Bool) → ¬ (q ≡ true) → ¬ (b ≡ true) → ((o || s) ≡ false → rest ≡ true) → bare_byte (class_by q b o s) rest ≡ true
+bare_by true b o s rest p r h = absurd (p refl)
+bare_by false true o s rest p r h = absurd (r refl)
+bare_by false false true s rest p r h = refl
+bare_by false false false true rest p r h = refl
+bare_by false false false false rest p r h = h refl
 
-digits_at : (b : Bool) (x : ℕ) (xs : List ℕ) (n : ℕ) → is_ascii_digit x ≡ b → (Bare (drop n xs) → Bare xs) →
-    Bare (drop (cond b (1 + n) 0) (x ∷ xs)) → Bare (x ∷ xs)
+-- a byte that passes a test which neither passes
+bare_first : (test : ℕ → Bool) (x : ℕ) (xs : List ℕ) → test x ≡ true → test 34 ≡ false → test 92 ≡ false →
+    ((is_operator x || is_space x) ≡ false → bare xs ≡ true) → bare (x ∷ xs) ≡ true
+bare_first test x xs t q b h =
+    bare_by (x == 34) (x == 92) (is_operator x) (is_space x) (bare xs) (λ z. true≢false (sym t ∙ ap test (eqb-true x 34 z) ∙ q))
+    (λ z. true≢false (sym t ∙ ap test (eqb-true x 92 z) ∙ b)) h
+
+bare_end : (t : List ℕ) → ends_word t ≡ true → bare t ≡ true
+bare_end [] h = refl
+bare_end (x ∷ xs) h = bare_first (λ y. is_operator y || is_space y) x xs h refl refl (λ z. absurd (true≢false (sym h ∙ z)))
+
+bare_one : (c : ℕ) (t : List ℕ) → ((rest : Bool) → bare_byte (class c) rest ≡ rest) → (head t == c) ≡ true → bare (drop 1 t) ≡ true → bare t ≡ true
+bare_one c [] is e h = refl
+bare_one c (x ∷ xs) is e h = ap (λ y. bare_byte (class y) (bare xs)) (eqb-true x c e) ∙ is (bare xs) ∙ h
+
+digits_at : (b : Bool) (x : ℕ) (xs : List ℕ) (n : ℕ) → is_ascii_digit x ≡ b → (bare (drop n xs) ≡ true → bare xs ≡ true) →
+    bare (drop (cond b (1 + n) 0) (x ∷ xs)) ≡ true → bare (x ∷ xs) ≡ true
 digits_at false x xs n e ih h = h
 digits_at true x xs n e ih h =
-    let s : 1 + n ≡ suc n = omega arith in (
-      (λ z. true≢false (sym e ∙ ap is_ascii_digit z)),
-      (λ z. true≢false (sym e ∙ ap is_ascii_digit z)),
-      λ o. ih (subst (λ k. Bare (drop k (x ∷ xs))) s h),
-    )
+    let s : 1 + n ≡ suc n = omega arith in
+    bare_first is_ascii_digit x xs e refl refl (λ z. ih (subst (λ k. bare (drop k (x ∷ xs)) ≡ true) s h))
 
-bare_digits : (t : List ℕ) → Bare (drop (prefix_len is_ascii_digit t) t) → Bare t
+bare_digits : (t : List ℕ) → bare (drop (prefix_len is_ascii_digit t) t) ≡ true → bare t ≡ true
 bare_digits [] h = h
 bare_digits (x ∷ xs) h = digits_at (is_ascii_digit x) x xs (prefix_len is_ascii_digit xs) refl (bare_digits xs) h
 
 -- what follows a part is bare, where there is such a part
 abbrev Then : Option (List ℕ) → Type 0
 Then None = ⊥
-Then (Some rest) = Bare rest
+Then (Some rest) = bare rest ≡ true
 
 by_test : (b : Bool) (x y : Option (List ℕ)) (P : Type 0) → (b ≡ true → Then x → P) → (Then y → P) → Then (cond b x y) → P
 by_test true x y P f g h = f refl h
 by_test false x y P f g h = g h
 
-bare_after_digits : (t : List ℕ) → Then (after_digits t) → Bare t
+bare_after_digits : (t : List ℕ) → Then (after_digits t) → bare t ≡ true
 bare_after_digits t = by_test (prefix_len is_ascii_digit t == 0) None _ _ (λ e h. absurd h) (bare_digits t)
 
-either : (a b : ℕ) (t : List ℕ) → a ≢ 34 → a ≢ 92 → b ≢ 34 → b ≢ 92 → ((head t == a) ≡ true) ⊎ ((head t == b) ≡ true) → Bare (drop 1 t) → Bare t
-either a b t p q r s (inl e) = bare_one a t p q e
-either a b t p q r s (inr e) = bare_one b t r s e
+either : (a b : ℕ) (t : List ℕ) → ((rest : Bool) → bare_byte (class a) rest ≡ rest) → ((rest : Bool) → bare_byte (class b) rest ≡ rest) →
+    ((head t == a) ≡ true) ⊎ ((head t == b) ≡ true) → bare (drop 1 t) ≡ true → bare t ≡ true
+either a b t p q (inl e) = bare_one a t p e
+either a b t p q (inr e) = bare_one b t q e
 
-skipped : (b : Bool) (t : List ℕ) → (b ≡ true → Bare (drop 1 t) → Bare t) → Bare (cond b (drop 1 t) t) → Bare t
+skipped : (b : Bool) (t : List ℕ) → (b ≡ true → bare (drop 1 t) ≡ true → bare t ≡ true) → bare (cond b (drop 1 t) t) ≡ true → bare t ≡ true
 skipped true t f h = f refl h
 skipped false t f h = h
 
-bare_after_exponent : (t : List ℕ) → Then (after_exponent t) → Bare t
+bare_after_exponent : (t : List ℕ) → Then (after_exponent t) → bare t ≡ true
 bare_after_exponent t =
     let u = drop 1 t in
     by_test ((head t == 101) || (head t == 69)) _ (Some t) _
     (λ e h.
-    either 101 69 t (λ z. omega (arith, z)) (λ z. omega (arith, z)) (λ z. omega (arith, z)) (λ z. omega (arith, z)) (or_cases _ _ e)
-    (skipped _ u
-    (λ s. either 45 43 u (λ z. omega (arith, z)) (λ z. omega (arith, z)) (λ z. omega (arith, z)) (λ z. omega (arith, z)) (or_cases _ _ s))
-    (bare_after_digits (after_sign u) h)))
+    either 101 69 t (λ r. refl) (λ r. refl) (or_cases _ _ e)
+    (skipped _ u (λ s. either 45 43 u (λ r. refl) (λ r. refl) (or_cases _ _ s)) (bare_after_digits (after_sign u) h)))
     (λ h. h)
 
-bare_after_fraction : (t : List ℕ) → Then (after_fraction t) → Bare t
-bare_after_fraction t =
-    by_test (head t == 46) _ (Some t) _
-    (λ e h. bare_one 46 t (λ z. omega (arith, z)) (λ z. omega (arith, z)) e (bare_after_digits (drop 1 t) h)) (λ h. h)
+bare_after_fraction : (t : List ℕ) → Then (after_fraction t) → bare t ≡ true
+bare_after_fraction t = by_test (head t == 46) _ (Some t) _ (λ e h. bare_one 46 t (λ r. refl) e (bare_after_digits (drop 1 t) h)) (λ h. h)
 
-bare_after_whole : (t : List ℕ) → Then (after_whole t) → Bare t
-bare_after_whole t =
-    by_test (head t == 48) (Some (drop 1 t)) _ _ (λ e h. bare_one 48 t (λ z. omega (arith, z)) (λ z. omega (arith, z)) e h) (bare_after_digits t)
+bare_after_whole : (t : List ℕ) → Then (after_whole t) → bare t ≡ true
+bare_after_whole t = by_test (head t == 48) (Some (drop 1 t)) _ _ (λ e h. bare_one 48 t (λ r. refl) e h) (bare_after_digits t)
 
-back : (f : List ℕ → Option (List ℕ)) → ((t : List ℕ) → Then (f t) → Bare t) → (o : Option (List ℕ)) → Then (option_and_then f o) → Then o
+back : (f : List ℕ → Option (List ℕ)) → ((t : List ℕ) → Then (f t) → bare t ≡ true) → (o : Option (List ℕ)) → Then (option_and_then f o) → Then o
 back f p None h = h
 back f p (Some t) h = p t h
 
-bare_after_number : (t : List ℕ) → Then (after_number t) → Bare t
+bare_after_number : (t : List ℕ) → Then (after_number t) → bare t ≡ true
 unfolding after_number
 bare_after_number t h =
-    skipped (head t == 45) t (bare_one 45 t (λ z. omega (arith, z)) (λ z. omega (arith, z)))
+    skipped (head t == 45) t (bare_one 45 t (λ r. refl))
     (bare_after_whole (after_minus t) (back after_fraction bare_after_fraction _ (back after_exponent bare_after_exponent _ h)))
 
 -- what a word is: no bracket, and where it isn't bad, it is bare
 abbrev IsWord : List ℕ → Token → Type 0
-IsWord t (Token.number s) = Bare t
-IsWord t (Token.boolean b) = Bare t
-IsWord t Token.null = Bare t
+IsWord t (Token.number s) = bare t ≡ true
+IsWord t (Token.boolean b) = bare t ≡ true
+IsWord t Token.null = bare t ≡ true
 IsWord t Token.bad = ⊤
 IsWord t _ = ⊥
 
@@ -290,38 +288,32 @@ tested : (b : Bool) (t : List ℕ) (x y : Token) → (b ≡ true → IsWord t x)
 tested true t x y f g = f refl
 tested false t x y f g = g
 
-number_is : (t : List ℕ) (o : Option (List ℕ)) → (Then o → Bare t) → IsWord t (number_before t o)
+number_is : (t : List ℕ) (o : Option (List ℕ)) → (Then o → bare t ≡ true) → IsWord t (number_before t o)
 number_is t None f = tt
 number_is t (Some rest) f = tested (ends_word rest) t _ _ (λ e. f (bare_end rest e)) tt
 
--- none of these letters is a quote or a backslash
-abbrev AreLetters : List ℕ → Type 0
-AreLetters [] = ⊤
-AreLetters (x ∷ xs) = (x ≢ 34) × (x ≢ 92) × AreLetters xs
-
-spelled : (name rest : List ℕ) → AreLetters name → Bare rest → Bare (name ++ rest)
-spelled [] rest l h = h
-spelled (x ∷ xs) rest l h = (l.0, l.1, λ e. spelled xs rest l.2 h)
-
-literal_is : (name : List ℕ) (k : Token) (t : List ℕ) → AreLetters name → (Bare t → IsWord t k) → IsWord t (literal name k t)
-literal_is name k t letters f =
+literal_is : (name : List ℕ) (k : Token) (t : List ℕ) → ((rest : List ℕ) → bare (name ++ rest) ≡ bare rest) → (bare t ≡ true → IsWord t k) →
+    IsWord t (literal name k t)
+literal_is name k t is f =
     tested (starts_with nat_eq t name && ends_word (drop (length name) t)) t k Token.bad
     (λ e.
     let both = and_parts _ _ e in
+    let rest = drop (length name) t in
     let front : name ≡ take (length name) t = (bytes_eq-Decides name (take (length name) t)).0 both.0 in
-    f (subst Bare (ap (λ l. l ++ drop (length name) t) front ∙ take-append-drop (length name) t)
-    (spelled name (drop (length name) t) letters (bare_end (drop (length name) t) both.1))))
+    f (ap bare (sym (ap (λ l. l ++ rest) front ∙ take-append-drop (length name) t)) ∙ is rest ∙ bare_end rest both.1))
     tt
 
 word_is : (t : List ℕ) → IsWord t (word t)
 unfolding word
 word_is t =
-    tested (head t == 116) t _ _
-    (λ e. literal_is (116 ∷ 114 ∷ 117 ∷ 101 ∷ []) (Token.boolean true) t ((λ z. omega (arith, z)), (λ z. omega (arith, z)), ((λ z. omega (arith, z)), (λ z. omega (arith, z)), ((λ z. omega (arith, z)), (λ z. omega (arith, z)), ((λ z. omega (arith, z)), (λ z. omega (arith, z)), tt)))) (λ h. h))
-    (tested (head t == 102) t _ _
-    (λ e. literal_is (102 ∷ 97 ∷ 108 ∷ 115 ∷ 101 ∷ []) (Token.boolean false) t ((λ z. omega (arith, z)), (λ z. omega (arith, z)), ((λ z. omega (arith, z)), (λ z. omega (arith, z)), ((λ z. omega (arith, z)), (λ z. omega (arith, z)), ((λ z. omega (arith, z)), (λ z. omega (arith, z)), ((λ z. omega (arith, z)), (λ z. omega (arith, z)), tt))))) (λ h. h))
-    (tested (head t == 110) t _ _
-    (λ e. literal_is (110 ∷ 117 ∷ 108 ∷ 108 ∷ []) Token.null t ((λ z. omega (arith, z)), (λ z. omega (arith, z)), ((λ z. omega (arith, z)), (λ z. omega (arith, z)), ((λ z. omega (arith, z)), (λ z. omega (arith, z)), ((λ z. omega (arith, z)), (λ z. omega (arith, z)), tt)))) (λ h. h)) (number_is t (after_number t) (bare_after_number t))))
+    tested (head t == 116) t _ _ (λ e. literal_is (116 ∷ 114 ∷ 117 ∷ 101 ∷ []) (Token.boolean true) t (λ r. refl) (λ h. h))
+    (tested (head t == 102) t _ _ (λ e. literal_is (102 ∷ 97 ∷ 108 ∷ 115 ∷ 101 ∷ []) (Token.boolean false) t (λ r. refl) (λ h. h))
+    (tested (head t == 110) t _ _ (λ e. literal_is (110 ∷ 117 ∷ 108 ∷ 108 ∷ []) Token.null t (λ r. refl) (λ h. h))
+    (number_is t (after_number t) (bare_after_number t))))
+
+-- what is bare is so behind a byte of this class
+bare_rest : (x : ℕ) (xs : List ℕ) (c : Class) → class x ≡ c → bare (x ∷ xs) ≡ true → bare_byte c (bare xs) ≡ true
+bare_rest x xs c e h = sym (ap (λ k. bare_byte k (bare xs)) e) ∙ h
 
 -- ---- Bytes and lexemes
 
@@ -333,14 +325,14 @@ stays x q s f =
 
 -- no quote stands in the rest of a word
 abbrev Fits : Mode → List ℕ → Type 0
-Fits in_word xs = Bare xs
+Fits in_word xs = bare xs ≡ true
 Fits m xs = ⊤
 
 string_passed : (o : Option (List ℕ)) (n : ℕ) (ls : List Lexeme) → Leaves n (token (string_token o) ∷ ls) → Leaves n ls
 string_passed None n ls h = absurd h
 string_passed (Some s) n ls h = h
 
-word_passed : (t : List ℕ) (w : Token) (n : ℕ) (ls : List Lexeme) → IsWord t w → Leaves n (token w ∷ ls) → Bare t × Leaves n ls
+word_passed : (t : List ℕ) (w : Token) (n : ℕ) (ls : List Lexeme) → IsWord t w → Leaves n (token w ∷ ls) → (bare t ≡ true) × Leaves n ls
 word_passed t (Token.number s) n ls i h = (i, h)
 word_passed t (Token.boolean b) n ls i h = (i, h)
 word_passed t Token.null n ls i h = (i, h)
@@ -411,12 +403,12 @@ step between lexing.operator x n xs e f fits go h = operator_is x n xs (classed 
 step between lexing.space x n xs e f fits go h = space_is x n xs e (go between n tt h)
 step between lexing.other x n xs e f fits go h =
     let w = word_passed (x ∷ xs) (word (x ∷ xs)) n (lex in_word xs) (word_is (x ∷ xs)) h in
-    in_other x n xs e (go in_word n (w.0.2 e) w.1)
-step in_word lexing.quote x n xs e f fits go h = absurd (fits.0 (is_quote x e))
-step in_word lexing.backslash x n xs e f fits go h = absurd (fits.1 (is_backslash x e))
+    in_other x n xs e (go in_word n (bare_rest x xs lexing.other e w.0) w.1)
+step in_word lexing.quote x n xs e f fits go h = absurd (true≢false (sym (bare_rest x xs lexing.quote e fits)))
+step in_word lexing.backslash x n xs e f fits go h = absurd (true≢false (sym (bare_rest x xs lexing.backslash e fits)))
 step in_word lexing.operator x n xs e f fits go h = operator_is x n xs (classed x lexing.operator e) go h
 step in_word lexing.space x n xs e f fits go h = space_is x n xs e (go between n tt h)
-step in_word lexing.other x n xs e f fits go h = in_other x n xs e (go in_word n (fits.2 e) h)
+step in_word lexing.other x n xs e f fits go h = in_other x n xs e (go in_word n (bare_rest x xs lexing.other e fits) h)
 step in_string lexing.quote x n xs e f fits go h = subst (λ y. Closed within n (y ∷ xs)) (sym (is_quote x e)) (go between n tt h)
 step in_string lexing.backslash x n xs e f fits go h = subst (λ y. Closed within n (y ∷ xs)) (sym (is_backslash x e)) (go in_escape n tt h)
 step in_string lexing.operator x n xs e f fits go h =

@@ -30,10 +30,6 @@ behind_digits text = drop (digit_count text) text
 abbrev pub begins_with_offset : List ℕ → Bool
 begins_with_offset text = nat_le 6 (digit_count text)
 
--- rows have offsets without a colon, as those of `hexdump -C` and `od`: one is in the first line, and behind it a byte of two digits
-abbrev pub has_offsets : List ℕ → Bool
-has_offsets row = begins_with_offset row && digit_count (behind_space (behind_digits row)) == 2
-
 -- what follows a colon at the front, where one is
 abbrev pub behind_colon : List ℕ → Option (List ℕ)
 behind_colon [] = None
@@ -84,9 +80,10 @@ pub data BeginLines (offsets : Bool) (input : List ℕ) : (lines : ℕ) → (byt
       (said_in offsets (first_line left)).1 ≡ [] →
       BeginLines offsets input (lines + 1) (bytes ++ (said_in offsets (first_line left)).0) (behind_line left)
 
--- rows have offsets where the first line has one
+-- rows have offsets without a colon, as those of `hexdump -C` and `od`: one is in the first line, and behind it a byte of two digits
 abbrev pub first_has_offset : List ℕ → Bool
-first_has_offset input = has_offsets (behind_space (first_line input))
+first_has_offset input =
+    let row = behind_space (first_line input) in begins_with_offset row && digit_count (behind_space (behind_digits row)) == 2
 
 -- the input is written in hexadecimal, and says these bytes
 abbrev pub ReadsHexadecimal : (input out : List ℕ) → Type 0

@@ -47,17 +47,8 @@ nothing_there f = let h = f.header in omega (arith, h)
 none_walked : walk [] ≡ []
 none_walked = walk-end [] nothing_there
 
-head : List (List ℕ) → List ℕ
-head [] = []
-head (p ∷ ps) = p
-
-behind_head : List (List ℕ) → List (List ℕ)
-behind_head [] = []
-behind_head (p ∷ ps) = ps
-
 -- where a walk has a first pod, it is the front
 front_walked : (a p : List ℕ) (ps : List (List ℕ)) → walk a ≡ p ∷ ps → HasFront a × (p ≡ front_of a) × (ps ≡ walk (rest_of a))
-unfolding head behind_head
 front_walked a p ps e = elim (cases_lt (length a) (extent (word_at a 0))) [
   | inl l ↦
       let none = walk-end a (λ f. (let w = f.whole in omega (arith, l, w))) in
@@ -65,7 +56,7 @@ front_walked a p ps e = elim (cases_lt (length a) (extent (word_at a 0))) [
   | inr l ↦
       let there : HasFront a = record { header = omega (arith, l); whole = l } in
       let same = sym e ∙ walk-there a there in
-      (there, ap head same, ap behind_head same)
+      (there, cc, cc)
 ]
 
 -- whole pods are walked before what follows them

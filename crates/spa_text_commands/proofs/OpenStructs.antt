@@ -239,12 +239,11 @@ header_in s all ts base out items left o so e = has_header s all ts base out o (
 -- the bytes before all of them are as they were
 pub is_longer : (s : Strictness) (base : List ℕ) (opens : List Open) (fs : List Trees) (out : List ℕ) → AreMade s base opens fs out → IsLonger base out
 is_longer s base [] [] out m = ([], m ∙ sym (append-nil base))
-is_longer s base [] (vs ∷ fs) out m = absurd m
-is_longer s base (o ∷ k) [] out m = absurd m
 is_longer s base (o ∷ k) (vs ∷ fs) out m =
     let r = is_longer s base k fs m.0 m.1 in
     let more = (word_bytes 0 ++ word_bytes struct_type) ++ member_encodings vs in
     (r.0 ++ more, m.4 ∙ ap (λ l. l ++ more) r.1 ∙ append_assoc base r.0 more)
+is_longer s base _ _ out m = absurd m
 
 pub in_longer : (s : Strictness) (all ts : List Token) (base out : List ℕ) (opens : List Open) → IsIn s all base opens ts out → IsLonger base out
 in_longer s all ts base out opens so = is_longer s base opens so.frames out so.made

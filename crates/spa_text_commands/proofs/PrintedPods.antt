@@ -9,6 +9,7 @@ use Rattle.spa_format.specs.Tree.{Tree, Trees, no_trees, member, join_members}
 use Rattle.spa_format.proofs.Refused.{refused_behind_members}
 use Rattle.spa_format.proofs.Sequences.{members_joined, members_push}
 use Rattle.spa_text_commands.specs.Unread.{AddsLine, AddsTextLine, AddsTexts, IsBegun, IsMarked, IsNoFront}
+use Rattle.spa_text_commands.specs.Parts.{texts_joined}
 use Rattle.spa_text_commands.specs.Texts.{AreTexts, RefusesPods, head_field, in_fields, path_field, wrapped}
 use Rattle.spa_text_commands.specs.declared.answer.Failure.{Failure}
 use Rattle.spa_text_commands.specs.declared.answer.Failure.TheVariants.{NoPods, OutOfMemory}
@@ -89,10 +90,7 @@ head_added head old first second new a b c =
 -- one line more
 pub texts_push : (IsText : Tree → List ℕ → Type 0) (vs : Trees) (v : Tree) (out text : List ℕ) → AreTexts IsText vs out → IsText v text →
     AreTexts IsText (join_members vs (member v no_trees)) (out ++ (text ++ 10 ∷ []))
-texts_push IsText no_trees v out text e t = (text, [], ap (λ l. l ++ (text ++ 10 ∷ [])) e, t, refl)
-texts_push IsText (member w vs) v out text h t =
-    let more = text ++ 10 ∷ [] in
-    (h.0, h.1 ++ more, ap (λ l. l ++ more) h.2 ∙ append_assoc h.0 (10 ∷ h.1) more, h.3, texts_push IsText vs v h.1 text h.4 t)
+texts_push IsText vs v out text h t = texts_joined IsText vs (member v no_trees) out (text ++ 10 ∷ []) h (text, [], refl, t, refl)
 
 -- the front is passed
 pub front_passed : (input first left rest : List ℕ) → input ≡ first ++ left → rest ≡ rest_of left → input ≡ (first ++ front_of left) ++ rest

@@ -20,7 +20,7 @@ use Rattle.spa_text_commands.specs.declared.selection.Selection.{Selection}
 
 -- ---- Texts
 
-texts_joined : (IsText : Tree → List ℕ → Type 0) (vs ws : Trees) (out more : List ℕ) → AreTexts IsText vs out → AreTexts IsText ws more →
+pub texts_joined : (IsText : Tree → List ℕ → Type 0) (vs ws : Trees) (out more : List ℕ) → AreTexts IsText vs out → AreTexts IsText ws more →
     AreTexts IsText (join_members vs ws) (out ++ more)
 texts_joined IsText no_trees ws out more h k = subst (AreTexts IsText ws) (sym (ap (λ l. l ++ more) h)) k
 texts_joined IsText (member v vs) ws out more h k = (

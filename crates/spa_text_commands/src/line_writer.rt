@@ -40,11 +40,4 @@ impl LineWriter {
         self.lines.extend_from_slice(b"\n")?;
         Ok(())
     }
-
-    /// What is written.
-    pub(crate) fn into_lines(self) -> Vec<u8>
-        ensures { result ≡ self.lines }
-    {
-        self.lines
-    }
 }

@@ -133,9 +133,7 @@ fn begin_struct(reader: &mut Reader<'_>, braced: bool, pods: &mut Vec<u8>) -> Op
         × (pods.new.items ≡ pods.old.items ++ (word_bytes 0 ++ word_bytes struct_type))) }
     ensures longer { IsLonger pods.old.items pods.new.items }
 {
-    let Some(()) = take_begin(reader, braced) else {
-        return None;
-    };
+    take_begin(reader, braced)?;
     match begin(pods, SpaTypes::Struct.0) {
         Ok(start) => Some(Open { start, braced }),
         Err(_) => None,
@@ -185,9 +183,7 @@ fn end_struct(reader: &mut Reader<'_>, inner: Open, pods: &mut Vec<u8>) -> Optio
     ensures closed { IfSome result (λ _. pods.new.items ≡ closed_at inner.start pods.old.items) }
     ensures unchanged { IfNone result (pods.new.items ≡ pods.old.items) }
 {
-    let Some(()) = take_end(reader, inner.braced) else {
-        return None;
-    };
+    take_end(reader, inner.braced)?;
     match close(pods, inner.start) {
         Ok(()) => Some(()),
         Err(_) => None,

@@ -6,7 +6,7 @@ use Rattle.std.specs.Str.{bytes_eq}
 use Rattle.json.specs.Token.{Token}
 use Rattle.json.specs.Json.{after_end_array, read_key}
 use Rattle.spa_format.specs.Kind.{Kind, Fixed}
-use Rattle.spa_format.specs.Tree.{Tree, fixed, bytes, bitmap, array, choice, pointer, struct, object, Trees, no_trees, member, Properties, no_properties, property}
+use Rattle.spa_format.specs.Tree.{Tree, array, choice, struct, object, Trees, no_trees, member, Properties, no_properties, property}
 use Rattle.spa_names.specs.declared.entry.Expected.{Expected}
 use Rattle.spa_names.specs.declared.table.Table.{Table}
 use Rattle.spa_names.specs.declared.table.Table.TheVariants.{Types}
@@ -14,7 +14,7 @@ use Rattle.spa_text_read.specs.Names.{ids_of, keys_of, expected_under}
 use Rattle.spa_text_read.specs.Numerals.{wide_bits}
 use Rattle.spa_text_read.specs.Options.{◌>>=◌, Reading, and_then}
 use Rattle.spa_text_read.specs.Tokens.{after_begin_array, after_begin_object, after_end_object, after_key, any_key, any_text, first_key, head, name_or_word, number_by_name, word}
-use Rattle.spa_text_read.specs.Grammar.{Leaf, Opening, Opened, a_number, a_text, a_struct, an_array, a_choice, an_object, leaf, begun, takes_text, scalar_of, ending, starting, two_words, tagged_scalar, hex_bytes, pointer_at, shape_named, type_kind, field, choice_flags, choice_type, choice_at, array_at, object_at, tagged_at, tag_named, opens, close, is_flags, flagged_at, property_at, nothing, AreElements, AreMembers, AreProperties, ReadsAs, ReadsValue}
+use Rattle.spa_text_read.specs.Grammar.{Leaf, Opening, Opened, a_number, a_text, a_struct, leaf, begun, takes_text, scalar_of, ending, starting, two_words, tagged_scalar, hex_bytes, pointer_at, shape_named, type_kind, field, choice_flags, choice_type, choice_at, array_at, object_at, tagged_at, tag_named, opens, close, is_flags, flagged_at, property_at, nothing, AreElements, AreMembers, AreProperties, ReadsAs, ReadsValue}
 use Rattle.spa_text_read.specs.declared.tag.Tag.{Tag}
 use Rattle.spa_text_read.specs.declared.tag.Tag.TheVariants as tag
 use Rattle.spa_text_read.specs.declared.tag.Scalar.{Scalar}

@@ -1,5 +1,5 @@
 -- Values that aren't lists.
-use Rattle.std.proofs.Common.{◌≡◌, ◌≢◌, ℕ, false, ◌==◌, refl, true≢false}
+use Rattle.std.proofs.Common.{◌≡◌, ◌≢◌, false, ◌==◌, refl, true≢false}
 use Rattle.spa_format.specs.Tree.{Tree, struct, member, no_trees, type_of, struct_type}
 use Rattle.spa_value.specs.declared.value.Value.{Value}
 use Rattle.spa_value.specs.declared.value.Value.TheVariants as V

@@ -1,4 +1,4 @@
-use Rattle.std.proofs.Common.{◌∙◌, ◌<◌, ℕ, List, arith, length, rules, subst, sym, tests, true≢false}
+use Rattle.std.proofs.Common.{◌∙◌, ◌<◌, ℕ, arith, length, rules, subst, sym, tests, true≢false}
 use Rattle.std.specs.Bool.{MatchBool}
 use Rattle.std.specs.List.{AllWithin, HoldsAt}
 use Rattle.std.proofs.lemmas.Iterator.{cases_from_all}

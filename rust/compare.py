@@ -249,8 +249,7 @@ def judge_uses(rattles, rusts, name, macros, laws):
             counts['prelude'] += count
             continue
         macro = re.fullmatch(r'(?:crate|spa_pod)::(\w+)', path)
-        places = [same_place(path, name), *(path.replace('crate::shims::numerals', kit) for kit in ('hex', 'itoa', 'ryu', 'fast_float')),
-                  path.replace('spa_pod::shims::numerals', 'itoa'), path.replace('spa_pod::shims::numerals', 'ryu')]
+        places = [same_place(path, name), *(path.replace(f'{own}::shims::numerals', kit) for own in ('crate', 'spa_pod') for kit in ('hex', 'itoa', 'ryu', 'fast_float'))]
         found = next((p for p in [*left, *may_go] if (p[0] == public or (p[0], public) == ('pub ', 'crate ')) and (p[1] in places
                       or macro and p[1].split('::')[-1] == macro.group(1) and macro.group(1) in macros)), None)
         if found in may_go:

@@ -35,10 +35,8 @@ impl Blocks {
             if whole.len > 0 {
                 return Ok(Some(whole));
             }
-            match self.read_more(input) {
-                Ok(0) => return Ok(None),
-                Ok(_) => {}
-                Err(why) => return Err(why),
+            if self.read_more(input)? == 0 {
+                return Ok(None);
             }
         }
         Err(Stop::ReadFailed)
@@ -55,13 +53,9 @@ impl Blocks {
             return Err(Stop::OutOfMemory);
         }
         let end = end_of_room(self.held, self.buffer.len());
-        match read_behind(input, self.buffer.as_mut_slice(), self.held, end) {
-            Ok(count) => {
-                self.held += count;
-                Ok(count)
-            }
-            Err(why) => Err(why),
-        }
+        let count = read_behind(input, self.buffer.as_mut_slice(), self.held, end)?;
+        self.held += count;
+        Ok(count)
     }
 
     /// Lets so many bytes go that are held first.
@@ -92,6 +86,11 @@ pub(crate) fn whole_of(bytes: &[u8]) -> Whole {
         len: bytes.len() - left.len(),
         count,
     }
+}
+
+/// The number of whole pods that the bytes begin with.
+pub fn count_whole(bytes: &[u8]) -> usize {
+    whole_of(bytes).count
 }
 
 /// Where the room for a read ends: with the block's, or where a longer pod is held with all that there is.

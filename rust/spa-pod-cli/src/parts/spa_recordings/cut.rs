@@ -3,7 +3,8 @@
 
 use spa_pod::shims::prelude::*;
 use crate::parts::spa_recordings::streaming::are_bytes;
-use spa_pod::parts::spa_bytes::{HEADER_LEN, extent_of, u32_at};
+use spa_pod::parts::spa_bytes::{HEADER_LEN, u32_at};
+use spa_pod::parts::spa_events::open_first;
 use spa_pod::parts::spa_utils::SpaTypes;
 use spa_pod::shims::memory::AllocError;
 
@@ -54,11 +55,11 @@ fn cut_at(pod: &[u8]) -> Option<usize> {
 fn cut_inside(pod: &[u8]) -> &[u8] {
     let type_ = u32_at(pod, WORD_LEN);
     if type_ == SpaTypes::Struct.0 {
-        return behind_whole(0, behind_header(pod));
+        return behind_whole(false, behind_header(pod));
     }
     if type_ == SpaTypes::Object.0 {
         let properties = behind_header(behind_header(pod));
-        return behind_header(behind_whole(HEADER_LEN, properties));
+        return behind_header(behind_whole(true, properties));
     }
     &[]
 }
@@ -68,15 +69,11 @@ fn behind_header(bytes: &[u8]) -> &[u8] {
     bytes.split_at(bytes.len().min(HEADER_LEN)).1
 }
 
-/// What stands behind the whole pods at the front, each with so many bytes before it.
-fn behind_whole(before: usize, pods: &[u8]) -> &[u8] {
+/// What stands behind the whole pods at the front, each with a key and flags before it where `keyed` is set.
+fn behind_whole(keyed: bool, pods: &[u8]) -> &[u8] {
     let mut left = pods;
-    while left.len() >= before + HEADER_LEN {
-        let extent = before + extent_of(u32_at(left, before));
-        if left.len() < extent {
-            return left;
-        }
-        left = left.split_at(extent).1;
+    while let Some(front) = open_first(keyed, left) {
+        left = front.rest;
     }
     left
 }

@@ -2,7 +2,7 @@
 //! What is made of pods of which some are refused.
 
 use spa_pod::shims::prelude::*;
-use crate::parts::spa_recordings::blocks::whole_of;
+use crate::parts::spa_recordings::blocks::count_whole;
 use crate::parts::spa_recordings::plausible::{is_plausible, next_plausible};
 use crate::parts::spa_recordings::reading::{Reading, Unread, first_unread, read_as};
 use spa_pod::parts::spa_bytes::{HEADER_LEN, open};
@@ -143,7 +143,7 @@ fn make_next<'a, 'b, M: Maker>(
     let passed = passed_with(manner, from.overlap, place, unread)?;
     let (bytes, rest) = unread.left.split_at(passed.len);
     keep(manner.refused, bytes, &mut made.out)?;
-    let count = from.count + whole_of(before).count + 1;
+    let count = from.count + count_whole(before) + 1;
     made.refused.try_push(RefusedPod {
         name: from.name,
         number: count,

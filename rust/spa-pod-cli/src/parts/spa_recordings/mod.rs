@@ -7,3 +7,5 @@ pub mod passing;
 pub mod plausible;
 pub mod reading;
 pub mod streaming;
+
+pub use blocks::count_whole;

@@ -42,21 +42,14 @@ pub fn stream_through<B: BlockWorker, R: Read, W: Write>(
     let mut place: usize = 0;
     // Far more often than blocks come.
     for _ in 0..u64::MAX {
-        let found = match blocks.next(input) {
-            Ok(found) => found,
-            Err(why) => return Err(why),
-        };
-        let Some(whole) = found else {
+        let Some(whole) = blocks.next(input)? else {
             return work_on_front(worker, count, place, blocks.held_bytes(), output);
         };
         let Some(behind) = place.checked_add(whole.len) else {
             return Err(Stop::ReadFailed);
         };
         let (block, _) = blocks.held_bytes().split_at(whole.len);
-        match work_on_front(worker, count, place, block, output) {
-            Ok(()) => {}
-            Err(why) => return Err(why),
-        }
+        work_on_front(worker, count, place, block, output)?;
         blocks.pass(whole.len);
         count += whole.count;
         place = behind;

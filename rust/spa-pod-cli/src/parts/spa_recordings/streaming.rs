@@ -2,7 +2,7 @@
 //! What is written of an input block by block, as it comes.
 
 use spa_pod::shims::prelude::*;
-use crate::parts::spa_recordings::blocks::{Blocks, whole_of};
+use crate::parts::spa_recordings::blocks::{Blocks, count_whole};
 use crate::parts::spa_recordings::reading::{Reading, first_unread};
 use spa_pod::parts::spa_fixed_sized::DeserializeError;
 use spa_pod::parts::spa_lenient::rewrite_in_place_leniently;
@@ -334,7 +334,7 @@ fn first_refused(reading: Reading, block: &[u8]) -> Option<Found> {
         return None;
     };
     Some(Found {
-        before: whole_of(before).count,
+        before: count_whole(before),
         at,
         read,
     })

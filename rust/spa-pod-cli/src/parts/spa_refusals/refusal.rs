@@ -2,15 +2,12 @@
 //! What is said of a refused pod.
 
 use spa_pod::shims::prelude::*;
-use crate::parts::spa_refusals::counting::count;
 use crate::parts::spa_refusals::inside::malformed;
 use crate::parts::spa_refusals::names::{TypeName, type_name};
 use spa_pod::parts::spa_bytes::{HEADER_LEN, extent_of, u32_at};
-use spa_pod::parts::spa_fixed_sized::DeserializeError;
-use spa_pod::parts::spa_lenient::rewrite_all_leniently;
+use crate::parts::spa_recordings::count_whole;
 use crate::parts::spa_recordings::plausible::next_plausible;
-use crate::parts::spa_recordings::reading::Reading;
-use spa_pod::parts::spa_rewrite::accept_all;
+use crate::parts::spa_recordings::reading::{Reading, first_unread};
 use spa_pod::shims::memory::AllocError;
 use core::fmt;
 
@@ -53,40 +50,13 @@ pub fn first_refusal(
     reading: Reading,
     input: &[u8],
 ) -> Result<Option<Refusal>, AllocError> {
-    let Err((left, error)) = accept(reading, input) else {
+    let Some(unread) = first_unread(reading, input)? else {
         return Ok(None);
     };
-    match error {
-        DeserializeError::OutOfMemory => Err(AllocError),
-        _ => {
-            let place = input.len() - left.len();
-            let (before, _) = input.split_at(place);
-            let refusal = refusal_at(reading, input, place, count(before) + 1)?;
-            Ok(Some(refusal))
-        }
-    }
-}
-
-/// Passes where the input is read whole. A refusal gives what is left of it from the first pod on that isn't read.
-fn accept(
-    reading: Reading,
-    input: &[u8],
-) -> Result<(), (&[u8], DeserializeError<&[u8]>)> {
-    match reading {
-        Reading::Exact => accept_all(input),
-        Reading::Lenient => rewrite_all_leniently(input, &mut Vec::new()),
-    }
-}
-
-/// The refusal of the pod of this number that begins at this byte of the input, and isn't read.
-fn refusal_at(
-    reading: Reading,
-    input: &[u8],
-    place: usize,
-    number: usize,
-) -> Result<Refusal, AllocError> {
-    let (_, pod) = input.split_at(place);
-    refusal_of(reading, pod, place, number)
+    let place = input.len() - unread.left.len();
+    let (before, pod) = input.split_at(place);
+    let refusal = refusal_of(reading, pod, place, count_whole(before) + 1)?;
+    Ok(Some(refusal))
 }
 
 /// The refusal of the pod of this number, which begins with these bytes at this byte of an input, and isn't read.

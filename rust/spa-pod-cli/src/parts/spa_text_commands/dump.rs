@@ -2,6 +2,7 @@
 //! Bytes in hex, sixteen to a line, with their letters.
 
 use spa_pod::shims::prelude::*;
+use spa_pod::shims::numerals::encode;
 use spa_pod::shims::memory::AllocError;
 
 /// How many bytes a line shows.
@@ -87,12 +88,8 @@ fn letter_of(byte: u8) -> u8 {
 
 /// Adds these bytes in hex.
 pub(crate) fn add_hex(lines: &mut Vec<u8>, bytes: &[u8]) -> Result<(), AllocError> {
-    let mut left = bytes;
-    while let Some((byte, behind)) = left.split_first() {
-        add_digits(lines, *byte)?;
-        left = behind;
-    }
-    Ok(())
+    let digits = encode(bytes)?;
+    lines.try_extend_from_slice(digits.as_bytes())
 }
 
 /// Adds the two digits of a byte.

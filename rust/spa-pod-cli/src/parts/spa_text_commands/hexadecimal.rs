@@ -4,6 +4,7 @@
 use spa_pod::shims::prelude::*;
 use crate::parts::spa_text_commands::answer::Failure;
 use crate::parts::spa_text_commands::extent::split_line;
+use crate::parts::spa_text_commands::reading::is_space;
 use spa_pod::shims::memory::AllocError;
 
 /// The fewest digits of an offset without a colon.
@@ -39,41 +40,29 @@ fn first_has_offset(input: &[u8]) -> bool {
 
 /// What follows white space.
 fn behind_space(text: &[u8]) -> &[u8] {
-    let mut left = text;
-    while let Some((byte, behind)) = left.split_first() {
-        if !is_space(*byte) {
-            return left;
-        }
-        left = behind;
-    }
-    left
+    text.split_at(space_count(text)).1
+}
+
+/// How many bytes of white space a text begins with.
+fn space_count(text: &[u8]) -> usize {
+    text.iter().take_while(|byte| is_space(**byte)).count()
 }
 
 /// What follows digits.
 fn behind_digits(text: &[u8]) -> &[u8] {
-    let mut left = text;
-    while let Some((byte, behind)) = left.split_first() {
-        if digit_value(*byte).is_none() {
-            return left;
-        }
-        left = behind;
-    }
-    left
+    text.split_at(digit_count(text)).1
 }
 
 /// How many digits a text begins with.
 fn digit_count(text: &[u8]) -> usize {
-    text.len() - behind_digits(text).len()
+    text.iter()
+        .take_while(|byte| digit_value(**byte).is_some())
+        .count()
 }
 
 /// Whether a text begins with an offset without a colon, if it begins with one.
 fn begins_with_offset(text: &[u8]) -> bool {
     digit_count(text) >= OFFSET_LEN
-}
-
-/// Whether this is white space.
-fn is_space(byte: u8) -> bool {
-    byte == b' ' || byte == b'\t' || byte == b'\r'
 }
 
 /// The value of a digit.

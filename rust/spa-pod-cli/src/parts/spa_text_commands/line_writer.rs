@@ -29,9 +29,4 @@ impl LineWriter {
         self.lines.try_extend_from_slice(b"\n")?;
         Ok(())
     }
-
-    /// What is written.
-    pub(crate) fn into_lines(self) -> Vec<u8> {
-        self.lines
-    }
 }

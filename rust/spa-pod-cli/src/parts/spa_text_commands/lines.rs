@@ -6,7 +6,6 @@ use crate::parts::spa_text_commands::parts::{Parts, Scalar, Shown};
 use spa_pod::shims::numerals::Buffer;
 use spa_pod::parts::spa_names::{Table, ids_of, name_of, path_of};
 use spa_pod::parts::spa_text_read::letters::{push_letter, push_letters};
-use spa_pod::parts::spa_utils::SpaTypes;
 use spa_pod::shims::memory::AllocError;
 use core::fmt::Display;
 
@@ -74,7 +73,13 @@ pub(crate) fn put_value(
     match parts {
         Parts::Scalar(scalar) => put_scalar(text, scalar),
         Parts::Struct(_) => put_word(text, "Struct: size", size),
-        Parts::Object { type_, id, .. } => put_object(text, size, type_, id),
+        Parts::Object { type_, id, .. } => write!(
+            text,
+            "Object: size {size}, type {} ({}), id {} ({id})",
+            path_or_unknown(Table::Types, type_.0),
+            type_.0,
+            path_or_unknown(ids_of(type_), id)
+        ),
         Parts::Sequence { unit, .. } => put_pair(
             text,
             "Sequence: size",
@@ -94,35 +99,13 @@ pub(crate) fn put_value(
             flags,
             size: child,
             ..
-        } => put_choice(text, shape, flags, size, child),
+        } => write!(
+            text,
+            "Choice: type {}, flags {flags:08x} {size} {child}",
+            path_or_unknown(Table::Choices, shape)
+        ),
         Parts::Bytes(_) => put_size(text, value.type_.0, size),
     }
-}
-
-/// Writes the size, the type and the id of an object, the two with their names.
-fn put_object(text: &mut String, size: usize, type_: SpaTypes, id: u32) -> Result<(), AllocError> {
-    write!(
-        text,
-        "Object: size {size}, type {} ({}), id {} ({id})",
-        path_or_unknown(Table::Types, type_.0),
-        type_.0,
-        path_or_unknown(ids_of(type_), id)
-    )
-}
-
-/// Writes the shape and the flags of a choice, and the sizes of its body and of each value.
-fn put_choice(
-    text: &mut String,
-    shape: u32,
-    flags: u32,
-    size: usize,
-    child: u32,
-) -> Result<(), AllocError> {
-    write!(
-        text,
-        "Choice: type {}, flags {flags:08x} {size} {child}",
-        path_or_unknown(Table::Choices, shape)
-    )
 }
 
 /// Writes the type of bytes, by its name where it has one, and how many they are.
@@ -140,7 +123,11 @@ fn put_size(text: &mut String, type_: u32, size: usize) -> Result<(), AllocError
 fn put_scalar(text: &mut String, scalar: Scalar<'_>) -> Result<(), AllocError> {
     match scalar {
         Scalar::Bool(value) => put_word(text, "Bool", value),
-        Scalar::Id(number, names) => put_id(text, number, names),
+        Scalar::Id(number, names) => write!(
+            text,
+            "Id {number:<8} ({})",
+            path_or_unknown(names, number)
+        ),
         Scalar::Int(number) => put_word(text, "Int", number),
         Scalar::Long(number) => put_word(text, "Long", number),
         Scalar::Float(bits) => put_float(text, bits),
@@ -149,22 +136,12 @@ fn put_scalar(text: &mut String, scalar: Scalar<'_>) -> Result<(), AllocError> {
         Scalar::Rectangle(width, height) => put_pair(text, "Rectangle", width, "x", height),
         Scalar::Fraction(num, denom) => put_pair(text, "Fraction", num, "/", denom),
         Scalar::Fd(number) => put_word(text, "Fd", number),
-        Scalar::Pointer(type_, address) => put_pointer(text, type_, address),
+        Scalar::Pointer(type_, address) => write!(
+            text,
+            "Pointer {} {address:#x}",
+            path_or_unknown(Table::Types, type_)
+        ),
     }
-}
-
-/// Writes an id, and its name.
-fn put_id(text: &mut String, number: u32, names: Table) -> Result<(), AllocError> {
-    write!(text, "Id {number:<8} ({})", path_or_unknown(names, number))
-}
-
-/// Writes what a pointer points to, by its name, and the address.
-fn put_pointer(text: &mut String, type_: u32, address: u64) -> Result<(), AllocError> {
-    write!(
-        text,
-        "Pointer {} {address:#x}",
-        path_or_unknown(Table::Types, type_)
-    )
 }
 
 /// Writes a word, and what follows it.

@@ -28,12 +28,7 @@ pub fn table_of(named: Named, type_: u32) -> Table {
 
 /// Whether each of these names, which stand between commas, is that of a type, or of an id or a key of objects of some type.
 pub fn are_names(named: Named, names: &str) -> bool {
-    for name in names.split(',') {
-        if !is_name(named, name) {
-            return false;
-        }
-    }
-    true
+    names.split(',').all(|name| is_name(named, name))
 }
 
 /// Whether a type, or an id or a key of objects of some type, has this name, or this is the number of one.

@@ -162,9 +162,9 @@ fn put_members(
     writer: &mut Writer,
 ) -> Result<bool, AllocError> {
     match first_key(members) {
-        "type" => match last_members(members) {
-            Some(props) => put_properties(props, writer),
-            None => Ok(false),
+        "type" => match last_value(members) {
+            Some(Json::Object(props)) => put_properties(props.as_slice(), writer),
+            _ => Ok(false),
         },
         "choice" | "array" | "struct" => put_values(members, writer),
         "width" | "num" => put_numbers(members, writer),
@@ -194,14 +194,14 @@ fn put_values(
     members: &[(&str, Json<'_>)],
     writer: &mut Writer,
 ) -> Result<bool, AllocError> {
-    let Some(items) = last_items(members) else {
+    let Some(Json::Array(items)) = last_value(members) else {
         return Ok(false);
     };
     if first_key(members) != "choice" {
-        return put_items(None, items, writer);
+        return put_items(None, items.as_slice(), writer);
     }
     match shape_in(members) {
-        Some(shape) => put_items(Some(shape), items, writer),
+        Some(shape) => put_items(Some(shape), items.as_slice(), writer),
         None => Ok(false),
     }
 }
@@ -245,23 +245,12 @@ fn put_label(
     match (shape, place) {
         (None, _) => Ok(()),
         (Some(_), 0) => writer.key("default"),
-        (Some("Enum"), _) => put_numbered("alt", place, writer),
-        (Some("Flags"), _) => put_numbered("flag", place, writer),
+        (Some("Enum"), _) => writer.key(spa_pod::try_format!("alt{place}")?.as_str()),
+        (Some("Flags"), _) => writer.key(spa_pod::try_format!("flag{place}")?.as_str()),
         (Some(_), 1) => writer.key("min"),
         (Some(_), 2) => writer.key("max"),
         (Some(_), _) => writer.key("step"),
     }
-}
-
-/// Writes a label of this word and this number.
-fn put_numbered(
-    word: &str,
-    number: usize,
-    writer: &mut Writer,
-) -> Result<(), AllocError> {
-    let mut label = String::new();
-    write!(label, "{word}{number}")?;
-    writer.key(label.as_str())
 }
 
 /// The key of the first of these members, if there is one.
@@ -274,40 +263,21 @@ fn first_key<'a>(members: &[(&'a str, Json<'_>)]) -> &'a str {
 
 /// The shape of the choice of these members, where they have it and its values alone, and it isn't None, whose default `pw-dump` prints plain.
 fn shape_in<'a>(members: &[(&str, Json<'a>)]) -> Option<&'a str> {
-    match members {
-        [shape, _] => shape_named(&shape.1),
-        _ => None,
-    }
-}
-
-/// The shape that a value names.
-fn shape_named<'a>(value: &Json<'a>) -> Option<&'a str> {
-    match value {
+    let [shape, _] = members else {
+        return None;
+    };
+    match &shape.1 {
         Json::String(name) => { if *name == "None" { None } else { Some(*name) } }
         _ => None,
     }
 }
 
-/// The values of the list that is last in these members.
-fn last_items<'a, 'b>(members: &'a [(&str, Json<'b>)]) -> Option<&'a [Json<'b>]> {
+/// The value that is last in these members.
+fn last_value<'a, 'b>(members: &'a [(&str, Json<'b>)]) -> Option<&'a Json<'b>> {
     let Some((last, _)) = members.split_last() else {
         return None;
     };
-    match &last.1 {
-        Json::Array(items) => Some(items.as_slice()),
-        _ => None,
-    }
-}
-
-/// The members of the object that is last in these.
-fn last_members<'a, 'b>(members: &'a [(&str, Json<'b>)]) -> Option<&'a [(&'b str, Json<'b>)]> {
-    let Some((last, _)) = members.split_last() else {
-        return None;
-    };
-    match &last.1 {
-        Json::Object(inner) => Some(inner.as_slice()),
-        _ => None,
-    }
+    Some(&last.1)
 }
 
 /// Whether these properties are those of a format of video.

@@ -142,12 +142,26 @@ impl<'a> Shown<'a> {
 
     /// What a value without others inside says; None where its body has too few bytes, or its type isn't such a one.
     fn scalar(&self) -> Option<Scalar<'a>> {
+        let body = self.body;
         match self.type_ {
-            SpaTypes::String => Some(Scalar::Text(self.body)),
-            SpaTypes::Pointer => pointer_of(self.body),
-            SpaTypes::Rectangle | SpaTypes::Fraction => pair_of(self.type_, self.body),
-            SpaTypes::Long | SpaTypes::Fd | SpaTypes::Double => wide_of(self.type_, self.body),
-            _ => word_of(self.type_, self.body, self.ids),
+            SpaTypes::String => Some(Scalar::Text(body)),
+            SpaTypes::Pointer => pointer_of(body),
+            SpaTypes::Rectangle => {
+                let (width, height, _) = split_words(body)?;
+                Some(Scalar::Rectangle(width, height))
+            }
+            SpaTypes::Fraction => {
+                let (num, denom, _) = split_words(body)?;
+                Some(Scalar::Fraction(num, denom))
+            }
+            SpaTypes::Bool => Some(Scalar::Bool(word_of(body)? != 0)),
+            SpaTypes::Id => Some(Scalar::Id(word_of(body)?, self.ids)),
+            SpaTypes::Int => Some(Scalar::Int(i32::from_le_bytes(word_of(body)?.to_le_bytes()))),
+            SpaTypes::Float => Some(Scalar::Float(word_of(body)?)),
+            SpaTypes::Long => Some(Scalar::Long(i64::from_le_bytes(wide_of(body)?.to_le_bytes()))),
+            SpaTypes::Fd => Some(Scalar::Fd(i64::from_le_bytes(wide_of(body)?.to_le_bytes()))),
+            SpaTypes::Double => Some(Scalar::Double(wide_of(body)?)),
+            _ => None,
         }
     }
 }
@@ -164,16 +178,6 @@ fn choice_of<'a>(shape: u32, flags: u32, child: &'a [u8]) -> Option<Parts<'a>> {
     })
 }
 
-/// A rectangle or a fraction.
-fn pair_of<'a>(type_: SpaTypes, body: &[u8]) -> Option<Scalar<'a>> {
-    let (first, second, _) = split_words(body)?;
-    match type_ {
-        SpaTypes::Rectangle => Some(Scalar::Rectangle(first, second)),
-        SpaTypes::Fraction => Some(Scalar::Fraction(first, second)),
-        _ => None,
-    }
-}
-
 /// A pointer, whose address has eight bytes or four.
 fn pointer_of<'a>(body: &[u8]) -> Option<Scalar<'a>> {
     if body.len() >= POINTER_LEN {
@@ -185,33 +189,20 @@ fn pointer_of<'a>(body: &[u8]) -> Option<Scalar<'a>> {
     None
 }
 
-/// A truth, an id, an integer or a float, in the four bytes at the front.
-fn word_of<'a>(type_: SpaTypes, body: &[u8], ids: Table) -> Option<Scalar<'a>> {
+/// The four bytes at the front.
+fn word_of(body: &[u8]) -> Option<u32> {
     if body.len() < WORD_LEN {
         return None;
     }
-    let word = u32_at(body, 0);
-    match type_ {
-        SpaTypes::Bool => Some(Scalar::Bool(word != 0)),
-        SpaTypes::Id => Some(Scalar::Id(word, ids)),
-        SpaTypes::Int => Some(Scalar::Int(i32::from_le_bytes(word.to_le_bytes()))),
-        SpaTypes::Float => Some(Scalar::Float(word)),
-        _ => None,
-    }
+    Some(u32_at(body, 0))
 }
 
-/// A long integer, a file's number or a double, in the eight bytes at the front.
-fn wide_of<'a>(type_: SpaTypes, body: &[u8]) -> Option<Scalar<'a>> {
+/// The eight bytes at the front.
+fn wide_of(body: &[u8]) -> Option<u64> {
     if body.len() < HEADER_LEN {
         return None;
     }
-    let wide = u64_at(body, 0);
-    match type_ {
-        SpaTypes::Double => Some(Scalar::Double(wide)),
-        SpaTypes::Fd => Some(Scalar::Fd(i64::from_le_bytes(wide.to_le_bytes()))),
-        SpaTypes::Long => Some(Scalar::Long(i64::from_le_bytes(wide.to_le_bytes()))),
-        _ => None,
-    }
+    Some(u64_at(body, 0))
 }
 
 /// The two words at the front, and what follows them.

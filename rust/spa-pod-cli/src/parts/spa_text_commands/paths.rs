@@ -31,12 +31,8 @@ pub(crate) fn event_at(events: &[Event], number: usize) -> Event {
 
 /// Whether the event is of an object, whose type and id are there.
 pub(crate) fn is_object_in(pod: &[u8], event: Event) -> bool {
-    is_object(event) && OBJECT_LEN <= pod.len().saturating_sub(event.at)
-}
-
-/// Whether the event is of an object that has room for its type and id.
-fn is_object(event: Event) -> bool {
-    event.type_ == SpaTypes::Object.0 && HEADER_LEN <= event.size as usize
+    (event.type_ == SpaTypes::Object.0 && HEADER_LEN <= event.size as usize)
+        && OBJECT_LEN <= pod.len().saturating_sub(event.at)
 }
 
 /// Whether a key and flags stand before this byte.

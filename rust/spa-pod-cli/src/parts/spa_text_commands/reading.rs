@@ -114,12 +114,12 @@ fn failure_at(why: Unread, text: &[u8], first: usize) -> Failure {
 
 /// Whether there is nothing but white space.
 fn is_blank(text: &[u8]) -> bool {
-    for byte in text {
-        if !(*byte == b' ' || *byte == b'\t' || *byte == b'\r') {
-            return false;
-        }
-    }
-    true
+    text.iter().all(|byte| is_space(*byte))
+}
+
+/// Whether this is white space.
+pub(crate) fn is_space(byte: u8) -> bool {
+    byte == b' ' || byte == b'\t' || byte == b'\r'
 }
 
 /// Reads the value of which these bytes are a text; of a blank line none.
@@ -146,12 +146,12 @@ fn read_text(
     match reader.read_in(text, form) {
         Ok(value) => Ok(Found::Value(Held::from(value))),
         Err(error) => {
-            let Some(kind) = kind_of(error.cause) else {
+            let Some(words) = words_of(error.cause) else {
                 return Err(Unread::OutOfMemory);
             };
             Err(Unread::For {
-                kind,
-                words: words_of(error.cause),
+                kind: error.cause.kind(),
+                words,
                 offset: error.offset,
                 path: error.path,
                 misfit: error.misfit,
@@ -245,24 +245,16 @@ fn unread_at(kind: &'static str, words: &'static str, offset: usize) -> Unread {
     }
 }
 
-/// The name of a cause, but for want of memory.
-fn kind_of(cause: Cause) -> Option<&'static str> {
+/// What is said of a cause, but for want of memory.
+fn words_of(cause: Cause) -> Option<&'static str> {
     match cause {
         Cause::OutOfMemory => None,
-        _ => Some(cause.kind()),
-    }
-}
-
-/// What is said of a cause.
-fn words_of(cause: Cause) -> &'static str {
-    match cause {
-        Cause::OutOfMemory => "out of memory",
-        Cause::Token => "another token is looked for, or the text isn't JSON",
-        Cause::Name => "there is no such key or name here",
-        Cause::Number => "a number is malformed or doesn't fit its type",
-        Cause::Type => "an array or a choice can't have a value of this type",
-        Cause::Count => "a choice has more or fewer values than its shape takes",
-        Cause::KeyType => "another type belongs under the key",
-        Cause::End => "something follows the value",
+        Cause::Token => Some("another token is looked for, or the text isn't JSON"),
+        Cause::Name => Some("there is no such key or name here"),
+        Cause::Number => Some("a number is malformed or doesn't fit its type"),
+        Cause::Type => Some("an array or a choice can't have a value of this type"),
+        Cause::Count => Some("a choice has more or fewer values than its shape takes"),
+        Cause::KeyType => Some("another type belongs under the key"),
+        Cause::End => Some("something follows the value"),
     }
 }

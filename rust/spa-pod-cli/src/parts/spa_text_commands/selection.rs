@@ -78,12 +78,7 @@ pub(crate) fn is_asked(names: Option<&str>, table: Table, number: u32) -> bool {
 
 /// Whether a number of this table has one of these names, which stand between commas.
 pub(crate) fn is_among(table: Table, number: u32, names: &str) -> bool {
-    for name in names.split(',') {
-        if is_named(table, number, name) {
-            return true;
-        }
-    }
-    false
+    names.split(',').any(|name| is_named(table, number, name))
 }
 
 /// Whether a number of this table has this name, or these digits.

@@ -111,9 +111,7 @@ fn put_struct(
 
 /// Begins the pod of a struct, whose brackets follow.
 fn begin_struct(reader: &mut Reader<'_>, braced: bool, pods: &mut Vec<u8>) -> Option<Open> {
-    let Some(()) = take_begin(reader, braced) else {
-        return None;
-    };
+    take_begin(reader, braced)?;
     match begin(pods, SpaTypes::Struct.0) {
         Ok(start) => Some(Open { start, braced }),
         Err(_) => None,
@@ -153,9 +151,7 @@ fn take_tagged(reader: &mut Reader<'_>) -> Option<()> {
 
 /// Ends the pod of a struct that is open, behind its last member.
 fn end_struct(reader: &mut Reader<'_>, inner: Open, pods: &mut Vec<u8>) -> Option<()> {
-    let Some(()) = take_end(reader, inner.braced) else {
-        return None;
-    };
+    take_end(reader, inner.braced)?;
     match close(pods, inner.start) {
         Ok(()) => Some(()),
         Err(_) => None,

@@ -65,46 +65,52 @@ impl Builder {
         self.bytes.into_inner()
     }
 
+    /// Adds a value of fixed size.
+    #[cfg_attr(not(debug_assertions), inline(always))]
+    fn add_sized<T: CanonicalFixedSizedPod>(&mut self, value: &T) -> Result<(), Errno> {
+        add_fixed(&mut self.bytes, &mut self.frames, value)
+    }
+
     /// Adds a None.
     #[cfg_attr(not(debug_assertions), inline(always))]
     pub fn add_none(&mut self) -> Result<(), Errno> {
-        add_fixed(&mut self.bytes, &mut self.frames, &())
+        self.add_sized(&())
     }
 
     /// Adds a truth value.
     #[cfg_attr(not(debug_assertions), inline(always))]
     pub fn add_bool(&mut self, value: bool) -> Result<(), Errno> {
-        add_fixed(&mut self.bytes, &mut self.frames, &value)
+        self.add_sized(&value)
     }
 
     /// Adds an id.
     #[cfg_attr(not(debug_assertions), inline(always))]
     pub fn add_id(&mut self, value: Id) -> Result<(), Errno> {
-        add_fixed(&mut self.bytes, &mut self.frames, &value)
+        self.add_sized(&value)
     }
 
     /// Adds a signed number of 32 bits.
     #[cfg_attr(not(debug_assertions), inline(always))]
     pub fn add_int(&mut self, value: i32) -> Result<(), Errno> {
-        add_fixed(&mut self.bytes, &mut self.frames, &value)
+        self.add_sized(&value)
     }
 
     /// Adds a signed number of 64 bits.
     #[cfg_attr(not(debug_assertions), inline(always))]
     pub fn add_long(&mut self, value: i64) -> Result<(), Errno> {
-        add_fixed(&mut self.bytes, &mut self.frames, &value)
+        self.add_sized(&value)
     }
 
     /// Adds a float of 32 bits.
     #[cfg_attr(not(debug_assertions), inline(always))]
     pub fn add_float(&mut self, value: Float32) -> Result<(), Errno> {
-        add_fixed(&mut self.bytes, &mut self.frames, &value)
+        self.add_sized(&value)
     }
 
     /// Adds a float of 64 bits.
     #[cfg_attr(not(debug_assertions), inline(always))]
     pub fn add_double(&mut self, value: Float64) -> Result<(), Errno> {
-        add_fixed(&mut self.bytes, &mut self.frames, &value)
+        self.add_sized(&value)
     }
 
     /// Adds a text. Refused as INVAL also where it holds NUL.
@@ -144,19 +150,19 @@ impl Builder {
     /// Adds a file descriptor's number.
     #[cfg_attr(not(debug_assertions), inline(always))]
     pub fn add_fd(&mut self, value: i64) -> Result<(), Errno> {
-        add_fixed(&mut self.bytes, &mut self.frames, &Fd(value))
+        self.add_sized(&Fd(value))
     }
 
     /// Adds a rectangle.
     #[cfg_attr(not(debug_assertions), inline(always))]
     pub fn add_rectangle(&mut self, value: Rectangle) -> Result<(), Errno> {
-        add_fixed(&mut self.bytes, &mut self.frames, &value)
+        self.add_sized(&value)
     }
 
     /// Adds a fraction.
     #[cfg_attr(not(debug_assertions), inline(always))]
     pub fn add_fraction(&mut self, value: Fraction) -> Result<(), Errno> {
-        add_fixed(&mut self.bytes, &mut self.frames, &value)
+        self.add_sized(&value)
     }
 
     /// Adds a whole array.

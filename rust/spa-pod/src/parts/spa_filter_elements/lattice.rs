@@ -2,8 +2,8 @@
 //! The greater and the lesser of two elements, and the bits that two flags share.
 
 use crate::shims::prelude::*;
-use crate::parts::spa_filter_elements::ordered::{Ordered, greater_of, lesser_of, shared_of_none};
-use crate::parts::spa_utils::{Fd, Float32, Float64, Fraction, Id, Rectangle};
+use crate::parts::spa_filter_elements::ordered::{Ordered, Plain, greater_of, lesser_of, shared_of_none};
+use crate::parts::spa_utils::{Id, Rectangle};
 
 /// One of the nine types over which there are choices, with what two of its elements have above them and below them both.
 pub trait Lattice: Ordered {
@@ -18,7 +18,7 @@ pub trait Lattice: Ordered {
     fn shared(&self, other: &Self) -> Self;
 }
 
-impl Lattice for bool {
+impl<T: Plain> Lattice for T {
     fn greater(&self, other: &Self) -> Self {
         greater_of(self, other)
     }
@@ -74,34 +74,6 @@ impl Lattice for i64 {
     }
 }
 
-impl Lattice for Float32 {
-    fn greater(&self, other: &Self) -> Self {
-        greater_of(self, other)
-    }
-
-    fn lesser(&self, other: &Self) -> Self {
-        lesser_of(self, other)
-    }
-
-    fn shared(&self, other: &Self) -> Self {
-        shared_of_none(self, other)
-    }
-}
-
-impl Lattice for Float64 {
-    fn greater(&self, other: &Self) -> Self {
-        greater_of(self, other)
-    }
-
-    fn lesser(&self, other: &Self) -> Self {
-        lesser_of(self, other)
-    }
-
-    fn shared(&self, other: &Self) -> Self {
-        shared_of_none(self, other)
-    }
-}
-
 impl Lattice for Rectangle {
     fn greater(&self, other: &Self) -> Self {
         Rectangle {
@@ -115,34 +87,6 @@ impl Lattice for Rectangle {
             width: self.width.min(other.width),
             height: self.height.min(other.height),
         }
-    }
-
-    fn shared(&self, other: &Self) -> Self {
-        shared_of_none(self, other)
-    }
-}
-
-impl Lattice for Fraction {
-    fn greater(&self, other: &Self) -> Self {
-        greater_of(self, other)
-    }
-
-    fn lesser(&self, other: &Self) -> Self {
-        lesser_of(self, other)
-    }
-
-    fn shared(&self, other: &Self) -> Self {
-        shared_of_none(self, other)
-    }
-}
-
-impl Lattice for Fd {
-    fn greater(&self, other: &Self) -> Self {
-        greater_of(self, other)
-    }
-
-    fn lesser(&self, other: &Self) -> Self {
-        lesser_of(self, other)
     }
 
     fn shared(&self, other: &Self) -> Self {

@@ -14,6 +14,10 @@ pub trait Ordered: ChoiceElement {
     fn are_among(&self, other: &Self) -> bool;
 }
 
+/// One of the five types without flags and without steps that aren't rectangles. What is written once for them is no other type's.
+pub trait Plain: Ordered {
+}
+
 /// The greater of two elements of a type other than rectangles.
 pub(crate) fn greater_of<T: Ordered>(x: &T, y: &T) -> T {
     if x.is_at_most(y) {
@@ -174,4 +178,19 @@ impl Ordered for Fd {
         let _other = *other;
         false
     }
+}
+
+impl Plain for bool {
+}
+
+impl Plain for Float32 {
+}
+
+impl Plain for Float64 {
+}
+
+impl Plain for Fraction {
+}
+
+impl Plain for Fd {
 }

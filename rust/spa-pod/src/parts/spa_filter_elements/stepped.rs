@@ -5,8 +5,8 @@ use crate::parts::spa_filter_elements::common_multiples::is_multiple;
 use crate::parts::spa_filter_elements::first::{first_multiple, first_signed};
 use crate::parts::spa_filter_elements::lattice::Lattice;
 use crate::parts::spa_filter_elements::number_steps::{NumberSteps, narrowed};
-use crate::parts::spa_filter_elements::ordered::Ordered;
-use crate::parts::spa_utils::{Fd, Float32, Float64, Fraction, Id, Rectangle};
+use crate::parts::spa_filter_elements::ordered::{Ordered, Plain};
+use crate::parts::spa_utils::{Id, Rectangle};
 
 /// The multiples of a step from one element to another.
 #[derive(Clone, Copy)]
@@ -116,7 +116,7 @@ fn first_side(steps: &Steps<u32>) -> Option<u32> {
     }
 }
 
-impl Stepped for bool {
+impl<T: Plain> Stepped for T {
     fn is_multiple(&self, step: &Self) -> bool {
         let _step = *step;
         false
@@ -201,36 +201,6 @@ impl Stepped for i64 {
     }
 }
 
-impl Stepped for Float32 {
-    fn is_multiple(&self, step: &Self) -> bool {
-        let _step = *step;
-        false
-    }
-
-    fn narrowed(steps: &Steps<Self>, other: &Self) -> Steps<Self> {
-        narrowed_of_none(steps, other)
-    }
-
-    fn first(steps: &Steps<Self>) -> Option<Self> {
-        first_of_none(steps)
-    }
-}
-
-impl Stepped for Float64 {
-    fn is_multiple(&self, step: &Self) -> bool {
-        let _step = *step;
-        false
-    }
-
-    fn narrowed(steps: &Steps<Self>, other: &Self) -> Steps<Self> {
-        narrowed_of_none(steps, other)
-    }
-
-    fn first(steps: &Steps<Self>) -> Option<Self> {
-        first_of_none(steps)
-    }
-}
-
 impl Stepped for Rectangle {
     fn is_multiple(&self, step: &Self) -> bool {
         is_multiple(u64::from(self.width), u64::from(step.width))
@@ -260,35 +230,5 @@ impl Stepped for Rectangle {
         let width = first_side(&widths(steps))?;
         let height = first_side(&heights(steps))?;
         Some(Rectangle { width, height })
-    }
-}
-
-impl Stepped for Fraction {
-    fn is_multiple(&self, step: &Self) -> bool {
-        let _step = *step;
-        false
-    }
-
-    fn narrowed(steps: &Steps<Self>, other: &Self) -> Steps<Self> {
-        narrowed_of_none(steps, other)
-    }
-
-    fn first(steps: &Steps<Self>) -> Option<Self> {
-        first_of_none(steps)
-    }
-}
-
-impl Stepped for Fd {
-    fn is_multiple(&self, step: &Self) -> bool {
-        let _step = *step;
-        false
-    }
-
-    fn narrowed(steps: &Steps<Self>, other: &Self) -> Steps<Self> {
-        narrowed_of_none(steps, other)
-    }
-
-    fn first(steps: &Steps<Self>) -> Option<Self> {
-        first_of_none(steps)
     }
 }

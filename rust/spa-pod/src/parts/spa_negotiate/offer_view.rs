@@ -5,8 +5,9 @@ use crate::shims::prelude::*;
 use crate::parts::spa_bodies::{CHOICE_HEADER_LEN, VALUE_TYPE_AT};
 use crate::parts::spa_bytes::{HEADER_LEN, open, u32_at, u64_at};
 use crate::parts::spa_canonical::fixed_len;
+use crate::parts::spa_filter_elements::Ordered;
 use crate::parts::spa_fixed_sized::{ENUM_SHAPE, NONE_SHAPE, RANGE_SHAPE};
-use crate::parts::spa_utils::SpaTypes;
+use crate::parts::spa_utils::{Id, SpaTypes};
 use crate::shims::memory::AllocError;
 
 /// The length in bytes of a body of one word.
@@ -87,35 +88,19 @@ fn is_same(size: usize, value: &[u8], other: &[u8]) -> bool {
 /// Whether the first value is no greater than the second, of a type over which Ranges are supported.
 fn is_at_most(type_: u32, value: &[u8], other: &[u8]) -> bool {
     match SpaTypes(type_) {
-        SpaTypes::Id => {
-            if value.len() < ONE_WORD || other.len() < ONE_WORD {
-                return false;
-            }
-            if u32_at(value, 0) > u32_at(other, 0) {
-                return false;
-            }
-            true
-        }
-        SpaTypes::Int => {
-            if value.len() < ONE_WORD || other.len() < ONE_WORD {
-                return false;
-            }
-            if u32_at(value, 0).to_signed() > u32_at(other, 0).to_signed() {
-                return false;
-            }
-            true
-        }
-        SpaTypes::Long => {
-            if value.len() < TWO_WORDS || other.len() < TWO_WORDS {
-                return false;
-            }
-            if u64_at(value, 0).to_signed() > u64_at(other, 0).to_signed() {
-                return false;
-            }
-            true
-        }
+        SpaTypes::Id => is_in_order::<Id>(value, other),
+        SpaTypes::Int => is_in_order::<i32>(value, other),
+        SpaTypes::Long => is_in_order::<i64>(value, other),
         _ => false,
     }
+}
+
+/// Whether the first value of the type `T` is no greater than the second. The bytes behind the two don't count.
+fn is_in_order<T: Ordered>(value: &[u8], other: &[u8]) -> bool {
+    if value.len() < T::SIZE || other.len() < T::SIZE {
+        return false;
+    }
+    T::of_body(&value[..T::SIZE]).is_at_most(&T::of_body(&other[..T::SIZE]))
 }
 
 /// Whether the value is among these, by a linear search.

@@ -236,14 +236,14 @@ fn print_chosen<T: Printed>(
         }
         ChoiceEnum::Enum {
             default,
-            alternatives,
+            alternatives: others,
+        }
+        | ChoiceEnum::Flags {
+            default,
+            flags: others,
         } => {
             print_element(out, *default, expected)?;
-            print_elements(out, alternatives.as_slice(), expected)
-        }
-        ChoiceEnum::Flags { default, flags } => {
-            print_element(out, *default, expected)?;
-            print_elements(out, flags.as_slice(), expected)
+            print_elements(out, others.as_slice(), expected)
         }
     }
 }

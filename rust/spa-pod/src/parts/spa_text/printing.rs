@@ -10,7 +10,7 @@ use crate::parts::spa_text::printed::{Printed, begin_keyed_object, end_braced, p
 use crate::shims::flags::Flags;
 use crate::parts::spa_names::{Expected, Table};
 use crate::parts::spa_text_read::names::{expected_under, ids_of, keys_of, name_of};
-use crate::parts::spa_text_read::numerals::unsigned;
+use crate::parts::spa_text_read::numerals::number_of_digits;
 use crate::parts::spa_value::{Object, Property, Value};
 use crate::shims::memory::AllocError;
 use core::mem;
@@ -242,21 +242,10 @@ fn next_property<'a>(
     }
 }
 
-/// The number that a name is, if it is one. Hardly any begins with a digit, and the others needn't be read.
-#[cfg_attr(not(debug_assertions), inline(always))]
-fn number_in(name: &str) -> Option<u32> {
-    if let Some(first) = name.as_bytes().first() {
-        if *first > b'9' {
-            return None;
-        }
-    }
-    unsigned(name)
-}
-
 /// The name that is printed for a key: none that would be read as a number.
 fn key_name(keys: Table, key: u32) -> Option<&'static str> {
     let name = name_of(keys, key)?;
-    match number_in(name) {
+    match number_of_digits(name) {
         Some(_) => None,
         None => Some(name),
     }

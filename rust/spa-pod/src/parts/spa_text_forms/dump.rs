@@ -2,7 +2,7 @@
 //! The tokens of what `pw-dump` prints of params, in the words and the order of the grammar.
 
 use crate::shims::prelude::*;
-use crate::parts::spa_text_forms::order::{ANYWHERE, Place, put, put_object, wanted_under};
+use crate::parts::spa_text_forms::order::{ANYWHERE, Place, put, put_object, under, wanted_under};
 use crate::shims::json::{Value, Writer};
 use crate::parts::spa_text_read::{FullType, Strictness};
 use crate::shims::memory::AllocError;
@@ -166,14 +166,9 @@ fn turn_of(key: &str) -> usize {
 
 /// The shape of the choice that these members are of, if they are of one.
 fn shape_in(members: &[(&str, Value<'_>)]) -> Option<&'static str> {
-    if !has_default(members) {
+    if under(members, "default").is_none() {
         return None;
     }
-    shape_by_keys(members)
-}
-
-/// The shape that the keys of these members are of, if they are of one.
-fn shape_by_keys(members: &[(&str, Value<'_>)]) -> Option<&'static str> {
     if are_keys_of("Enum", members) {
         Some("Enum")
     } else if are_keys_of("Flags", members) {
@@ -185,16 +180,6 @@ fn shape_by_keys(members: &[(&str, Value<'_>)]) -> Option<&'static str> {
     } else {
         None
     }
-}
-
-/// Whether a default is among these members.
-fn has_default(members: &[(&str, Value<'_>)]) -> bool {
-    for member in members {
-        if member.0 == "default" {
-            return true;
-        }
-    }
-    false
 }
 
 /// Whether the keys of these members are those of a choice of this shape.
@@ -221,12 +206,10 @@ fn is_key_of(shape: &str, key: &str) -> bool {
 
 /// Whether these members are of a format of video.
 fn is_video(members: &[(&str, Value<'_>)]) -> bool {
-    for member in members {
-        if member.0 == "mediaType" {
-            return is_video_type(&member.1);
-        }
+    match under(members, "mediaType") {
+        Some(value) => is_video_type(value),
+        None => false,
     }
-    false
 }
 
 /// Whether this is the media type of video.

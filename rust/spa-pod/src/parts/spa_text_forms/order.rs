@@ -3,12 +3,10 @@
 
 use crate::shims::prelude::*;
 use crate::shims::json::{Value, Writer};
-use crate::parts::spa_names::keys::{PARAM_ROUTE_DEVICES, PARAM_ROUTE_PROFILES};
-use crate::parts::spa_names::types::OBJECT_PARAM_ROUTE;
 use crate::parts::spa_names::{Table, number_of};
-use crate::parts::spa_text_read::names::{expected_under, keys_of};
+use crate::parts::spa_text_read::names::keys_of;
 use crate::parts::spa_text_read::numerals::unsigned;
-use crate::parts::spa_text_read::{FullType, Strictness};
+use crate::parts::spa_text_read::{FullType, Strictness, type_under};
 use crate::parts::spa_utils::SpaTypes;
 use crate::shims::memory::AllocError;
 
@@ -184,29 +182,25 @@ pub fn key_number(keys: Table, name: &str) -> Option<u32> {
     }
 }
 
-/// The type that belongs under a key of an object of this type.
-fn type_under(type_: u32, key: u32) -> FullType {
-    if type_ == OBJECT_PARAM_ROUTE && (key == PARAM_ROUTE_PROFILES || key == PARAM_ROUTE_DEVICES) {
-        return FullType {
-            type_: SpaTypes::Array,
-            element: SpaTypes::Int,
-        };
+/// The value under the first of these keys that has this name.
+pub(crate) fn under<'a, 'k, 'b>(
+    members: &'a [(&'k str, Value<'b>)],
+    name: &str,
+) -> Option<&'a Value<'b>> {
+    for member in members {
+        if member.0 == name {
+            return Some(&member.1);
+        }
     }
-    let expected = expected_under(keys_of(type_), key);
-    FullType {
-        type_: expected.type_,
-        element: expected.element,
-    }
+    None
 }
 
 /// The number of the type that the members of an object name; 0 where they name none.
 fn type_in(members: &[(&str, Value<'_>)]) -> u32 {
-    for member in members {
-        if member.0 == "type" {
-            return type_named(&member.1);
-        }
+    match under(members, "type") {
+        Some(value) => type_named(value),
+        None => 0,
     }
-    0
 }
 
 /// The number of the type that a value names.

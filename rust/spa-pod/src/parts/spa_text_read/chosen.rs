@@ -52,9 +52,27 @@ fn choice_of<T: CanonicalFixedSizedPod>(
 /// The choice of these values without its flags, where there are as many as its shape takes.
 fn chosen<T: CanonicalFixedSizedPod>(shape: Shape, values: Vec<T>) -> Option<ChoiceEnum<T>> {
     match shape {
-        Shape::None => one(values.as_slice()),
-        Shape::Range => three(values.as_slice()),
-        Shape::Step => four(values.as_slice()),
+        Shape::None => match values.as_slice() {
+            [value] => Some(ChoiceEnum::None(*value)),
+            _ => None,
+        },
+        Shape::Range => match values.as_slice() {
+            [default, min, max] => Some(ChoiceEnum::Range {
+                default: *default,
+                min: *min,
+                max: *max,
+            }),
+            _ => None,
+        },
+        Shape::Step => match values.as_slice() {
+            [default, min, max, step] => Some(ChoiceEnum::Step {
+                default: *default,
+                min: *min,
+                max: *max,
+                step: *step,
+            }),
+            _ => None,
+        },
         Shape::Enum => match split(values) {
             Some((default, alternatives)) => Some(ChoiceEnum::Enum {
                 default,
@@ -66,39 +84,6 @@ fn chosen<T: CanonicalFixedSizedPod>(shape: Shape, values: Vec<T>) -> Option<Cho
             Some((default, flags)) => Some(ChoiceEnum::Flags { default, flags }),
             None => None,
         },
-    }
-}
-
-/// A choice of one value.
-fn one<T: CanonicalFixedSizedPod>(values: &[T]) -> Option<ChoiceEnum<T>> {
-    match values {
-        [value] => Some(ChoiceEnum::None(*value)),
-        _ => None,
-    }
-}
-
-/// A default with its minimum and maximum.
-fn three<T: CanonicalFixedSizedPod>(values: &[T]) -> Option<ChoiceEnum<T>> {
-    match values {
-        [default, min, max] => Some(ChoiceEnum::Range {
-            default: *default,
-            min: *min,
-            max: *max,
-        }),
-        _ => None,
-    }
-}
-
-/// A default with its minimum, maximum and step.
-fn four<T: CanonicalFixedSizedPod>(values: &[T]) -> Option<ChoiceEnum<T>> {
-    match values {
-        [default, min, max, step] => Some(ChoiceEnum::Step {
-            default: *default,
-            min: *min,
-            max: *max,
-            step: *step,
-        }),
-        _ => None,
     }
 }
 

@@ -76,6 +76,7 @@ impl fmt::Display for InPlace {
 }
 
 /// The type that belongs under a key of an object of this type.
+#[must_use]
 pub(crate) fn type_under(type_: u32, key: u32) -> FullType {
     wanted_under(type_, key, expected_under(keys_of(type_), key))
 }

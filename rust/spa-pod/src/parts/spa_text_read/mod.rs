@@ -21,5 +21,6 @@ mod tokens;
 
 pub use cause::Cause;
 pub use error::{AtPath, TextError};
+pub(crate) use fitting::type_under;
 pub use fitting::{FullType, InPlace, Misfit, Strictness};
 pub use reading::{TextReader, read, read_front};

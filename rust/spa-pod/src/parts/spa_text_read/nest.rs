@@ -38,22 +38,15 @@ impl Nest {
         expected: Expected,
     ) -> Result<bool, Cause> {
         if let Some(number) = plain_number(head, expected) {
-            return match self.inner.put_number(number, reader) {
-                Ok(()) => Ok(true),
-                Err(cause) => Err(cause),
-            };
+            self.inner.put_number(number, reader)?;
+            return Ok(true);
         }
         match open(reader, head, expected) {
-            Ok(Opened::Leaf(value)) => match self.inner.put(value, reader) {
-                Ok(()) => Ok(true),
-                Err(cause) => Err(cause),
-            },
-            Ok(Opened::Begun(begun)) => match self.try_push(begun) {
-                Ok(()) => Ok(true),
-                Err(cause) => Err(cause),
-            },
-            Err(cause) => Err(cause),
+            Ok(Opened::Leaf(value)) => self.inner.put(value, reader)?,
+            Ok(Opened::Begun(begun)) => self.try_push(begun)?,
+            Err(cause) => return Err(cause),
         }
+        Ok(true)
     }
 
     /// Goes into the one that is begun.

@@ -20,6 +20,8 @@ pub fn unsigned(text: &str) -> Option<u32> {
 }
 
 /// The number that the name of a key is. Few are: behind the digits of ASCII no number begins.
+#[cfg_attr(not(debug_assertions), inline(always))]
+#[must_use]
 pub(crate) fn number_of_digits(name: &str) -> Option<u32> {
     match name.as_bytes() {
         [first, ..] if *first > b'9' => None,

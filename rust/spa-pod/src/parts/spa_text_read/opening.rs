@@ -3,6 +3,7 @@
 
 use crate::shims::prelude::*;
 use crate::parts::spa_text_read::cause::Cause;
+use crate::parts::spa_text_read::element::{Element, value_of};
 use crate::parts::spa_text_read::inside::{Inside, Opened};
 use crate::parts::spa_text_read::names::{ids_of, keys_of};
 use crate::parts::spa_text_read::numerals::wide_bits;
@@ -31,14 +32,14 @@ pub(crate) fn open(
         Token::Null => Ok(Opened::Leaf(Value::None)),
         Token::Bool(value) => Ok(Opened::Leaf(Value::Bool(value))),
         Token::Number(_) => match scalar_of(bare(expected.type_.0), expected.ids, head) {
-            Some(value) => Ok(Opened::Leaf(value)),
+            Some(number) => Ok(Opened::Leaf(value_of(number))),
             None => Err(Cause::Number),
         },
         Token::String(text) => {
             if takes_text(expected.type_.0) {
                 let scalar = bare(expected.type_.0);
                 return match scalar_of(scalar, expected.ids, head) {
-                    Some(value) => Ok(Opened::Leaf(value)),
+                    Some(number) => Ok(Opened::Leaf(value_of(number))),
                     None => Err(no_scalar(scalar, head)),
                 };
             }
@@ -47,10 +48,7 @@ pub(crate) fn open(
                 Err(_) => Err(Cause::OutOfMemory),
             }
         }
-        Token::BeginArray => match struct_at(false) {
-            Ok(begun) => Ok(Opened::Begun(begun)),
-            Err(cause) => Err(cause),
-        },
+        Token::BeginArray => Ok(Opened::Begun(struct_at(false)?)),
         Token::Key(name) => open_tagged(reader, tag_of(name), expected),
         _ => Err(Cause::Token),
     }
@@ -67,23 +65,11 @@ fn open_tagged(
             let Some(()) = begin_array(reader) else {
                 return Err(Cause::Token);
             };
-            match struct_at(true) {
-                Ok(begun) => Ok(Opened::Begun(begun)),
-                Err(cause) => Err(cause),
-            }
+            Ok(Opened::Begun(struct_at(true)?))
         }
-        Tag::Array => match array_at(reader, expected) {
-            Ok(array) => Ok(Opened::Begun(array)),
-            Err(cause) => Err(cause),
-        },
-        Tag::Choice => match choice_at(reader, expected) {
-            Ok(choice) => Ok(Opened::Begun(choice)),
-            Err(cause) => Err(cause),
-        },
-        Tag::Object => match object_at(reader) {
-            Ok(object) => Ok(Opened::Begun(object)),
-            Err(cause) => Err(cause),
-        },
+        Tag::Array => Ok(Opened::Begun(array_at(reader, expected)?)),
+        Tag::Choice => Ok(Opened::Begun(choice_at(reader, expected)?)),
+        Tag::Object => Ok(Opened::Begun(object_at(reader)?)),
         _ => match leaf_at(reader, tag, expected) {
             Ok(value) => end_leaf(value, reader),
             Err(cause) => Err(cause),
@@ -106,28 +92,22 @@ fn leaf_at(
     expected: Expected,
 ) -> Result<Value, Cause> {
     match tag {
-        Tag::Scalar(scalar) => scalar_at(reader, scalar, expected.ids),
+        Tag::Scalar(scalar) => Ok(value_of(scalar_at(reader, scalar, expected.ids)?)),
         Tag::String => text_at(reader),
-        Tag::Bytes => match hex_bytes(reader) {
-            Ok(bytes) => Ok(Value::Bytes(bytes)),
-            Err(cause) => Err(cause),
-        },
-        Tag::Bitmap => match hex_bytes(reader) {
-            Ok(bytes) => Ok(Value::Bitmap(bytes)),
-            Err(cause) => Err(cause),
-        },
-        Tag::Width => match two_words(reader, "height") {
-            Ok((width, height)) => Ok(Value::Rectangle(Rectangle { width, height })),
-            Err(cause) => Err(cause),
-        },
-        Tag::Num => match two_words(reader, "denom") {
-            Ok((num, denom)) => Ok(Value::Fraction(Fraction { num, denom })),
-            Err(cause) => Err(cause),
-        },
-        Tag::Pointer => match pointer_at(reader) {
-            Ok((type_, address)) => Ok(Value::Pointer(type_, address)),
-            Err(cause) => Err(cause),
-        },
+        Tag::Bytes => Ok(Value::Bytes(hex_bytes(reader)?)),
+        Tag::Bitmap => Ok(Value::Bitmap(hex_bytes(reader)?)),
+        Tag::Width => {
+            let (width, height) = two_words(reader, "height")?;
+            Ok(Value::Rectangle(Rectangle { width, height }))
+        }
+        Tag::Num => {
+            let (num, denom) = two_words(reader, "denom")?;
+            Ok(Value::Fraction(Fraction { num, denom }))
+        }
+        Tag::Pointer => {
+            let (type_, address) = pointer_at(reader)?;
+            Ok(Value::Pointer(type_, address))
+        }
         _ => Err(Cause::Name),
     }
 }
@@ -141,12 +121,12 @@ fn no_scalar(scalar: Scalar, token: Token<'_>) -> Cause {
 }
 
 /// Takes a number of this type.
-fn scalar_at(reader: &mut Reader<'_>, scalar: Scalar, ids: Table) -> Result<Value, Cause> {
+fn scalar_at(reader: &mut Reader<'_>, scalar: Scalar, ids: Table) -> Result<Element, Cause> {
     let Some(token) = any_token(reader) else {
         return Err(Cause::Token);
     };
     match scalar_of(scalar, ids, token) {
-        Some(value) => Ok(value),
+        Some(number) => Ok(number),
         None => Err(no_scalar(scalar, token)),
     }
 }
@@ -190,12 +170,10 @@ fn two_words(reader: &mut Reader<'_>, name: &str) -> Result<(u32, u32), Cause> {
     let Some(first) = word(reader) else {
         return Err(Cause::Number);
     };
-    match key(reader, name) {
-        Ok(()) => match word(reader) {
-            Some(second) => Ok((first, second)),
-            None => Err(Cause::Number),
-        },
-        Err(cause) => Err(cause),
+    key(reader, name)?;
+    match word(reader) {
+        Some(second) => Ok((first, second)),
+        None => Err(Cause::Number),
     }
 }
 

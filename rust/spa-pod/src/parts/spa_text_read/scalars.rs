@@ -8,43 +8,16 @@ use crate::parts::spa_text_read::numerals::{
     double_digits, float_digits, signed, signed_wide, unsigned, wide_bits, word_bits,
 };
 use crate::parts::spa_text_read::tag::{Scalar, bare};
-use crate::parts::spa_text_read::tokens::number_by_name;
 use crate::shims::json::Token;
 use crate::parts::spa_names::{Expected, Table};
 use crate::parts::spa_utils::{Fd, Float32, Float64, Id};
-use crate::parts::spa_value::Value;
 
 /// The value of fixed size that a token is by itself, where this is expected: what `open` reads of most tokens, but faster. None promises
 /// nothing: `open` is asked then, so to give None more often costs time alone.
 #[cfg_attr(not(debug_assertions), inline(always))]
 pub(crate) fn plain_number(token: Token<'_>, expected: Expected) -> Option<Element> {
     match token {
-        Token::Number(text) => match bare(expected.type_.0) {
-            Scalar::Int => match signed(text) {
-                Some(number) => Some(Element::Int(number)),
-                None => None,
-            },
-            Scalar::Id => match unsigned(text) {
-                Some(number) => Some(Element::Id(Id(number))),
-                None => None,
-            },
-            Scalar::Long => match signed_wide(text) {
-                Some(number) => Some(Element::Long(number)),
-                None => None,
-            },
-            Scalar::Fd => match signed_wide(text) {
-                Some(number) => Some(Element::Fd(Fd(number))),
-                None => None,
-            },
-            Scalar::Float => match float_digits(text) {
-                Some(bits) => Some(Element::Float(Float32(bits))),
-                None => None,
-            },
-            Scalar::Double => match double_digits(text) {
-                Some(bits) => Some(Element::Double(Float64(bits))),
-                None => None,
-            },
-        },
+        Token::Number(text) => digits_of(bare(expected.type_.0), text),
         Token::Bool(value) => Some(Element::Bool(value)),
         Token::String(name) => match bare(expected.type_.0) {
             Scalar::Id => match number_of(expected.ids, name) {
@@ -57,64 +30,29 @@ pub(crate) fn plain_number(token: Token<'_>, expected: Expected) -> Option<Eleme
     }
 }
 
-/// What one token says of a number.
-pub(crate) fn scalar_of(scalar: Scalar, table: Table, token: Token<'_>) -> Option<Value> {
+/// The number of this type that the digits are.
+#[cfg_attr(not(debug_assertions), inline(always))]
+fn digits_of(scalar: Scalar, digits: &str) -> Option<Element> {
     match scalar {
-        Scalar::Id => match number_by_name(table, token) {
-            Some(number) => Some(Value::Id(Id(number))),
-            None => None,
-        },
-        Scalar::Int => int_of(token),
-        Scalar::Long => match wide_of(token) {
-            Some(number) => Some(Value::Long(number)),
-            None => None,
-        },
-        Scalar::Fd => match wide_of(token) {
-            Some(number) => Some(Value::Fd(Fd(number))),
-            None => None,
-        },
-        Scalar::Float => float_of(token),
-        Scalar::Double => double_of(token),
+        Scalar::Int => Some(Element::Int(signed(digits)?)),
+        Scalar::Id => Some(Element::Id(Id(unsigned(digits)?))),
+        Scalar::Long => Some(Element::Long(signed_wide(digits)?)),
+        Scalar::Fd => Some(Element::Fd(Fd(signed_wide(digits)?))),
+        Scalar::Float => Some(Element::Float(Float32(float_digits(digits)?))),
+        Scalar::Double => Some(Element::Double(Float64(double_digits(digits)?))),
     }
 }
 
-fn int_of(token: Token<'_>) -> Option<Value> {
-    let Token::Number(text) = token else {
-        return None;
-    };
-    match signed(text) {
-        Some(number) => Some(Value::Int(number)),
-        None => None,
-    }
-}
-
-fn wide_of(token: Token<'_>) -> Option<i64> {
-    let Token::Number(text) = token else {
-        return None;
-    };
-    signed_wide(text)
-}
-
-fn float_of(token: Token<'_>) -> Option<Value> {
-    let bits = match token {
-        Token::String(text) => word_bits(text),
-        Token::Number(text) => float_digits(text),
+/// What one token says of a number.
+pub(crate) fn scalar_of(scalar: Scalar, ids: Table, token: Token<'_>) -> Option<Element> {
+    match token {
+        Token::Number(digits) => digits_of(scalar, digits),
+        Token::String(text) => match scalar {
+            Scalar::Id => Some(Element::Id(Id(number_of(ids, text)?))),
+            Scalar::Float => Some(Element::Float(Float32(word_bits(text)?))),
+            Scalar::Double => Some(Element::Double(Float64(wide_bits(text)?))),
+            _ => None,
+        },
         _ => None,
-    };
-    match bits {
-        Some(bits) => Some(Value::Float(Float32(bits))),
-        None => None,
-    }
-}
-
-fn double_of(token: Token<'_>) -> Option<Value> {
-    let bits = match token {
-        Token::String(text) => wide_bits(text),
-        Token::Number(text) => double_digits(text),
-        _ => None,
-    };
-    match bits {
-        Some(bits) => Some(Value::Double(Float64(bits))),
-        None => None,
     }
 }

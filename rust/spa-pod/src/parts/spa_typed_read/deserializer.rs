@@ -6,19 +6,18 @@ use crate::parts::spa_fixed_sized::DeserializeError;
 use crate::parts::spa_read::{read_value, read_value_leniently};
 use crate::parts::spa_value::Value;
 
+/// The answer of a typed read: the value, and the bytes that follow its pod; or the refusal, which may name bytes of the input.
+pub type ReadResult<'de, T> = Result<(T, DeserializeSuccess<'de>), DeserializeError<&'de [u8]>>;
+
 /// A type that is read from a pod.
 pub trait PodDeserialize<'de>: Sized {
     /// Reads the pod at the front of the deserializer's input. Each type says how it refuses one.
-    fn deserialize(
-        deserializer: PodDeserializer<'de>,
-    ) -> Result<(Self, DeserializeSuccess<'de>), DeserializeError<&'de [u8]>>;
+    fn deserialize(deserializer: PodDeserializer<'de>) -> ReadResult<'de, Self>;
 }
 
 /// Any value. The refusals are those of `deserialize_any_from`.
 impl<'de> PodDeserialize<'de> for Value {
-    fn deserialize(
-        deserializer: PodDeserializer<'de>,
-    ) -> Result<(Value, DeserializeSuccess<'de>), DeserializeError<&'de [u8]>> {
+    fn deserialize(deserializer: PodDeserializer<'de>) -> ReadResult<'de, Value> {
         deserializer.deserialize_any()
     }
 }
@@ -119,9 +118,8 @@ impl<'de> PodDeserializer<'de> {
     }
 
     /// Reads the pod at the front of the remaining bytes, of any type. The refusals are those of `deserialize_any_from`.
-    pub fn deserialize_any_unbounded(
-        self,
-    ) -> Result<(Value, DeserializeSuccess<'de>), DeserializeError<&'de [u8]>> {
+    #[must_use]
+    pub fn deserialize_any_unbounded(self) -> ReadResult<'de, Value> {
         let (rest, value) = PodDeserializer::deserialize_any_from_unbounded(self.input)?;
         Ok((value, self.after(rest)))
     }

@@ -17,7 +17,7 @@ mod visitor;
 
 pub use array_element::ArrayElement;
 pub use content::{DeserializeAs, DeserializeMembers, StructOf};
-pub use deserializer::{DeserializeSuccess, PodDeserialize, PodDeserializer};
+pub use deserializer::{DeserializeSuccess, PodDeserialize, PodDeserializer, ReadResult};
 pub use exact::ExactDeserialize;
 pub use items::ArrayPodDeserializer;
 pub use members::StructPodDeserializer;
@@ -25,4 +25,4 @@ pub use object_content::{DeserializeProperties, ObjectOf, Optional, Required};
 pub use passing::Skipped;
 pub use properties::ObjectPodDeserializer;
 pub use settled::Settled;
-pub use visitor::{Never, Visit, Visitor};
+pub use visitor::{Never, VariantVisitor, Visit, Visitor};

@@ -2,7 +2,7 @@
 //! Typed reads: reads a pod of one type at the front, and hands its content to a visitor.
 
 use crate::shims::prelude::*;
-use crate::parts::spa_typed_read::deserializer::{DeserializeSuccess, PodDeserializer};
+use crate::parts::spa_typed_read::deserializer::{PodDeserializer, ReadResult};
 use crate::parts::spa_typed_read::items::ArrayPodDeserializer;
 use crate::parts::spa_typed_read::members::StructPodDeserializer;
 use crate::parts::spa_typed_read::properties::ObjectPodDeserializer;
@@ -71,11 +71,7 @@ fn content<'de, E>(type_: u32, body: &'de [u8]) -> Result<Visit<'de, E>, Refusal
 
 impl<'de> PodDeserializer<'de> {
     /// Reads the pod at the front, which has to be of this type, and hands its content to the visitor.
-    fn deserialize_as<V: Visitor<'de>>(
-        self,
-        type_: u32,
-        visitor: V,
-    ) -> Result<(V::Value, DeserializeSuccess<'de>), DeserializeError<&'de [u8]>> {
+    fn deserialize_as<V: Visitor<'de>>(self, type_: u32, visitor: V) -> ReadResult<'de, V::Value> {
         let front = open_as(self.input, type_)?;
         let given = match content::<V::ArrayElem>(type_, front.body) {
             Ok(given) => given,
@@ -89,10 +85,8 @@ impl<'de> PodDeserializer<'de> {
     ///
     /// Refusals: `Nom` with `Short` where the front isn't there, `Nom` with `Tag` where it is of another type,
     /// `WrongSize` where the body has another size; else the visitor's.
-    pub fn deserialize_none<V: Visitor<'de>>(
-        self,
-        visitor: V,
-    ) -> Result<(V::Value, DeserializeSuccess<'de>), DeserializeError<&'de [u8]>> {
+    #[must_use]
+    pub fn deserialize_none<V: Visitor<'de>>(self, visitor: V) -> ReadResult<'de, V::Value> {
         self.deserialize_as(SpaTypes::None.0, visitor)
     }
 
@@ -100,10 +94,8 @@ impl<'de> PodDeserializer<'de> {
     ///
     /// Refusals: `Nom` with `Short` where the front isn't there, `Nom` with `Tag` where it is of another type,
     /// `WrongSize` where the body has another size; else the visitor's.
-    pub fn deserialize_bool<V: Visitor<'de>>(
-        self,
-        visitor: V,
-    ) -> Result<(V::Value, DeserializeSuccess<'de>), DeserializeError<&'de [u8]>> {
+    #[must_use]
+    pub fn deserialize_bool<V: Visitor<'de>>(self, visitor: V) -> ReadResult<'de, V::Value> {
         self.deserialize_as(SpaTypes::Bool.0, visitor)
     }
 
@@ -111,10 +103,8 @@ impl<'de> PodDeserializer<'de> {
     ///
     /// Refusals: `Nom` with `Short` where the front isn't there, `Nom` with `Tag` where it is of another type,
     /// `WrongSize` where the body has another size; else the visitor's.
-    pub fn deserialize_int<V: Visitor<'de>>(
-        self,
-        visitor: V,
-    ) -> Result<(V::Value, DeserializeSuccess<'de>), DeserializeError<&'de [u8]>> {
+    #[must_use]
+    pub fn deserialize_int<V: Visitor<'de>>(self, visitor: V) -> ReadResult<'de, V::Value> {
         self.deserialize_as(SpaTypes::Int.0, visitor)
     }
 
@@ -122,10 +112,8 @@ impl<'de> PodDeserializer<'de> {
     ///
     /// Refusals: `Nom` with `Short` where the front isn't there, `Nom` with `Tag` where it is of another type,
     /// `WrongSize` where the body has another size; else the visitor's.
-    pub fn deserialize_long<V: Visitor<'de>>(
-        self,
-        visitor: V,
-    ) -> Result<(V::Value, DeserializeSuccess<'de>), DeserializeError<&'de [u8]>> {
+    #[must_use]
+    pub fn deserialize_long<V: Visitor<'de>>(self, visitor: V) -> ReadResult<'de, V::Value> {
         self.deserialize_as(SpaTypes::Long.0, visitor)
     }
 
@@ -133,10 +121,8 @@ impl<'de> PodDeserializer<'de> {
     ///
     /// Refusals: `Nom` with `Short` where the front isn't there, `Nom` with `Tag` where it is of another type,
     /// `WrongSize` where the body has another size; else the visitor's.
-    pub fn deserialize_float<V: Visitor<'de>>(
-        self,
-        visitor: V,
-    ) -> Result<(V::Value, DeserializeSuccess<'de>), DeserializeError<&'de [u8]>> {
+    #[must_use]
+    pub fn deserialize_float<V: Visitor<'de>>(self, visitor: V) -> ReadResult<'de, V::Value> {
         self.deserialize_as(SpaTypes::Float.0, visitor)
     }
 
@@ -144,10 +130,8 @@ impl<'de> PodDeserializer<'de> {
     ///
     /// Refusals: `Nom` with `Short` where the front isn't there, `Nom` with `Tag` where it is of another type,
     /// `WrongSize` where the body has another size; else the visitor's.
-    pub fn deserialize_double<V: Visitor<'de>>(
-        self,
-        visitor: V,
-    ) -> Result<(V::Value, DeserializeSuccess<'de>), DeserializeError<&'de [u8]>> {
+    #[must_use]
+    pub fn deserialize_double<V: Visitor<'de>>(self, visitor: V) -> ReadResult<'de, V::Value> {
         self.deserialize_as(SpaTypes::Double.0, visitor)
     }
 
@@ -155,10 +139,8 @@ impl<'de> PodDeserializer<'de> {
     ///
     /// Refusals: `Nom` with `Short` where the front isn't there, `Nom` with `Tag` where it is of another type, `Nom`
     /// with `Text` where the body is no text with one NUL behind it; else the visitor's.
-    pub fn deserialize_str<V: Visitor<'de>>(
-        self,
-        visitor: V,
-    ) -> Result<(V::Value, DeserializeSuccess<'de>), DeserializeError<&'de [u8]>> {
+    #[must_use]
+    pub fn deserialize_str<V: Visitor<'de>>(self, visitor: V) -> ReadResult<'de, V::Value> {
         self.deserialize_as(SpaTypes::String.0, visitor)
     }
 
@@ -166,10 +148,8 @@ impl<'de> PodDeserializer<'de> {
     ///
     /// Refusals: `Nom` with `Short` where the front isn't there, `Nom` with `Tag` where it is of another type; else the
     /// visitor's.
-    pub fn deserialize_bytes<V: Visitor<'de>>(
-        self,
-        visitor: V,
-    ) -> Result<(V::Value, DeserializeSuccess<'de>), DeserializeError<&'de [u8]>> {
+    #[must_use]
+    pub fn deserialize_bytes<V: Visitor<'de>>(self, visitor: V) -> ReadResult<'de, V::Value> {
         self.deserialize_as(SpaTypes::Bytes.0, visitor)
     }
 
@@ -177,10 +157,8 @@ impl<'de> PodDeserializer<'de> {
     ///
     /// Refusals: `Nom` with `Short` where the front isn't there, `Nom` with `Tag` where it is of another type; else the
     /// visitor's.
-    pub fn deserialize_bitmap<V: Visitor<'de>>(
-        self,
-        visitor: V,
-    ) -> Result<(V::Value, DeserializeSuccess<'de>), DeserializeError<&'de [u8]>> {
+    #[must_use]
+    pub fn deserialize_bitmap<V: Visitor<'de>>(self, visitor: V) -> ReadResult<'de, V::Value> {
         self.deserialize_as(SpaTypes::Bitmap.0, visitor)
     }
 
@@ -188,10 +166,8 @@ impl<'de> PodDeserializer<'de> {
     ///
     /// Refusals: `Nom` with `Short` where the front isn't there, `Nom` with `Tag` where it is of another type,
     /// `WrongSize` where the body has another size; else the visitor's.
-    pub fn deserialize_rectangle<V: Visitor<'de>>(
-        self,
-        visitor: V,
-    ) -> Result<(V::Value, DeserializeSuccess<'de>), DeserializeError<&'de [u8]>> {
+    #[must_use]
+    pub fn deserialize_rectangle<V: Visitor<'de>>(self, visitor: V) -> ReadResult<'de, V::Value> {
         self.deserialize_as(SpaTypes::Rectangle.0, visitor)
     }
 
@@ -199,10 +175,8 @@ impl<'de> PodDeserializer<'de> {
     ///
     /// Refusals: `Nom` with `Short` where the front isn't there, `Nom` with `Tag` where it is of another type,
     /// `WrongSize` where the body has another size; else the visitor's.
-    pub fn deserialize_fraction<V: Visitor<'de>>(
-        self,
-        visitor: V,
-    ) -> Result<(V::Value, DeserializeSuccess<'de>), DeserializeError<&'de [u8]>> {
+    #[must_use]
+    pub fn deserialize_fraction<V: Visitor<'de>>(self, visitor: V) -> ReadResult<'de, V::Value> {
         self.deserialize_as(SpaTypes::Fraction.0, visitor)
     }
 
@@ -210,10 +184,8 @@ impl<'de> PodDeserializer<'de> {
     ///
     /// Refusals: `Nom` with `Short` where the front isn't there, `Nom` with `Tag` where it is of another type,
     /// `WrongSize` where the body has another size; else the visitor's.
-    pub fn deserialize_id<V: Visitor<'de>>(
-        self,
-        visitor: V,
-    ) -> Result<(V::Value, DeserializeSuccess<'de>), DeserializeError<&'de [u8]>> {
+    #[must_use]
+    pub fn deserialize_id<V: Visitor<'de>>(self, visitor: V) -> ReadResult<'de, V::Value> {
         self.deserialize_as(SpaTypes::Id.0, visitor)
     }
 
@@ -221,10 +193,8 @@ impl<'de> PodDeserializer<'de> {
     ///
     /// Refusals: `Nom` with `Short` where the front isn't there, `Nom` with `Tag` where it is of another type,
     /// `WrongSize` where the body has another size; else the visitor's.
-    pub fn deserialize_fd<V: Visitor<'de>>(
-        self,
-        visitor: V,
-    ) -> Result<(V::Value, DeserializeSuccess<'de>), DeserializeError<&'de [u8]>> {
+    #[must_use]
+    pub fn deserialize_fd<V: Visitor<'de>>(self, visitor: V) -> ReadResult<'de, V::Value> {
         self.deserialize_as(SpaTypes::Fd.0, visitor)
     }
 
@@ -232,10 +202,8 @@ impl<'de> PodDeserializer<'de> {
     ///
     /// Refusals: `Nom` with `Short` where the front isn't there, `Nom` with `Tag` where it is of another type,
     /// `WrongSize` where the body has neither 12 nor 16 bytes; else the visitor's.
-    pub fn deserialize_pointer<V: Visitor<'de>>(
-        self,
-        visitor: V,
-    ) -> Result<(V::Value, DeserializeSuccess<'de>), DeserializeError<&'de [u8]>> {
+    #[must_use]
+    pub fn deserialize_pointer<V: Visitor<'de>>(self, visitor: V) -> ReadResult<'de, V::Value> {
         self.deserialize_as(SpaTypes::Pointer.0, visitor)
     }
 
@@ -244,10 +212,8 @@ impl<'de> PodDeserializer<'de> {
     /// Refusals: `Nom` with `Short` where the front isn't there, `Nom` with `Tag` where it is of another type;
     /// `WrongSize`, `InvalidChoiceType` and `MissingChoiceValues` as its body has them, `InvalidType` where its values
     /// are of another type than these nine; `OutOfMemory`; else the visitor's.
-    pub fn deserialize_choice<V: Visitor<'de>>(
-        self,
-        visitor: V,
-    ) -> Result<(V::Value, DeserializeSuccess<'de>), DeserializeError<&'de [u8]>> {
+    #[must_use]
+    pub fn deserialize_choice<V: Visitor<'de>>(self, visitor: V) -> ReadResult<'de, V::Value> {
         self.deserialize_as(SpaTypes::Choice.0, visitor)
     }
 
@@ -255,10 +221,8 @@ impl<'de> PodDeserializer<'de> {
     ///
     /// Refusals: `Nom` with `Short` where the front isn't there, `Nom` with `Tag` where it is of another type or its elements
     /// are, `WrongSize` where the child size isn't the type's or the elements aren't whole, `OutOfMemory`; else the visitor's.
-    pub fn deserialize_array<V, T>(
-        self,
-        visitor: V,
-    ) -> Result<(V::Value, DeserializeSuccess<'de>), DeserializeError<&'de [u8]>>
+    #[must_use]
+    pub fn deserialize_array<V, T>(self, visitor: V) -> ReadResult<'de, V::Value>
     where
         V: Visitor<'de, ArrayElem = T>,
         T: CanonicalFixedSizedPod, {
@@ -271,10 +235,8 @@ impl<'de> PodDeserializer<'de> {
     ///
     /// Refusals: `Nom` with `Short` where the front isn't there, `Nom` with `Tag` where it is of another type; else the
     /// visitor's, `FailedReader` where a member was refused, and `UnreadMembers` where one is left.
-    pub fn deserialize_struct<V: Visitor<'de>>(
-        self,
-        visitor: V,
-    ) -> Result<(V::Value, DeserializeSuccess<'de>), DeserializeError<&'de [u8]>> {
+    #[must_use]
+    pub fn deserialize_struct<V: Visitor<'de>>(self, visitor: V) -> ReadResult<'de, V::Value> {
         let mut reader = StructPodDeserializer::open(self)?;
         let value = visitor.visit_struct(&mut reader)?;
         let success = reader.end()?;
@@ -286,10 +248,8 @@ impl<'de> PodDeserializer<'de> {
     /// Refusals: `Nom` with `Short` where the front isn't there, `Nom` with `Tag` where it is of another type, `WrongSize`
     /// where its body lacks the object's type or id; else the visitor's, `FailedReader` where a property was refused, and
     /// `UnreadMembers` where one is left.
-    pub fn deserialize_object<V: Visitor<'de>>(
-        self,
-        visitor: V,
-    ) -> Result<(V::Value, DeserializeSuccess<'de>), DeserializeError<&'de [u8]>> {
+    #[must_use]
+    pub fn deserialize_object<V: Visitor<'de>>(self, visitor: V) -> ReadResult<'de, V::Value> {
         let mut reader = ObjectPodDeserializer::open(self)?;
         let value = visitor.visit_object(&mut reader)?;
         let success = reader.end()?;

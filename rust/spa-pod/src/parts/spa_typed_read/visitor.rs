@@ -77,3 +77,43 @@ pub trait Visitor<'de>: Sized {
         reader: &mut ObjectPodDeserializer<'de>,
     ) -> Result<Self::Value, DeserializeError<&'de [u8]>>;
 }
+
+/// A visitor that takes the contents of one variant of `Visit`, and declines any other, each struct and each object as `UnsupportedType`. It is a
+/// `Visitor`.
+pub trait VariantVisitor<'de>: Sized {
+    /// The type of the values in that variant.
+    type Made;
+
+    /// The element type of the arrays that the visitor takes; `Never` where it takes none.
+    type Element;
+
+    /// The value in that variant. None: the content is of another one.
+    fn of_visit(given: Visit<'de, Self::Element>) -> Option<Self::Made>;
+}
+
+impl<'de, V: VariantVisitor<'de>> Visitor<'de> for V {
+    type Value = V::Made;
+
+    type ArrayElem = V::Element;
+
+    fn visit(&self, given: Visit<'de, V::Element>) -> Result<V::Made, DeserializeError<&'de [u8]>> {
+        match V::of_visit(given) {
+            Some(x) => Ok(x),
+            None => Err(DeserializeError::UnsupportedType),
+        }
+    }
+
+    fn visit_struct(
+        &self,
+        _reader: &mut StructPodDeserializer<'de>,
+    ) -> Result<V::Made, DeserializeError<&'de [u8]>> {
+        Err(DeserializeError::UnsupportedType)
+    }
+
+    fn visit_object(
+        &self,
+        _reader: &mut ObjectPodDeserializer<'de>,
+    ) -> Result<V::Made, DeserializeError<&'de [u8]>> {
+        Err(DeserializeError::UnsupportedType)
+    }
+}

@@ -2,7 +2,8 @@
 //! The ten types of fixed size, written as themselves, and lists of them, written as arrays.
 
 use crate::shims::prelude::*;
-use crate::parts::spa_typed_write::exact::{SerializeAs, write_elements, write_number};
+use crate::parts::spa_typed_write::exact::{SerializeAs, write_elements};
+use crate::parts::spa_bodies::put_number;
 use crate::parts::spa_fixed_sized::CanonicalFixedSizedPod;
 use crate::parts::spa_sink::{GenError, PodOutput};
 use crate::parts::spa_utils::{Fd, Float32, Float64, Fraction, Id, Rectangle};
@@ -34,7 +35,7 @@ impl ArrayElement for Fd {}
 impl<T: ArrayElement> SerializeAs for T {
     #[cfg_attr(not(debug_assertions), inline(always))]
     fn write_as<O: PodOutput>(&self, out: &mut O) -> Result<(), GenError> {
-        write_number(out, self)
+        put_number(out, self)
     }
 }
 

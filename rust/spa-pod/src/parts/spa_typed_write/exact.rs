@@ -3,12 +3,9 @@
 
 use crate::parts::spa_typed_write::serializer::{PodSerialize, PodSerializer, SerializeSuccess};
 use crate::parts::spa_typed_write::whole::written_since;
-use crate::parts::spa_bodies::{
-    put_alternatives, put_bitmap, put_bytes, put_elements, put_number, put_pointer, put_text,
-};
-use crate::parts::spa_fixed_sized::{CanonicalFixedSizedPod, ChoiceElement};
+use crate::parts::spa_bodies::{put_bytes, put_elements, put_text};
+use crate::parts::spa_fixed_sized::CanonicalFixedSizedPod;
 use crate::parts::spa_sink::{GenError, PodOutput};
-use crate::parts::spa_utils::Choice;
 use crate::parts::spa_value::Value;
 use crate::parts::spa_write::write_sized;
 
@@ -63,29 +60,12 @@ impl SerializeAs for Value {
     }
 }
 
-/// Appends the encoding of a value of a type of fixed size.
-#[cfg_attr(not(debug_assertions), inline(always))]
-pub(crate) fn write_number<T: CanonicalFixedSizedPod, O: PodOutput>(
-    out: &mut O,
-    value: &T,
-) -> Result<(), GenError> {
-    put_number(out, value)
-}
-
 /// Appends the encoding of an array of these elements.
 pub(crate) fn write_elements<T: CanonicalFixedSizedPod, O: PodOutput>(
     out: &mut O,
     values: &[T],
 ) -> Result<(), GenError> {
     put_elements(out, values)
-}
-
-/// Appends the encoding of a choice over one type of fixed size.
-pub(crate) fn write_alternatives<T: ChoiceElement, O: PodOutput>(
-    out: &mut O,
-    choice: &Choice<T>,
-) -> Result<(), GenError> {
-    put_alternatives(out, choice)
 }
 
 /// Appends the encoding of a text.
@@ -96,18 +76,4 @@ pub(crate) fn write_text<O: PodOutput>(out: &mut O, text: &str) -> Result<(), Ge
 /// Appends the encoding of bytes.
 pub(crate) fn write_bytes<O: PodOutput>(out: &mut O, bytes: &[u8]) -> Result<(), GenError> {
     put_bytes(out, bytes)
-}
-
-/// Appends the encoding of a bitmap.
-pub(crate) fn write_bitmap<O: PodOutput>(out: &mut O, bytes: &[u8]) -> Result<(), GenError> {
-    put_bitmap(out, bytes)
-}
-
-/// Appends the encoding of a pointer.
-pub(crate) fn write_pointer<O: PodOutput>(
-    out: &mut O,
-    type_: u32,
-    address: u64,
-) -> Result<(), GenError> {
-    put_pointer(out, type_, address)
 }

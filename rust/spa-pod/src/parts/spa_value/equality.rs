@@ -47,40 +47,26 @@ impl PartialEq for ChoiceValue {
 
 impl PartialEq for Value {
     fn eq(&self, other: &Value) -> bool {
-        same_values(self, other)
+        match compare(self, other) {
+            Verdict::Settled(is_same) => is_same,
+            Verdict::Inside(pair) => same_pairs(pair),
+        }
     }
 }
 
 impl PartialEq for Object {
     fn eq(&self, other: &Object) -> bool {
-        same_objects(self, other)
+        match compare_objects(self, other) {
+            Verdict::Settled(is_same) => is_same,
+            Verdict::Inside(pair) => same_pairs(pair),
+        }
     }
 }
 
 impl PartialEq for Property {
     fn eq(&self, other: &Property) -> bool {
-        same_properties(self, other)
+        self.key == other.key && self.flags == other.flags && self.value == other.value
     }
-}
-
-fn same_values(value: &Value, other: &Value) -> bool {
-    match compare(value, other) {
-        Verdict::Settled(is_same) => is_same,
-        Verdict::Inside(pair) => same_pairs(pair),
-    }
-}
-
-fn same_objects(object: &Object, other: &Object) -> bool {
-    match compare_objects(object, other) {
-        Verdict::Settled(is_same) => is_same,
-        Verdict::Inside(pair) => same_pairs(pair),
-    }
-}
-
-fn same_properties(property: &Property, other: &Property) -> bool {
-    property.key == other.key
-        && property.flags == other.flags
-        && same_values(&property.value, &other.value)
 }
 
 /// Whether what is left of two structs, or of two objects, is equal. It calls itself for two containers in them, unless nothing is left behind

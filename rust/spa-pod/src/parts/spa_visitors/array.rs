@@ -2,8 +2,7 @@
 //! The visitor of arrays.
 
 use crate::shims::prelude::*;
-use crate::parts::spa_fixed_sized::DeserializeError;
-use crate::parts::spa_typed_read::{ObjectPodDeserializer, StructPodDeserializer, Visit, Visitor};
+use crate::parts::spa_typed_read::{VariantVisitor, Visit};
 use core::marker::PhantomData;
 
 /// Answers the elements that it is given.
@@ -20,32 +19,15 @@ impl<E> Default for VecVisitor<E> {
     }
 }
 
-impl<'de, E> Visitor<'de> for VecVisitor<E> {
-    type Value = Vec<E>;
+impl<'de, E> VariantVisitor<'de> for VecVisitor<E> {
+    type Made = Vec<E>;
 
-    type ArrayElem = E;
+    type Element = E;
 
-    fn visit(&self, given: Visit<'de, E>) -> Result<Vec<E>, DeserializeError<&'de [u8]>> {
+    fn of_visit(given: Visit<'de, E>) -> Option<Vec<E>> {
         match given {
-            Visit::Array(items) => Ok(items),
-            other => {
-                drop(other);
-                Err(DeserializeError::UnsupportedType)
-            }
+            Visit::Array(items) => Some(items),
+            _ => None,
         }
-    }
-
-    fn visit_struct(
-        &self,
-        _reader: &mut StructPodDeserializer<'de>,
-    ) -> Result<Vec<E>, DeserializeError<&'de [u8]>> {
-        Err(DeserializeError::UnsupportedType)
-    }
-
-    fn visit_object(
-        &self,
-        _reader: &mut ObjectPodDeserializer<'de>,
-    ) -> Result<Vec<E>, DeserializeError<&'de [u8]>> {
-        Err(DeserializeError::UnsupportedType)
     }
 }

@@ -2,40 +2,22 @@
 //! Visitors of texts, bytes, bitmaps and pointers.
 
 use crate::shims::prelude::*;
-use crate::parts::spa_fixed_sized::DeserializeError;
-use crate::parts::spa_typed_read::{Never, ObjectPodDeserializer, StructPodDeserializer, Visit, Visitor};
+use crate::parts::spa_typed_read::{Never, VariantVisitor, Visit};
 
 /// Answers the text that it is given, borrowed from the input.
 #[derive(Debug)]
 pub struct StringVisitor;
 
-impl<'de> Visitor<'de> for StringVisitor {
-    type Value = &'de str;
+impl<'de> VariantVisitor<'de> for StringVisitor {
+    type Made = &'de str;
 
-    type ArrayElem = Never;
+    type Element = Never;
 
-    fn visit(&self, given: Visit<'de, Never>) -> Result<&'de str, DeserializeError<&'de [u8]>> {
+    fn of_visit(given: Visit<'de, Never>) -> Option<&'de str> {
         match given {
-            Visit::String(x) => Ok(x),
-            other => {
-                drop(other);
-                Err(DeserializeError::UnsupportedType)
-            }
+            Visit::String(x) => Some(x),
+            _ => None,
         }
-    }
-
-    fn visit_struct(
-        &self,
-        _reader: &mut StructPodDeserializer<'de>,
-    ) -> Result<&'de str, DeserializeError<&'de [u8]>> {
-        Err(DeserializeError::UnsupportedType)
-    }
-
-    fn visit_object(
-        &self,
-        _reader: &mut ObjectPodDeserializer<'de>,
-    ) -> Result<&'de str, DeserializeError<&'de [u8]>> {
-        Err(DeserializeError::UnsupportedType)
     }
 }
 
@@ -43,33 +25,16 @@ impl<'de> Visitor<'de> for StringVisitor {
 #[derive(Debug)]
 pub struct BytesVisitor;
 
-impl<'de> Visitor<'de> for BytesVisitor {
-    type Value = &'de [u8];
+impl<'de> VariantVisitor<'de> for BytesVisitor {
+    type Made = &'de [u8];
 
-    type ArrayElem = Never;
+    type Element = Never;
 
-    fn visit(&self, given: Visit<'de, Never>) -> Result<&'de [u8], DeserializeError<&'de [u8]>> {
+    fn of_visit(given: Visit<'de, Never>) -> Option<&'de [u8]> {
         match given {
-            Visit::Bytes(x) => Ok(x),
-            other => {
-                drop(other);
-                Err(DeserializeError::UnsupportedType)
-            }
+            Visit::Bytes(x) => Some(x),
+            _ => None,
         }
-    }
-
-    fn visit_struct(
-        &self,
-        _reader: &mut StructPodDeserializer<'de>,
-    ) -> Result<&'de [u8], DeserializeError<&'de [u8]>> {
-        Err(DeserializeError::UnsupportedType)
-    }
-
-    fn visit_object(
-        &self,
-        _reader: &mut ObjectPodDeserializer<'de>,
-    ) -> Result<&'de [u8], DeserializeError<&'de [u8]>> {
-        Err(DeserializeError::UnsupportedType)
     }
 }
 
@@ -77,33 +42,16 @@ impl<'de> Visitor<'de> for BytesVisitor {
 #[derive(Debug)]
 pub struct BitmapVisitor;
 
-impl<'de> Visitor<'de> for BitmapVisitor {
-    type Value = &'de [u8];
+impl<'de> VariantVisitor<'de> for BitmapVisitor {
+    type Made = &'de [u8];
 
-    type ArrayElem = Never;
+    type Element = Never;
 
-    fn visit(&self, given: Visit<'de, Never>) -> Result<&'de [u8], DeserializeError<&'de [u8]>> {
+    fn of_visit(given: Visit<'de, Never>) -> Option<&'de [u8]> {
         match given {
-            Visit::Bitmap(x) => Ok(x),
-            other => {
-                drop(other);
-                Err(DeserializeError::UnsupportedType)
-            }
+            Visit::Bitmap(x) => Some(x),
+            _ => None,
         }
-    }
-
-    fn visit_struct(
-        &self,
-        _reader: &mut StructPodDeserializer<'de>,
-    ) -> Result<&'de [u8], DeserializeError<&'de [u8]>> {
-        Err(DeserializeError::UnsupportedType)
-    }
-
-    fn visit_object(
-        &self,
-        _reader: &mut ObjectPodDeserializer<'de>,
-    ) -> Result<&'de [u8], DeserializeError<&'de [u8]>> {
-        Err(DeserializeError::UnsupportedType)
     }
 }
 
@@ -112,32 +60,15 @@ impl<'de> Visitor<'de> for BitmapVisitor {
 #[derive(Debug)]
 pub struct PointerVisitor;
 
-impl<'de> Visitor<'de> for PointerVisitor {
-    type Value = (u32, u64);
+impl<'de> VariantVisitor<'de> for PointerVisitor {
+    type Made = (u32, u64);
 
-    type ArrayElem = Never;
+    type Element = Never;
 
-    fn visit(&self, given: Visit<'de, Never>) -> Result<(u32, u64), DeserializeError<&'de [u8]>> {
+    fn of_visit(given: Visit<'de, Never>) -> Option<(u32, u64)> {
         match given {
-            Visit::Pointer(type_, address) => Ok((type_, address)),
-            other => {
-                drop(other);
-                Err(DeserializeError::UnsupportedType)
-            }
+            Visit::Pointer(type_, address) => Some((type_, address)),
+            _ => None,
         }
-    }
-
-    fn visit_struct(
-        &self,
-        _reader: &mut StructPodDeserializer<'de>,
-    ) -> Result<(u32, u64), DeserializeError<&'de [u8]>> {
-        Err(DeserializeError::UnsupportedType)
-    }
-
-    fn visit_object(
-        &self,
-        _reader: &mut ObjectPodDeserializer<'de>,
-    ) -> Result<(u32, u64), DeserializeError<&'de [u8]>> {
-        Err(DeserializeError::UnsupportedType)
     }
 }

@@ -11,10 +11,7 @@ impl Handed for Choice<bool> {
     fn of_visit(given: Visit<'_, Never>) -> Option<Choice<bool>> {
         match given {
             Visit::Choice(ChoiceValue::Bool(x)) => Some(x),
-            other => {
-                drop(other);
-                None
-            }
+            _ => None,
         }
     }
 }
@@ -23,10 +20,7 @@ impl Handed for Choice<i32> {
     fn of_visit(given: Visit<'_, Never>) -> Option<Choice<i32>> {
         match given {
             Visit::Choice(ChoiceValue::Int(x)) => Some(x),
-            other => {
-                drop(other);
-                None
-            }
+            _ => None,
         }
     }
 }
@@ -35,10 +29,7 @@ impl Handed for Choice<i64> {
     fn of_visit(given: Visit<'_, Never>) -> Option<Choice<i64>> {
         match given {
             Visit::Choice(ChoiceValue::Long(x)) => Some(x),
-            other => {
-                drop(other);
-                None
-            }
+            _ => None,
         }
     }
 }
@@ -47,10 +38,7 @@ impl Handed for Choice<Float32> {
     fn of_visit(given: Visit<'_, Never>) -> Option<Choice<Float32>> {
         match given {
             Visit::Choice(ChoiceValue::Float(x)) => Some(x),
-            other => {
-                drop(other);
-                None
-            }
+            _ => None,
         }
     }
 }
@@ -59,10 +47,7 @@ impl Handed for Choice<Float64> {
     fn of_visit(given: Visit<'_, Never>) -> Option<Choice<Float64>> {
         match given {
             Visit::Choice(ChoiceValue::Double(x)) => Some(x),
-            other => {
-                drop(other);
-                None
-            }
+            _ => None,
         }
     }
 }
@@ -71,10 +56,7 @@ impl Handed for Choice<Id> {
     fn of_visit(given: Visit<'_, Never>) -> Option<Choice<Id>> {
         match given {
             Visit::Choice(ChoiceValue::Id(x)) => Some(x),
-            other => {
-                drop(other);
-                None
-            }
+            _ => None,
         }
     }
 }
@@ -83,10 +65,7 @@ impl Handed for Choice<Rectangle> {
     fn of_visit(given: Visit<'_, Never>) -> Option<Choice<Rectangle>> {
         match given {
             Visit::Choice(ChoiceValue::Rectangle(x)) => Some(x),
-            other => {
-                drop(other);
-                None
-            }
+            _ => None,
         }
     }
 }
@@ -95,10 +74,7 @@ impl Handed for Choice<Fraction> {
     fn of_visit(given: Visit<'_, Never>) -> Option<Choice<Fraction>> {
         match given {
             Visit::Choice(ChoiceValue::Fraction(x)) => Some(x),
-            other => {
-                drop(other);
-                None
-            }
+            _ => None,
         }
     }
 }
@@ -107,10 +83,7 @@ impl Handed for Choice<Fd> {
     fn of_visit(given: Visit<'_, Never>) -> Option<Choice<Fd>> {
         match given {
             Visit::Choice(ChoiceValue::Fd(x)) => Some(x),
-            other => {
-                drop(other);
-                None
-            }
+            _ => None,
         }
     }
 }

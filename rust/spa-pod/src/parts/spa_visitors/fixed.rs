@@ -10,10 +10,7 @@ impl Handed for () {
     fn of_visit(given: Visit<'_, Never>) -> Option<()> {
         match given {
             Visit::None => Some(()),
-            other => {
-                drop(other);
-                None
-            }
+            _ => None,
         }
     }
 }
@@ -22,10 +19,7 @@ impl Handed for bool {
     fn of_visit(given: Visit<'_, Never>) -> Option<bool> {
         match given {
             Visit::Bool(x) => Some(x),
-            other => {
-                drop(other);
-                None
-            }
+            _ => None,
         }
     }
 }
@@ -34,10 +28,7 @@ impl Handed for i32 {
     fn of_visit(given: Visit<'_, Never>) -> Option<i32> {
         match given {
             Visit::Int(x) => Some(x),
-            other => {
-                drop(other);
-                None
-            }
+            _ => None,
         }
     }
 }
@@ -46,10 +37,7 @@ impl Handed for i64 {
     fn of_visit(given: Visit<'_, Never>) -> Option<i64> {
         match given {
             Visit::Long(x) => Some(x),
-            other => {
-                drop(other);
-                None
-            }
+            _ => None,
         }
     }
 }
@@ -58,10 +46,7 @@ impl Handed for Float32 {
     fn of_visit(given: Visit<'_, Never>) -> Option<Float32> {
         match given {
             Visit::Float(x) => Some(x),
-            other => {
-                drop(other);
-                None
-            }
+            _ => None,
         }
     }
 }
@@ -70,10 +55,7 @@ impl Handed for Float64 {
     fn of_visit(given: Visit<'_, Never>) -> Option<Float64> {
         match given {
             Visit::Double(x) => Some(x),
-            other => {
-                drop(other);
-                None
-            }
+            _ => None,
         }
     }
 }
@@ -82,10 +64,7 @@ impl Handed for Rectangle {
     fn of_visit(given: Visit<'_, Never>) -> Option<Rectangle> {
         match given {
             Visit::Rectangle(x) => Some(x),
-            other => {
-                drop(other);
-                None
-            }
+            _ => None,
         }
     }
 }
@@ -94,10 +73,7 @@ impl Handed for Fraction {
     fn of_visit(given: Visit<'_, Never>) -> Option<Fraction> {
         match given {
             Visit::Fraction(x) => Some(x),
-            other => {
-                drop(other);
-                None
-            }
+            _ => None,
         }
     }
 }
@@ -106,10 +82,7 @@ impl Handed for Id {
     fn of_visit(given: Visit<'_, Never>) -> Option<Id> {
         match given {
             Visit::Id(x) => Some(x),
-            other => {
-                drop(other);
-                None
-            }
+            _ => None,
         }
     }
 }
@@ -118,10 +91,7 @@ impl Handed for Fd {
     fn of_visit(given: Visit<'_, Never>) -> Option<Fd> {
         match given {
             Visit::Fd(x) => Some(x),
-            other => {
-                drop(other);
-                None
-            }
+            _ => None,
         }
     }
 }

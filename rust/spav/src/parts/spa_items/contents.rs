@@ -26,37 +26,34 @@ fn wide_or(bytes: &[u8], at: usize) -> u64 {
     0
 }
 
+/// The content of these two numbers.
+#[cfg_attr(not(debug_assertions), inline(always))]
+fn both(first: u64, second: u64) -> Content {
+    Content { first, second }
+}
+
 /// The content of a body of one word.
 fn word(body: &[u8]) -> Content {
-    Content {
-        first: u64::from(word_or(body, 0)),
-        second: 0,
-    }
+    both(u64::from(word_or(body, 0)), 0)
 }
 
 /// The content of a body of one number in eight bytes.
 fn wide(body: &[u8]) -> Content {
-    Content {
-        first: wide_or(body, 0),
-        second: 0,
-    }
+    both(wide_or(body, 0), 0)
 }
 
 /// The content of a body of two words.
 fn words(body: &[u8]) -> Content {
-    Content {
-        first: u64::from(word_or(body, 0)),
-        second: u64::from(word_or(body, SECOND_WORD)),
-    }
+    both(
+        u64::from(word_or(body, 0)),
+        u64::from(word_or(body, SECOND_WORD)),
+    )
 }
 
 /// The content of a body of a type of fixed size; of any other type zeros.
 pub(crate) fn fixed_content(type_: u32, body: &[u8]) -> Content {
     match SpaTypes(type_) {
-        SpaTypes::Bool => Content {
-            first: u64::from(word_or(body, 0) != 0),
-            second: 0,
-        },
+        SpaTypes::Bool => both(u64::from(word_or(body, 0) != 0), 0),
         SpaTypes::Id => word(body),
         SpaTypes::Int => word(body),
         SpaTypes::Float => word(body),
@@ -65,10 +62,7 @@ pub(crate) fn fixed_content(type_: u32, body: &[u8]) -> Content {
         SpaTypes::Fd => wide(body),
         SpaTypes::Rectangle => words(body),
         SpaTypes::Fraction => words(body),
-        _ => Content {
-            first: 0,
-            second: 0,
-        },
+        _ => both(0, 0),
     }
 }
 
@@ -92,36 +86,21 @@ fn pointer(body: &[u8]) -> Content {
     } else {
         wide_or(body, ADDRESS_AT)
     };
-    Content {
-        first: u64::from(word_or(body, 0)),
-        second: address,
-    }
+    both(u64::from(word_or(body, 0)), address)
 }
 
 /// The content of a pod whose body begins at the byte `at`.
 pub(crate) fn content(type_: u32, at: usize, body: &[u8]) -> Content {
     match SpaTypes(type_) {
-        SpaTypes::String => Content {
-            first: at as u64,
-            second: body.len().saturating_sub(1) as u64,
-        },
-        SpaTypes::Bytes => Content {
-            first: at as u64,
-            second: body.len() as u64,
-        },
-        SpaTypes::Bitmap => Content {
-            first: at as u64,
-            second: body.len() as u64,
-        },
+        SpaTypes::String => both(at as u64, body.len().saturating_sub(1) as u64),
+        SpaTypes::Bytes => both(at as u64, body.len() as u64),
+        SpaTypes::Bitmap => both(at as u64, body.len() as u64),
         SpaTypes::Pointer => pointer(body),
-        SpaTypes::Array => Content {
-            first: (at + HEADER_LEN) as u64,
-            second: element_count(type_, body) as u64,
-        },
-        SpaTypes::Choice => Content {
-            first: u64::from(word_or(body, 0)),
-            second: element_count(type_, body) as u64,
-        },
+        SpaTypes::Array => both((at + HEADER_LEN) as u64, element_count(type_, body) as u64),
+        SpaTypes::Choice => both(
+            u64::from(word_or(body, 0)),
+            element_count(type_, body) as u64,
+        ),
         SpaTypes::Object => words(body),
         _ => fixed_content(type_, body),
     }

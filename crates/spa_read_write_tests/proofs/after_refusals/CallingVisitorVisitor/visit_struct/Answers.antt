@@ -1,5 +1,5 @@
 use Rattle.spa_typed_read.proofs.Stepping.{all_left, further_trans}
-use Rattle.spa_read_tests.proofs.after_refusals.CallingVisitorVisitor.visit_struct.Goals as goal
+use Rattle.spa_read_write_tests.proofs.after_refusals.CallingVisitorVisitor.visit_struct.Goals as goal
 
 pub returns-in-None-clause-made : goal.returns-in-None-clause-made
 returns-in-None-clause-made c =

@@ -1,5 +1,5 @@
 use Rattle.spa_typed_read.proofs.Stepping.{all_left_in, further_in_trans}
-use Rattle.spa_read_tests.proofs.after_refusals.CallingVisitorVisitor.visit_object.Goals as goal
+use Rattle.spa_read_write_tests.proofs.after_refusals.CallingVisitorVisitor.visit_object.Goals as goal
 
 pub returns-then-call-eq0-clause-same : goal.returns-then-call-eq0-clause-same
 returns-then-call-eq0-clause-same c =

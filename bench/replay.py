@@ -36,6 +36,7 @@ MOVED = {
     "crates/spa_read_tests/src/comparing": ("reading_rows",),
     "crates/spa_read_tests/": ("spa_read_write_tests",),
     "crates/spa_write_tests/": ("spa_read_write_tests",),
+    "crates/error_tests/": ("spa_utils_tests",),
     "crates/spa_tests/": ("reading_rows",),
     "crates/spa_negotiate_pods/": ("spa_negotiate",),
     "crates/spa_negotiate_objects/": ("spa_negotiate",),

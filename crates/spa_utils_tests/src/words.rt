@@ -1,5 +1,5 @@
-//! The words of each error.
-use crate::compare::{assert_prints, assert_words};
+//! The words of each error. A table is named by one function alone: one that names it is proved with all of its rows.
+use crate::printed::{assert_prints, assert_words};
 use spa_device::ReadError;
 use spa_filter::{FilterError, Side};
 use spa_fixed_sized::{DeserializeError, Fault, FaultKind};
@@ -48,6 +48,10 @@ const READS: &[(DeserializeError<u8>, &str)] = &[
     (DeserializeError::OutOfMemory, "out of memory"),
 ];
 
+fn reads() -> &'static [(DeserializeError<u8>, &'static str)] {
+    READS
+}
+
 /// Faults of bytes.
 const FAULTS: &[(FaultKind, &str)] = &[
     (FaultKind::Short, "the bytes are cut short"),
@@ -60,6 +64,10 @@ const FAULTS: &[(FaultKind, &str)] = &[
         "a string isn't UTF-8 with one NUL, at its end",
     ),
 ];
+
+fn faults() -> &'static [(FaultKind, &'static str)] {
+    FAULTS
+}
 
 /// Refusals of filters.
 const FILTERS: &[(FilterError, &str)] = &[
@@ -88,6 +96,10 @@ const FILTERS: &[(FilterError, &str)] = &[
     (FilterError::OutOfMemory, "out of memory"),
 ];
 
+fn filters() -> &'static [(FilterError, &'static str)] {
+    FILTERS
+}
+
 /// Refusals of negotiation.
 const MEETINGS: &[(NegotiateError, &str)] = &[
     (NegotiateError::TypeMismatch, "the objects are of two types"),
@@ -110,6 +122,10 @@ const MEETINGS: &[(NegotiateError, &str)] = &[
     ),
     (NegotiateError::OutOfMemory, "out of memory"),
 ];
+
+fn meetings() -> &'static [(NegotiateError, &'static str)] {
+    MEETINGS
+}
 
 /// Causes for which texts aren't read, their names and their words.
 const CAUSES: &[(Cause, &str, &str)] = &[
@@ -138,9 +154,13 @@ const CAUSES: &[(Cause, &str, &str)] = &[
     (Cause::End, "End", "something follows the value"),
 ];
 
+fn causes() -> &'static [(Cause, &'static str, &'static str)] {
+    CAUSES
+}
+
 #[test]
 fn refusals_of_readers_have_words(rt: HostRuntime) -> Result<(), Fail> {
-    for (error, words) in READS {
+    for (error, words) in reads() {
         assert_words(&rt, rt.alloc(), error, words)?;
     }
     Ok(())
@@ -148,7 +168,7 @@ fn refusals_of_readers_have_words(rt: HostRuntime) -> Result<(), Fail> {
 
 #[test]
 fn faults_have_words(rt: HostRuntime) -> Result<(), Fail> {
-    for (kind, words) in FAULTS {
+    for (kind, words) in faults() {
         let fault = Fault {
             input: 0u8,
             kind: *kind,
@@ -161,10 +181,10 @@ fn faults_have_words(rt: HostRuntime) -> Result<(), Fail> {
 
 #[test]
 fn refusals_of_two_objects_have_words(rt: HostRuntime) -> Result<(), Fail> {
-    for (error, words) in FILTERS {
+    for (error, words) in filters() {
         assert_words(&rt, rt.alloc(), error, words)?;
     }
-    for (error, words) in MEETINGS {
+    for (error, words) in meetings() {
         assert_words(&rt, rt.alloc(), error, words)?;
     }
     Ok(())
@@ -172,7 +192,7 @@ fn refusals_of_two_objects_have_words(rt: HostRuntime) -> Result<(), Fail> {
 
 #[test]
 fn causes_have_names_and_words(rt: HostRuntime) -> Result<(), Fail> {
-    for (cause, name, words) in CAUSES {
+    for (cause, name, words) in causes() {
         assert_prints(&rt, rt.alloc(), &cause.kind(), name)?;
         assert_prints(&rt, rt.alloc(), cause, words)?;
     }

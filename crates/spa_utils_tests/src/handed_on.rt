@@ -1,5 +1,5 @@
 //! Calls whose errors a program hands on by `?`.
-use crate::compare::{assert_prints, assert_refused, assert_words};
+use crate::printed::{assert_prints, assert_refused, assert_words};
 use arrayvec::ArrayVec;
 use bitflags::Flags;
 use spa_dict::{DictRef, Flags as DictFlags};

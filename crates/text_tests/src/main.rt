@@ -1,16 +1,30 @@
 //! Rows of texts and of names: standard input has a label, a word and what it asks about on each line, and standard output what the
 //! library answers, behind the label. The tests are of texts that nest deep, of texts of which each byte is changed, and of texts printed
-//! behind what was there.
+//! behind what was there; and of values compared, cloned, and printed by a loop.
 #![tactic(auto)]
 
 #[cfg(test)]
 mod appended;
 #[cfg(test)]
+mod clones;
+#[cfg(test)]
+mod compare;
+#[cfg(test)]
 mod depth;
+#[cfg(test)]
+mod equality;
 #[cfg(test)]
 mod hostile;
 #[cfg(test)]
+mod printing;
+#[cfg(test)]
+mod properties;
+#[cfg(test)]
+mod table;
+#[cfg(test)]
 mod texts;
+#[cfg(test)]
+mod twins;
 
 use spa_names::laws::{names_come_back, numbers_are_named};
 use spa_names::{expected_under, ids_of, keys_of, name_of, number_of, path_of};

@@ -1,4 +1,5 @@
 //! What the tests assert: each assertion is proved here, once.
+use std::fmt::Debug;
 use std::process::Abort;
 
 /// Compares bytes. The text says where.
@@ -14,4 +15,9 @@ pub(crate) fn assert_said(rt: &impl Abort, found: &str, wanted: &str, place: &st
 /// Something holds. The text says what.
 pub(crate) fn assert_holds(rt: &impl Abort, holds: bool, what: &str) {
     assert!(rt; holds, "{what}");
+}
+
+/// Compares what is found with what is wanted. The text says where.
+pub(crate) fn assert_same<T: PartialEq + Debug>(rt: &impl Abort, found: &T, wanted: &T, at: &str) {
+    assert_eq!(rt; *found, *wanted, "at {at}");
 }

@@ -1,5 +1,6 @@
 //! The values of None choices, of arrays and of choices. A table is a text with a row a line.
 use crate::compare::{assert_bytes, assert_holds, assert_said};
+use crate::rows::{object_at, parts, pod_at};
 use bitflags::Flags;
 use spa_utils::{Errno, Fd, Float32, Float64, Fraction, Id, Rectangle};
 use spa_view::{FromPod, Pod, PodArray, PodChoice, PodElements, PodObject, whole_bytes};
@@ -68,21 +69,6 @@ const LOOKED_UP: &str = r#"24 15 5 3 1 0 0 1 | 1 ()
 56 15 5 3 2 0 4 4 3 0 1 0 4 4 9 0 | 4 9
 32 15 5 3 2 0 4 4 3 0 |
 8 15 5 3 |"#;
-
-/// The parts of a row, without the spaces around them.
-fn parts(row: &str) -> (&str, &str, &str) {
-    let (first, rest) = row.split_once('|').unwrap_or((row, ""));
-    let (second, third) = rest.split_once('|').unwrap_or((rest, ""));
-    (first.trim(), second.trim(), third.trim())
-}
-
-fn pod_at(bytes: &[u8]) -> Result<Pod<'_>, &'static str> {
-    Pod::from_bytes(bytes).ok_or("no pod")
-}
-
-fn object_at(bytes: &[u8]) -> Result<PodObject<'_>, &'static str> {
-    pod_at(bytes)?.as_object().ok().ok_or("no object")
-}
 
 fn array_at(bytes: &[u8]) -> Result<PodArray<'_>, &'static str> {
     pod_at(bytes)?.as_array().ok().ok_or("no array")

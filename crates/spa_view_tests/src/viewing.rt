@@ -1,5 +1,6 @@
 //! The worked rows of views and fixation, and each public call. A table is a text with a row a line, so that it is data.
 use crate::compare::{assert_bytes, assert_holds, assert_said};
+use crate::rows::{object_at, parts, pod_at};
 use bitflags::Flags;
 use spa_utils::{Errno, Id};
 use spa_view::{Pod, PodObject, PodObjectIter, PodProp, PodPropFlags, PodStruct, PodStructIter};
@@ -101,17 +102,8 @@ const NO_OBJECTS: &str = "0 14
 4
 56 15 5 3";
 
-/// The view of the pod at the front of the bytes.
-fn pod_at(bytes: &[u8]) -> Result<Pod<'_>, &'static str> {
-    Pod::from_bytes(bytes).ok_or("no pod")
-}
-
 fn struct_at(bytes: &[u8]) -> Result<PodStruct<'_>, &'static str> {
     pod_at(bytes)?.as_struct().ok().ok_or("no struct")
-}
-
-fn object_at(bytes: &[u8]) -> Result<PodObject<'_>, &'static str> {
-    pod_at(bytes)?.as_object().ok().ok_or("no object")
 }
 
 /// Whether the pod passes the test of the type with this number.
@@ -170,13 +162,6 @@ fn push_shown<T: Debug + Drop>(
         Err(errno) if errno == Errno::INVAL => Ok(()),
         Err(_) => said.push_str("not INVAL "),
     }
-}
-
-/// The parts of a row, without the spaces around them.
-fn parts(row: &str) -> (&str, &str, &str) {
-    let (first, rest) = row.split_once('|').unwrap_or((row, ""));
-    let (second, third) = rest.split_once('|').unwrap_or((rest, ""));
-    (first.trim(), second.trim(), third.trim())
 }
 
 /// The numbers of the types whose tests the pod passes.

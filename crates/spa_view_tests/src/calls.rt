@@ -1,5 +1,6 @@
 //! Calls of a parser in order, and what each answers. A table is a text with a row a line, so that it is data.
 use crate::compare::assert_same;
+use crate::rows::parts;
 use spa_parser::Parser;
 use spa_utils::{Errno, Frame, Id};
 use spa_view::Pod;
@@ -7,7 +8,7 @@ use std::alloc::{AllocError, Global};
 use std::fmt::Debug;
 use std::process::Abort;
 use std::test::Fail;
-use test_bytes::{bytes_of, bytes_spelled};
+use test_bytes::{bytes_of, bytes_spelled, nested_structs};
 
 /// Words of an input; calls, each with its number where it takes one; and what each answers: a pod by its type and its
 /// size. The words 6422625 and 1684234849 are the bytes `a`, NUL, `b`, NUL and the bytes `abcd`. In the last three rows each call comes behind one
@@ -32,13 +33,6 @@ const CALLS: &str =
 0 1 4 2 7 0 4 3 5 0 4 4 3 0 8 5 1 0 4 6 5 0 8 7 1 0 8 18 9 0 8 10 31 14 8 11 16 9 12 17 7 0 4096 9 2 8 97 0 2 8 97 0 3 9 197121 0 8 15 5 3 8 15 5 3 0 14 0 14 | push_struct; get_none; push_struct; get_bool; push_struct; get_id; push_struct; get_int; push_struct; get_long; push_struct; get_float; push_struct; get_double; push_struct; get_fd; push_struct; get_rectangle; push_struct; get_fraction; push_struct; get_pointer; push_struct; get_string_raw; push_struct; get_string; push_struct; get_bytes; push_struct; get_object 5; push_struct; push_object 5; pop 2; pop 1; get_int; push_struct; pop 0; pop 1; get_int; get_pod | INVAL; (); INVAL; true; INVAL; Id(5); INVAL; 3; INVAL; 1; INVAL; Float32(5); INVAL; Float64(1); INVAL; 9; INVAL; Rectangle { width: 31, height: 14 }; INVAL; Fraction { num: 16, denom: 9 }; INVAL; (4096, Id(7)); INVAL; [97]; INVAL; "a"; INVAL; [1, 2, 3]; INVAL; Id(3); INVAL; (Frame(1), Id(3)); INVAL; (); INVAL; Frame(1); INVAL; (); INVAL; (14, 0)
 8 15 5 3 0 1 | push_object 5; get_none; get_bool; get_id; get_int; get_long; get_float; get_double; get_fd; get_rectangle; get_fraction; get_pointer; get_string_raw; get_string; get_bytes; get_object 5; get_pod; push_struct; push_object 5; pop 1; get_none | (Frame(1), Id(3)); PIPE; PIPE; PIPE; PIPE; PIPE; PIPE; PIPE; PIPE; PIPE; PIPE; PIPE; PIPE; PIPE; PIPE; PIPE; PIPE; PIPE; PIPE; (); ()
 32 15 5 3 1 0 4 4 3 0 | push_object 6; get_none; push_object 6; get_bool; push_object 6; get_id; push_object 6; get_int; push_object 6; get_long; push_object 6; get_float; push_object 6; get_double; push_object 6; get_fd; push_object 6; get_rectangle; push_object 6; get_fraction; push_object 6; get_pointer; push_object 6; get_string_raw; push_object 6; get_string; push_object 6; get_bytes; push_object 6; get_object 6; push_struct; push_object 6; pop 1; get_object 6; value_of 1; get_pod | PROTO; INVAL; PROTO; INVAL; PROTO; INVAL; PROTO; INVAL; PROTO; INVAL; PROTO; INVAL; PROTO; INVAL; PROTO; INVAL; PROTO; INVAL; PROTO; INVAL; PROTO; INVAL; PROTO; INVAL; PROTO; INVAL; PROTO; INVAL; PROTO; PROTO; INVAL; PROTO; INVAL; PROTO; 3; PIPE"#;
-
-/// The parts of a row, without the spaces around them.
-fn parts(row: &str) -> (&str, &str, &str) {
-    let (first, rest) = row.split_once('|').unwrap_or((row, ""));
-    let (second, third) = rest.split_once('|').unwrap_or((rest, ""));
-    (first.trim(), second.trim(), third.trim())
-}
 
 /// The name of an error that a parser answers.
 fn name_of(error: Errno) -> &'static str {
@@ -186,17 +180,6 @@ fn a_parser_of_a_pod_begins_with_it(rt: HostRuntime) -> Result<(), Fail> {
 /// The nesting depth of the structs.
 const DEPTH: u32 = 300;
 
-/// This many structs, each but the innermost with one struct in it.
-fn nested_structs(alloc: Global) -> Result<Vec<u8>, AllocError> {
-    let mut bytes = Vec::new(alloc);
-    for outer in 0..DEPTH {
-        let size = 8 * (DEPTH - 1 - outer);
-        bytes.extend_from_slice(&size.to_le_bytes())?;
-        bytes.extend_from_slice(&14u32.to_le_bytes())?;
-    }
-    Ok(bytes)
-}
-
 /// Opens all of the structs, looks for a number in the innermost, and closes them from there.
 fn open_and_close(parser: &mut Parser) -> Result<Option<Errno>, Errno> {
     for _ in 0..DEPTH {
@@ -211,7 +194,7 @@ fn open_and_close(parser: &mut Parser) -> Result<Option<Errno>, Errno> {
 
 #[test]
 fn deep_structs_are_opened_and_closed(rt: HostRuntime) -> Result<(), Fail> {
-    let input = nested_structs(rt.alloc())?;
+    let input = nested_structs(rt.alloc(), DEPTH - 1, &[0, 14])?;
     let mut parser = Parser::new(rt.alloc(), &input);
     let inside = open_and_close(&mut parser)?;
     assert_same(&rt, &inside, &Some(Errno::PIPE), "in the innermost");

@@ -24,7 +24,7 @@ use Rattle.pod_commands.specs.declared.request.Fate.TheVariants.{Stops}
 use Rattle.pod_commands.specs.declared.request.Making.TheVariants.{Check, Rewrite}
 use Rattle.pod_commands.specs.declared.request.Streaming.TheVariants as streaming
 use Rattle.spa_refusals.specs.declared.refusal.Refusal.{Refusal}
-use Rattle.pod_commands.proofs.Checked.{stops_more}
+use Rattle.pod_commands.proofs.Checked.{made_more, stops_more}
 use Rattle.pod_commands.proofs.Running.{untouched}
 
 -- ---- Files stay as they are, whatever is left of the standard input
@@ -40,23 +40,22 @@ behind_file P name r e h = subst (λ b. P (if b then None else r)) e h
 before_file : (P : Option (List ℕ) → Type 0) (name : List ℕ) (r : Option (List ℕ)) → bytes_eq name dash ≡ false → P r → P (left_behind r name)
 before_file P name r e h = subst (λ b. P (if b then None else r)) (sym e) h
 
--- what is made of files, and is more
-pub made_of_files : (P Q : List ℕ → List ℕ → ℕ → Type 0) (r s : Option (List ℕ)) (holds : List ℕ → Option (List ℕ)) (names : List (Bor (List ℕ)))
-    (out : List ℕ) (n : ℕ) → ((input made : List ℕ) (i : ℕ) → P input made i → Q input made i) → AreFiles names → AreMade P r holds names out n →
-    AreMade Q s holds names out n
-made_of_files P Q r s holds [] out n more files h = h
-made_of_files P Q r s holds (x ∷ xs) out n more files h = (
+-- what is made of files
+pub made_of_files : (P : List ℕ → List ℕ → ℕ → Type 0) (r s : Option (List ℕ)) (holds : List ℕ → Option (List ℕ)) (names : List (Bor (List ℕ)))
+    (out : List ℕ) (n : ℕ) → AreFiles names → AreMade P r holds names out n → AreMade P s holds names out n
+made_of_files P r s holds [] out n files h = h
+made_of_files P r s holds (x ∷ xs) out n files h = (
   h.0,
   h.1,
   h.2,
   h.3,
   h.4,
   of_file (λ o. IsAllOf o h.0) x.now r s holds files.0 h.5,
-  more h.0 h.1 h.3 h.6,
+  h.6,
   h.7,
   h.8,
-  before_file (λ o. AreMade Q o holds xs h.2 h.4) x.now s files.0
-      (made_of_files P Q r s holds xs h.2 h.4 more files.1 (behind_file (λ o. AreMade P o holds xs h.2 h.4) x.now r files.0 h.9)),
+  before_file (λ o. AreMade P o holds xs h.2 h.4) x.now s files.0
+      (made_of_files P r s holds xs h.2 h.4 files.1 (behind_file (λ o. AreMade P o holds xs h.2 h.4) x.now r files.0 h.9)),
 )
 
 pub stops_at_files : (P : List ℕ → List ℕ → ℕ → Type 0) (S : List ℕ → List ℕ → List ℕ → Failure → Type 0) (r s : Option (List ℕ))
@@ -123,21 +122,22 @@ rewritten : (input out : List ℕ) (n : ℕ) → StreamsAs Exact streaming.Rewri
 rewritten input out n h = ((h.0, h.1, h.2.0), h.2.1)
 
 pub read_again : (answer : Answer) (r s : Option (List ℕ)) (names : List (Bor (List ℕ))) (o : Outlet) → MayReadTwice Exact Rewrite names o.target →
-    AreMade (MakesAll Exact Check) r o.before names [] 0 → IsWrittenAs Exact streaming.Rewrite answer s names o → IsMadeBy Exact Stops Rewrite answer r names o
+    AreMade (MakesAll Exact Check) s o.before names [] 0 → IsWrittenAs Exact streaming.Rewrite answer r names o → IsMadeBy Exact Stops Rewrite answer r names o
 read_again Done r s names o may m h =
-    inl (h.0, made_of_files (StreamsAs Exact streaming.Rewrite) (MakesAll Exact Rewrite) s r o.before names h.0 0 rewritten may.files h.1.0, h.2)
+    inl (h.0, made_more (StreamsAs Exact streaming.Rewrite) (MakesAll Exact Rewrite) r o.before names h.0 0 rewritten h.1.0, h.2)
 read_again (Missing k) r s names o may m h = absurd (none-some k h.0)
-read_again (Shown k) r s names o may m h = absurd (h.0 (none_refused s o.before names h.1.0 k h.1.1))
+read_again (Shown k) r s names o may m h = absurd (h.0 (none_refused r o.before names h.1.0 k h.1.1))
 read_again (Refused why) r s names o may m h =
-    let stops = stops_at_files (StreamsAs Exact streaming.Rewrite) (EndsIn Exact streaming.Rewrite) s r o.before names h.0.0 why may.files h.0.1 in
+    let accepted : AreMade (MakesAll Exact Check) r o.before names [] 0 =
+    made_of_files (MakesAll Exact Check) s r o.before names [] 0 may.files m in
     inr (
       why,
       refl,
       may,
       record {
-        accepted = m;
-        broken = (h.0.0, stops, h.0.2);
-        changed = unknown r o.before names [] h.0.0 0 why may.files m stops;
+        accepted = accepted;
+        broken = h.0;
+        changed = unknown r o.before names [] h.0.0 0 why may.files accepted h.0.1;
         no_file = h.1;
       },
     )
@@ -160,10 +160,13 @@ unmade_rewritten r holds names why (inr h) =
     (λ name input made. RefusesBy Exact Rewrite name input) r holds names h.0 why check_rewritten (λ name input made e. (made, e)) h.1)
 
 -- nothing is written where the first pass ends the work
-pub refused_first : (r : Option (List ℕ)) (holds : List ℕ → Option (List ℕ)) (names : List (Bor (List ℕ)))
-    (old : Option (List ℕ)) (why : Failure) → AreUnmade Exact Check r holds names why →
+pub refused_first : (r s : Option (List ℕ)) (holds : List ℕ → Option (List ℕ)) (names : List (Bor (List ℕ)))
+    (old : Option (List ℕ)) (why : Failure) → AreFiles names → AreUnmade Exact Check s holds names why →
     IsMadeBy Exact Stops Rewrite (Refused why) r names (outlet None old old holds holds)
-refused_first r holds names old why h = inl (inl (unmade_rewritten r holds names why h, untouched None old holds))
+refused_first r s holds names old why files (inl h) = inl (inl (inl h, untouched None old holds))
+refused_first r s holds names old why files (inr h) =
+    let stops = stops_at_files (MakesAll Exact Check) (λ name input made. RefusesBy Exact Check name input) s r holds names h.0 why files h.1 in
+    inl (inl (unmade_rewritten r holds names why (inr (h.0, stops)), untouched None old holds))
 
 -- ---- Names, one after another
 

@@ -41,6 +41,14 @@ pub struct Start<'a> {
     pub screen: Screen,
 }
 
+/// What is worked on: the inputs of these names, of which what is made goes to this file, or without one to the device.
+#[derive(Clone, Copy)]
+struct Task<'n, 'a> {
+    alloc: Global,
+    names: &'n [&'a str],
+    target: Option<&'a str>,
+}
+
 /// What a run reads and writes.
 #[derive(Drop)]
 struct Io<'io, R, S, P, W: Drop> {
@@ -72,14 +80,19 @@ pub fn run<'a, R: Read, S: Files, P: Progress, W: Write + Drop>(
             if fills_terminal(&request, start.screen) {
                 return (Answer::Misused(Misuse::ToTerminal), device);
             }
-            let target = file_of(request.target);
             let io = Io {
                 files,
                 input,
                 progress,
                 device,
             };
-            do_work(alloc, request, target, io)
+            let task = Task {
+                alloc,
+                names: request.names.as_slice(),
+                target: file_of(request.target),
+            };
+            let done = io.do_work(task, request.word);
+            done
         }
         Ok(Err(why)) => (Answer::Misused(why), device),
         Err(error) => match error.kind() {
@@ -89,57 +102,319 @@ pub fn run<'a, R: Read, S: Files, P: Progress, W: Write + Drop>(
     }
 }
 
-/// Does what is asked for; what is written goes to this file, or without one to the device.
-fn do_work<'a, R: Read, S: Files, P: Progress, W: Write + Drop>(
-    alloc: Global,
-    request: Request<'a>,
-    target: Option<&'a str>,
-    io: Io<'_, R, S, P, W>,
-) -> (Answer<'a>, W)
-    ensures { IsDone request.entry.word result.0 (R.remaining io.entry.input.now) request.entry.names.items
-        (outlet target.entry (W.contents io.entry.device) (W.contents result.1)
-        (S.holds io.entry.files.now) (S.holds io.exit.0.now)) }
-{
-    let word = request.word;
-    let names = request.names.as_slice();
-    match word {
-        Word::Print(printing, manner) => print(alloc, printing, manner, names, target, io),
-        Word::Make(making, manner) => make(alloc, making, manner, names, target, io),
-        Word::Stream(streaming, manner) => stream(alloc, streaming, manner, names, target, io),
-        Word::Diff(comparison, reading) => diff(alloc, comparison, reading, names, target, io),
-        Word::Agree(work, reading) => seek(alloc, work, reading, names, target, io),
-    }
-}
-
-/// Makes this of the inputs of these names.
-fn make<'a, R: Read, S: Files, P: Progress, W: Write + Drop>(
-    alloc: Global,
-    making: Making<'_>,
-    manner: Manner,
-    names: &[&'a str],
-    target: Option<&'a str>,
-    io: Io<'_, R, S, P, W>,
-) -> (Answer<'a>, W)
-    ensures { IsMadeBy manner.reading manner.fate making.entry result.0 (R.remaining io.entry.input.now) names.now
-        (outlet target.entry (W.contents io.entry.device) (W.contents result.1) (S.holds io.entry.files.now) (S.holds io.exit.0.now)) }
-{
-    match manner.fate {
-        Fate::Stops => {
-            let input = io.input;
-            let files = io.files;
-            if may_read_twice(making, manner.reading, names, target, files) {
-                return rewrite_twice(alloc, names, Inputs { input, files }, io.device);
-            }
-            let inputs = Inputs { input, files };
-            let made = make_all(alloc, making, manner.reading, names, inputs);
-            answered(files, target, io.device, made, Answer::Done)
+impl<R: Read, S: Files, P: Progress, W: Write + Drop> Io<'_, R, S, P, W> {
+    /// Does the work of this word.
+    fn do_work<'a>(self, task: Task<'_, 'a>, word: Word<'a>) -> (Answer<'a>, W)
+        ensures { IsDone word.entry result.0 (R.remaining self.entry.input.now) task.entry.names.now
+            (outlet task.entry.target (W.contents self.entry.device) (W.contents result.1) (S.holds self.entry.files.now) (S.holds self.exit.0.now)) }
+    {
+        match word {
+            Word::Print(printing, manner) => self.print(task, printing, manner),
+            Word::Make(making, manner) => self.make(task, making, manner),
+            Word::Stream(streaming, manner) => self.stream(task, streaming, manner),
+            Word::Diff(comparison, reading) => self.diff(task, comparison, reading),
+            Word::Agree(work, reading) => self.seek(task, work, reading),
         }
-        Fate::GoesOn(refused) => {
-            let manner = recordings::Manner {
-                reading: manner.reading,
-                refused,
-            };
-            go_on(alloc, making, manner, names, target, io)
+    }
+
+    /// Makes this of the inputs.
+    fn make<'a>(self, task: Task<'_, 'a>, making: Making<'_>, manner: Manner) -> (Answer<'a>, W)
+        ensures { IsMadeBy manner.reading manner.fate making.entry result.0 (R.remaining self.entry.input.now) task.entry.names.now
+            (outlet task.entry.target (W.contents self.entry.device) (W.contents result.1) (S.holds self.entry.files.now) (S.holds self.exit.0.now)) }
+    {
+        match manner.fate {
+            Fate::Stops => {
+                let reading = manner.reading;
+                if may_read_twice(making, reading, task.names, task.target, &*self.files) {
+                    return self.rewrite_twice(task);
+                }
+                let input = self.input;
+                let files = self.files;
+                let inputs = Inputs { input, files };
+                let made = make_all(task.alloc, making, reading, task.names, inputs);
+                answered(files, task.target, self.device, made, Answer::Done)
+            }
+            Fate::GoesOn(refused) => {
+                let manner = recordings::Manner {
+                    reading: manner.reading,
+                    refused,
+                };
+                self.go_on(task, making, manner)
+            }
+        }
+    }
+
+    /// Rewrites the inputs, which are files that are read twice: nothing is written before all are accepted, and neither pass holds more than a block.
+    fn rewrite_twice<'a>(self, task: Task<'_, 'a>) -> (Answer<'a>, W)
+        requires { MayReadTwice Exact Rewrite task.names.now None }
+        ensures { IsMadeBy Exact Stops Rewrite result.0 (R.remaining self.entry.input.now) task.entry.names.now
+            (outlet None (W.contents self.entry.device) (W.contents result.1) (S.holds self.entry.files.now) (S.holds self.exit.0.now)) }
+    {
+        // Of files alone, nothing of the standard input is read.
+        let mut nothing: &[u8] = &[];
+        let inputs = Inputs {
+            input: &mut nothing,
+            files: &*self.files,
+        };
+        match check_all(task.alloc, Reading::Exact, task.names, inputs) {
+            Ok(()) => {}
+            Err(why) => return (Answer::Refused(why), self.device),
+        }
+        if let Some(name) = emptied(task.names, &*self.files) {
+            let why = Failure::Unread(name, "emptied while it was read");
+            return (Answer::Refused(why), self.device);
+        }
+        let streaming = Streaming::Rewrite;
+        self.write_as(task, Reading::Exact, streaming)
+    }
+
+    /// Works on what is read of the inputs, and answers which pods of them are refused.
+    fn go_on<'a>(
+        self,
+        task: Task<'_, 'a>,
+        making: Making<'_>,
+        manner: recordings::Manner,
+    ) -> (Answer<'a>, W)
+        ensures { IsMadeInPart manner.reading manner.refused making.entry result.0 (R.remaining self.entry.input.now) task.entry.names.now
+            (outlet task.entry.target (W.contents self.entry.device) (W.contents result.1) (S.holds self.entry.files.now) (S.holds self.exit.0.now)) }
+    {
+        let input = self.input;
+        let files = self.files;
+        let inputs = Inputs { input, files };
+        let made = match make_what_is_read(task.alloc, making, manner, task.names, inputs) {
+            Ok(made) => made,
+            Err(why) => return (Answer::Refused(why), self.device),
+        };
+        let Worked { out, refused } = made;
+        if refused.is_empty() {
+            return answered(files, task.target, self.device, Ok(out), Answer::Done);
+        }
+        let done = Answer::Passed(refused);
+        answered(files, task.target, self.device, Ok(out), done)
+    }
+
+    /// Writes this of the inputs as they come, where no option that `--stream` excludes is given.
+    #[tactic(auto, using(crate::proofs::Streamed::streamed, crate::proofs::Streamed::misused))]
+    fn stream<'a>(
+        self,
+        task: Task<'_, 'a>,
+        streaming: Streaming<'a>,
+        manner: Manner,
+    ) -> (Answer<'a>, W)
+        ensures { IsStreamed streaming.entry manner.reading manner.fate result.0 (R.remaining self.entry.input.now) task.entry.names.now
+            (outlet task.entry.target (W.contents self.entry.device) (W.contents result.1) (S.holds self.entry.files.now) (S.holds self.exit.0.now)) }
+    {
+        if let Some(other) = excluded_in(manner.fate, task.target) {
+            return (Answer::Misused(Misuse::WithStream(other)), self.device);
+        }
+        self.stream_by(task, streaming, manner)
+    }
+
+    /// Writes this of the inputs as they come; no file is written.
+    #[tactic(auto, using(crate::proofs::Streamed::stopped_by, crate::proofs::Streamed::passed_by, crate::proofs::Streamed::parts_by, crate::proofs::Streamed::blocks_by))]
+    fn stream_by<'a>(
+        self,
+        task: Task<'_, 'a>,
+        streaming: Streaming<'a>,
+        manner: Manner,
+    ) -> (Answer<'a>, W)
+        requires { MayStream manner.fate }
+        ensures { IsStreamedBy streaming.entry manner.reading manner.fate result.0 (R.remaining self.entry.input.now) task.entry.names.now
+            (outlet None (W.contents self.entry.device) (W.contents result.1) (S.holds self.entry.files.now) (S.holds self.exit.0.now)) }
+    {
+        match manner.fate {
+            Fate::Stops => self.write_as(task, manner.reading, streaming),
+            Fate::GoesOn(refused) => match made_as(streaming) {
+                Some(making) => {
+                    let manner = recordings::Manner {
+                        reading: manner.reading,
+                        refused,
+                    };
+                    self.pass(task, making, manner)
+                }
+                None => (Answer::Misused(Misuse::WithPart(refused)), self.device),
+            },
+        }
+    }
+
+    /// Writes what is made of what is read of the inputs as they come, and answers which pods of them are refused; no file is written.
+    #[tactic(auto, using(crate::proofs::Passed::none_refused, crate::proofs::Passed::some_refused, crate::proofs::Passed::ended))]
+    fn pass<'a>(
+        self,
+        task: Task<'_, 'a>,
+        making: Making<'_>,
+        manner: recordings::Manner,
+    ) -> (Answer<'a>, W)
+        requires { IsMadeInBlocks manner.refused making }
+        ensures { IsStreamedInPart manner.reading manner.refused making.entry result.0 (R.remaining self.entry.input.now) task.entry.names.now
+            (outlet None (W.contents self.entry.device) (W.contents result.1) (S.holds self.entry.files.now) (S.holds self.exit.0.now)) }
+    {
+        let input = self.input;
+        let files = self.files;
+        let inputs = Inputs { input, files };
+        let mut device = self.device;
+        match pass_all(task.alloc, making, manner, task.names, inputs, &mut device) {
+            Ok(said) => {
+                if said.is_empty() {
+                    return (Answer::Done, device);
+                }
+                (Answer::Passed(said), device)
+            }
+            Err(why) => (Answer::Refused(why), device),
+        }
+    }
+
+    /// Writes this of the inputs, which are read so, as they come; no file is written.
+    #[tactic(auto, using(crate::proofs::Streamed::all_written, crate::proofs::Streamed::part_written))]
+    fn write_as<'a>(
+        self,
+        task: Task<'_, 'a>,
+        reading: Reading,
+        streaming: Streaming<'a>,
+    ) -> (Answer<'a>, W)
+        ensures { IsWrittenAs reading streaming.entry result.0 (R.remaining self.entry.input.now) task.entry.names.now
+            (outlet None (W.contents self.entry.device) (W.contents result.1) (S.holds self.entry.files.now) (S.holds self.exit.0.now)) }
+    {
+        let input = self.input;
+        let files = self.files;
+        let inputs = Inputs { input, files };
+        let mut device = self.device;
+        let made = match stream_all(
+            task.alloc,
+            reading,
+            streaming,
+            task.names,
+            inputs,
+            &mut device,
+        ) {
+            Ok(made) => made,
+            Err(why) => return (Answer::Refused(why), device),
+        };
+        (shown(made, looked_for(streaming)), device)
+    }
+
+    /// Prints this of the inputs, where no refused pod is to be left out: as they come, or where a file is written or they are read leniently, all of it at the end.
+    fn print<'a>(
+        self,
+        task: Task<'_, 'a>,
+        printing: Printing<'a>,
+        manner: Manner,
+    ) -> (Answer<'a>, W)
+        ensures { IsPrinted printing.entry manner.reading manner.fate result.0 (R.remaining self.entry.input.now) task.entry.names.now
+            (outlet task.entry.target (W.contents self.entry.device) (W.contents result.1) (S.holds self.entry.files.now) (S.holds self.exit.0.now)) }
+    {
+        match (manner.fate, manner.reading, task.target) {
+            (Fate::GoesOn(refused), _, _) => {
+                (Answer::Misused(Misuse::WithPart(refused)), self.device)
+            }
+            (Fate::Stops, Reading::Lenient, _) => self.print_leniently(task, printing),
+            (Fate::Stops, Reading::Exact, Some(_)) => self.print_to_file(task, printing),
+            (Fate::Stops, Reading::Exact, None) => {
+                self.write_as(task, Reading::Exact, Streaming::Print(printing))
+            }
+        }
+    }
+
+    /// Prints this of the values that the inputs convey, once all are read.
+    fn print_leniently<'a>(self, task: Task<'_, 'a>, printing: Printing<'a>) -> (Answer<'a>, W)
+        ensures { IsPrintedLeniently printing.entry result.0 (R.remaining self.entry.input.now) task.entry.names.now
+            (outlet task.entry.target (W.contents self.entry.device) (W.contents result.1) (S.holds self.entry.files.now) (S.holds self.exit.0.now)) }
+    {
+        let input = self.input;
+        let files = self.files;
+        let inputs = Inputs { input, files };
+        let making = Making::Print(printing);
+        let made = match make_all(task.alloc, making, Reading::Lenient, task.names, inputs) {
+            Ok(made) => made,
+            Err(why) => return (Answer::Refused(why), self.device),
+        };
+        let sought = sought_in(printing.printout.selection);
+        let done = shown(Made::of(0, made.as_slice()), sought);
+        answered(files, task.target, self.device, Ok(made), done)
+    }
+
+    /// Prints this of the inputs in the file that is written.
+    fn print_to_file<'a>(self, task: Task<'_, 'a>, printing: Printing<'a>) -> (Answer<'a>, W)
+        ensures { IsShownIn printing.entry result.0 (R.remaining self.entry.input.now) task.entry.names.now
+            (outlet task.entry.target (W.contents self.entry.device) (W.contents result.1) (S.holds self.entry.files.now) (S.holds self.exit.0.now)) }
+    {
+        let input = self.input;
+        let files = self.files;
+        let inputs = Inputs { input, files };
+        let streaming = Streaming::Print(printing);
+        let mut printed = Vec::new(task.alloc);
+        match stream_all(
+            task.alloc,
+            Reading::Exact,
+            streaming,
+            task.names,
+            inputs,
+            &mut printed,
+        ) {
+            Ok(made) => {
+                let done = shown(made, looked_for(streaming));
+                answered(files, task.target, self.device, Ok(printed), done)
+            }
+            Err(Failure::Unwritten(_)) => (Answer::Refused(Failure::OutOfMemory), self.device),
+            Err(why) => (Answer::Refused(why), self.device),
+        }
+    }
+
+    /// Compares two inputs, which are read so, as this.
+    fn diff<'a>(
+        self,
+        task: Task<'_, 'a>,
+        comparison: Comparison,
+        reading: Reading,
+    ) -> (Answer<'a>, W)
+        ensures { IsCompared comparison reading result.0 (R.remaining self.entry.input.now) task.entry.names.now
+            (outlet task.entry.target (W.contents self.entry.device) (W.contents result.1) (S.holds self.entry.files.now) (S.holds self.exit.0.now)) }
+    {
+        let [ours, theirs] = task.names else {
+            return (Answer::Misused(misuse_of(task.names)), self.device);
+        };
+        let input = self.input;
+        let files = self.files;
+        let both = Two {
+            ours: *ours,
+            theirs: *theirs,
+        };
+        let inputs = Inputs { input, files };
+        let lines = match compare(task.alloc, comparison, reading, both, inputs) {
+            Ok(lines) => lines,
+            Err(why) => return (Answer::Refused(why), self.device),
+        };
+        if lines.is_empty() {
+            return answered(files, task.target, self.device, Ok(lines), Answer::Done);
+        }
+        answered(files, task.target, self.device, Ok(lines), Answer::Differs)
+    }
+
+    /// Seeks the object on which two of the inputs, which are read so, agree.
+    fn seek<'a>(self, task: Task<'_, 'a>, work: Work, reading: Reading) -> (Answer<'a>, W)
+        ensures { IsAgreed work reading result.0 (R.remaining self.entry.input.now) task.entry.names.now
+            (outlet task.entry.target (W.contents self.entry.device) (W.contents result.1) (S.holds self.entry.files.now) (S.holds self.exit.0.now)) }
+    {
+        let names = task.names;
+        match names {
+            [name] => {
+                let input = self.input;
+                let files = self.files;
+                let made = agree(task.alloc, work, reading, *name, Inputs { input, files });
+                answered(files, task.target, self.device, made, Answer::Done)
+            }
+            [ours, theirs] => {
+                let both = Two {
+                    ours: *ours,
+                    theirs: *theirs,
+                };
+                let input = self.input;
+                let files = self.files;
+                let inputs = Inputs { input, files };
+                let made = agree_of_lists(task.alloc, work, reading, both, inputs, self.progress);
+                answered(files, task.target, self.device, made, Answer::Done)
+            }
+            _ => (Answer::Misused(misuse_of(names)), self.device),
         }
     }
 }
@@ -172,32 +447,6 @@ fn are_regular<S: Files>(names: &[&str], files: &S) -> bool
     true
 }
 
-/// Rewrites the files of these names, which are read twice: nothing is written before all are accepted, and neither
-/// pass holds more than a block.
-fn rewrite_twice<'a, R: Read, S: Files, W: Write + Drop>(
-    alloc: Global,
-    names: &[&'a str],
-    inputs: Inputs<'_, R, S>,
-    device: W,
-) -> (Answer<'a>, W)
-    requires { MayReadTwice Exact Rewrite names.now None }
-    ensures { IsMadeBy Exact Stops Rewrite result.0 (R.remaining inputs.entry.input.now) names.now
-        (outlet None (W.contents device) (W.contents result.1) (S.holds inputs.entry.files.now) (S.holds inputs.entry.files.now)) }
-{
-    let Inputs { input, files } = inputs;
-    match check_all(alloc, Reading::Exact, names, Inputs { input, files }) {
-        Ok(()) => {}
-        Err(why) => return (Answer::Refused(why), device),
-    }
-    if let Some(name) = emptied(names, files) {
-        let why = Failure::Unread(name, "emptied while it was read");
-        return (Answer::Refused(why), device);
-    }
-    let inputs = Inputs { input, files };
-    let streaming = Streaming::Rewrite;
-    write_as(alloc, Reading::Exact, streaming, names, inputs, device)
-}
-
 /// The first of these names, each of which was a regular file's with bytes, that isn't any more.
 fn emptied<'a, S: Files>(names: &[&'a str], files: &S) -> Option<&'a str> {
     for name in names {
@@ -206,31 +455,6 @@ fn emptied<'a, S: Files>(names: &[&'a str], files: &S) -> Option<&'a str> {
         }
     }
     None
-}
-
-/// Works on what is read of the inputs of these names, and answers which pods of them are refused.
-fn go_on<'a, R: Read, S: Files, P: Progress, W: Write + Drop>(
-    alloc: Global,
-    making: Making<'_>,
-    manner: recordings::Manner,
-    names: &[&'a str],
-    target: Option<&'a str>,
-    io: Io<'_, R, S, P, W>,
-) -> (Answer<'a>, W)
-    ensures { IsMadeInPart manner.reading manner.refused making.entry result.0 (R.remaining io.entry.input.now) names.now
-        (outlet target.entry (W.contents io.entry.device) (W.contents result.1) (S.holds io.entry.files.now) (S.holds io.exit.0.now)) }
-{
-    let input = io.input;
-    let files = io.files;
-    let made = match make_what_is_read(alloc, making, manner, names, Inputs { input, files }) {
-        Ok(made) => made,
-        Err(why) => return (Answer::Refused(why), io.device),
-    };
-    let Worked { out, refused } = made;
-    if refused.is_empty() {
-        return answered(files, target, io.device, Ok(out), Answer::Done);
-    }
-    answered(files, target, io.device, Ok(out), Answer::Passed(refused))
 }
 
 /// An option that `--stream` excludes, if one is given.
@@ -258,104 +482,6 @@ fn made_as<'a>(streaming: Streaming<'a>) -> Option<Making<'a>>
         Streaming::Rewrite => Some(Making::Rewrite),
         Streaming::Print(_) => None,
         Streaming::Check => Some(Making::Check),
-    }
-}
-
-/// Writes this of the inputs of these names as they come, where no option that `--stream` excludes is given.
-#[tactic(auto, using(crate::proofs::Streamed::streamed, crate::proofs::Streamed::misused))]
-fn stream<'a, R: Read, S: Files, P: Progress, W: Write + Drop>(
-    alloc: Global,
-    streaming: Streaming<'a>,
-    manner: Manner,
-    names: &[&'a str],
-    target: Option<&'a str>,
-    io: Io<'_, R, S, P, W>,
-) -> (Answer<'a>, W)
-    ensures { IsStreamed streaming.entry manner.reading manner.fate result.0 (R.remaining io.entry.input.now) names.now
-        (outlet target.entry (W.contents io.entry.device) (W.contents result.1) (S.holds io.entry.files.now) (S.holds io.exit.0.now)) }
-{
-    if let Some(other) = excluded_in(manner.fate, target) {
-        return (Answer::Misused(Misuse::WithStream(other)), io.device);
-    }
-    let input = io.input;
-    let files = io.files;
-    let inputs = Inputs { input, files };
-    let done = stream_by(alloc, streaming, manner, names, inputs, io.device);
-    done
-}
-
-/// Writes this of the inputs of these names as they come; no file is written.
-#[tactic(auto, using(crate::proofs::Streamed::stopped_by, crate::proofs::Streamed::passed_by, crate::proofs::Streamed::parts_by, crate::proofs::Streamed::blocks_by))]
-fn stream_by<'a, R: Read, S: Files, W: Write + Drop>(
-    alloc: Global,
-    streaming: Streaming<'a>,
-    manner: Manner,
-    names: &[&'a str],
-    inputs: Inputs<'_, R, S>,
-    device: W,
-) -> (Answer<'a>, W)
-    requires { MayStream manner.fate }
-    ensures { IsStreamedBy streaming.entry manner.reading manner.fate result.0 (R.remaining inputs.entry.input.now) names.now
-        (outlet None (W.contents device) (W.contents result.1) (S.holds inputs.entry.files.now) (S.holds inputs.entry.files.now)) }
-{
-    match manner.fate {
-        Fate::Stops => write_as(alloc, manner.reading, streaming, names, inputs, device),
-        Fate::GoesOn(refused) => match made_as(streaming) {
-            Some(making) => {
-                let manner = recordings::Manner {
-                    reading: manner.reading,
-                    refused,
-                };
-                pass(alloc, making, manner, names, inputs, device)
-            }
-            None => (Answer::Misused(Misuse::WithPart(refused)), device),
-        },
-    }
-}
-
-/// Writes what is made of what is read of the inputs of these names as they come, and answers which pods of them are refused; no file is written.
-#[tactic(auto, using(crate::proofs::Passed::none_refused, crate::proofs::Passed::some_refused, crate::proofs::Passed::ended))]
-fn pass<'a, R: Read, S: Files, W: Write + Drop>(
-    alloc: Global,
-    making: Making<'_>,
-    manner: recordings::Manner,
-    names: &[&'a str],
-    inputs: Inputs<'_, R, S>,
-    device: W,
-) -> (Answer<'a>, W)
-    requires { IsMadeInBlocks manner.refused making }
-    ensures { IsStreamedInPart manner.reading manner.refused making.entry result.0 (R.remaining inputs.entry.input.now) names.now
-        (outlet None (W.contents device) (W.contents result.1) (S.holds inputs.entry.files.now) (S.holds inputs.entry.files.now)) }
-{
-    let mut device = device;
-    match pass_all(alloc, making, manner, names, inputs, &mut device) {
-        Ok(said) => {
-            if said.is_empty() {
-                return (Answer::Done, device);
-            }
-            (Answer::Passed(said), device)
-        }
-        Err(why) => (Answer::Refused(why), device),
-    }
-}
-
-/// Writes this of the inputs of these names, which are read so, as they come; no file is written.
-#[tactic(auto, using(crate::proofs::Streamed::all_written, crate::proofs::Streamed::part_written))]
-fn write_as<'a, R: Read, S: Files, W: Write + Drop>(
-    alloc: Global,
-    reading: Reading,
-    streaming: Streaming<'a>,
-    names: &[&'a str],
-    inputs: Inputs<'_, R, S>,
-    device: W,
-) -> (Answer<'a>, W)
-    ensures { IsWrittenAs reading streaming.entry result.0 (R.remaining inputs.entry.input.now) names.now
-        (outlet None (W.contents device) (W.contents result.1) (S.holds inputs.entry.files.now) (S.holds inputs.entry.files.now)) }
-{
-    let mut device = device;
-    match stream_all(alloc, reading, streaming, names, inputs, &mut device) {
-        Ok(made) => (shown(made, looked_for(streaming)), device),
-        Err(why) => (Answer::Refused(why), device),
     }
 }
 
@@ -396,188 +522,6 @@ fn shown<'a>(made: Made, sought: Option<Selection<'a>>) -> Answer<'a>
         return Answer::Missing(selection);
     }
     Answer::Done
-}
-
-/// Prints this of the inputs of these names, where no refused pod is to be left out.
-fn print<'a, R: Read, S: Files, P: Progress, W: Write + Drop>(
-    alloc: Global,
-    printing: Printing<'a>,
-    manner: Manner,
-    names: &[&'a str],
-    target: Option<&'a str>,
-    io: Io<'_, R, S, P, W>,
-) -> (Answer<'a>, W)
-    ensures { IsPrinted printing.entry manner.reading manner.fate result.0 (R.remaining io.entry.input.now) names.now
-        (outlet target.entry (W.contents io.entry.device) (W.contents result.1) (S.holds io.entry.files.now) (S.holds io.exit.0.now)) }
-{
-    match manner.fate {
-        Fate::Stops => print_read(alloc, printing, manner.reading, names, target, io),
-        Fate::GoesOn(refused) => (Answer::Misused(Misuse::WithPart(refused)), io.device),
-    }
-}
-
-/// Prints this of the inputs of these names, which are read so.
-fn print_read<'a, R: Read, S: Files, P: Progress, W: Write + Drop>(
-    alloc: Global,
-    printing: Printing<'a>,
-    reading: Reading,
-    names: &[&'a str],
-    target: Option<&'a str>,
-    io: Io<'_, R, S, P, W>,
-) -> (Answer<'a>, W)
-    ensures { IsPrintedAs reading printing.entry result.0 (R.remaining io.entry.input.now) names.now
-        (outlet target.entry (W.contents io.entry.device) (W.contents result.1) (S.holds io.entry.files.now) (S.holds io.exit.0.now)) }
-{
-    match reading {
-        Reading::Exact => print_inputs(alloc, printing, names, target, io),
-        Reading::Lenient => print_leniently(alloc, printing, names, target, io),
-    }
-}
-
-/// Prints this of the values that the inputs of these names convey, once all are read.
-fn print_leniently<'a, R: Read, S: Files, P: Progress, W: Write + Drop>(
-    alloc: Global,
-    printing: Printing<'a>,
-    names: &[&'a str],
-    target: Option<&'a str>,
-    io: Io<'_, R, S, P, W>,
-) -> (Answer<'a>, W)
-    ensures { IsPrintedLeniently printing.entry result.0 (R.remaining io.entry.input.now) names.now
-        (outlet target.entry (W.contents io.entry.device) (W.contents result.1) (S.holds io.entry.files.now) (S.holds io.exit.0.now)) }
-{
-    let input = io.input;
-    let files = io.files;
-    let inputs = Inputs { input, files };
-    let making = Making::Print(printing);
-    let made = match make_all(alloc, making, Reading::Lenient, names, inputs) {
-        Ok(made) => made,
-        Err(why) => return (Answer::Refused(why), io.device),
-    };
-    let sought = sought_in(printing.printout.selection);
-    let done = shown(Made::of(0, made.as_slice()), sought);
-    answered(files, target, io.device, Ok(made), done)
-}
-
-/// Prints this of the inputs of these names: as they come, or where a file is written, all of it at the end.
-fn print_inputs<'a, R: Read, S: Files, P: Progress, W: Write + Drop>(
-    alloc: Global,
-    printing: Printing<'a>,
-    names: &[&'a str],
-    target: Option<&'a str>,
-    io: Io<'_, R, S, P, W>,
-) -> (Answer<'a>, W)
-    ensures { IsShown printing.entry target.entry result.0 (R.remaining io.entry.input.now) names.now
-        (outlet target.entry (W.contents io.entry.device) (W.contents result.1) (S.holds io.entry.files.now) (S.holds io.exit.0.now)) }
-{
-    match target {
-        None => {
-            let input = io.input;
-            let files = io.files;
-            let inputs = Inputs { input, files };
-            let streaming = Streaming::Print(printing);
-            let done = write_as(alloc, Reading::Exact, streaming, names, inputs, io.device);
-            done
-        }
-        Some(_) => print_to_file(alloc, printing, names, target, io),
-    }
-}
-
-/// Prints this of the inputs of these names in the file that is written.
-fn print_to_file<'a, R: Read, S: Files, P: Progress, W: Write + Drop>(
-    alloc: Global,
-    printing: Printing<'a>,
-    names: &[&'a str],
-    target: Option<&'a str>,
-    io: Io<'_, R, S, P, W>,
-) -> (Answer<'a>, W)
-    ensures { IsShownIn printing.entry result.0 (R.remaining io.entry.input.now) names.now
-        (outlet target.entry (W.contents io.entry.device) (W.contents result.1) (S.holds io.entry.files.now) (S.holds io.exit.0.now)) }
-{
-    let input = io.input;
-    let files = io.files;
-    let inputs = Inputs { input, files };
-    let streaming = Streaming::Print(printing);
-    let mut printed = Vec::new(alloc);
-    match stream_all(
-        alloc,
-        Reading::Exact,
-        streaming,
-        names,
-        inputs,
-        &mut printed,
-    ) {
-        Ok(made) => {
-            let done = shown(made, looked_for(streaming));
-            answered(files, target, io.device, Ok(printed), done)
-        }
-        Err(Failure::Unwritten(_)) => (Answer::Refused(Failure::OutOfMemory), io.device),
-        Err(why) => (Answer::Refused(why), io.device),
-    }
-}
-
-/// Compares the two inputs of these names, which are read so, as this.
-fn diff<'a, R: Read, S: Files, P: Progress, W: Write + Drop>(
-    alloc: Global,
-    comparison: Comparison,
-    reading: Reading,
-    names: &[&'a str],
-    target: Option<&'a str>,
-    io: Io<'_, R, S, P, W>,
-) -> (Answer<'a>, W)
-    ensures { IsCompared comparison reading result.0 (R.remaining io.entry.input.now) names.now
-        (outlet target.entry (W.contents io.entry.device) (W.contents result.1) (S.holds io.entry.files.now) (S.holds io.exit.0.now)) }
-{
-    let [ours, theirs] = names else {
-        return (Answer::Misused(misuse_of(names)), io.device);
-    };
-    let input = io.input;
-    let files = io.files;
-    let both = Two {
-        ours: *ours,
-        theirs: *theirs,
-    };
-    let lines = match compare(alloc, comparison, reading, both, Inputs { input, files }) {
-        Ok(lines) => lines,
-        Err(why) => return (Answer::Refused(why), io.device),
-    };
-    if lines.is_empty() {
-        return answered(files, target, io.device, Ok(lines), Answer::Done);
-    }
-    answered(files, target, io.device, Ok(lines), Answer::Differs)
-}
-
-/// Seeks the object on which two of the inputs of these names, which are read so, agree.
-fn seek<'a, R: Read, S: Files, P: Progress, W: Write + Drop>(
-    alloc: Global,
-    work: Work,
-    reading: Reading,
-    names: &[&'a str],
-    target: Option<&'a str>,
-    io: Io<'_, R, S, P, W>,
-) -> (Answer<'a>, W)
-    ensures { IsAgreed work reading result.0 (R.remaining io.entry.input.now) names.now
-        (outlet target.entry (W.contents io.entry.device) (W.contents result.1) (S.holds io.entry.files.now) (S.holds io.exit.0.now)) }
-{
-    match names {
-        [name] => {
-            let input = io.input;
-            let files = io.files;
-            let made = agree(alloc, work, reading, *name, Inputs { input, files });
-            answered(files, target, io.device, made, Answer::Done)
-        }
-        [ours, theirs] => {
-            let both = Two {
-                ours: *ours,
-                theirs: *theirs,
-            };
-            let input = io.input;
-            let files = io.files;
-            let inputs = Inputs { input, files };
-            let made = agree_of_lists(alloc, work, reading, both, inputs, io.progress);
-            answered(files, target, io.device, made, Answer::Done)
-        }
-        _ => (Answer::Misused(misuse_of(names)), io.device),
-    }
 }
 
 /// What is wrong with another number of inputs than a word takes.

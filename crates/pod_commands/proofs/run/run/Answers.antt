@@ -14,9 +14,9 @@ returns-then-fills_terminal g c =
 
 pub returns-in-Ok-Ok : goal.returns-in-Ok-Ok
 returns-in-Ok-Ok g c =
-    asked c.in-Ok-Ok.request c.do_work.result.0 (rw c.in-Ok-Ok.field-0-is at c.in-Ok-Ok.ensures.asked)
+    asked c.in-Ok-Ok.request c.do_work-done.result.0 (rw c.in-Ok-Ok.field-0-is at c.in-Ok-Ok.ensures.asked)
     (sym c.fills_terminal.ensures ∙ c.if-fills_terminal.false)
-    (rw c.file_of-target.ensures at c.do_work.ensures)
+    (rw (c.file_of.ensures, c.as_slice.ensures.value) at c.do_work-done.ensures)
 
 pub returns-in-Ok-Err : goal.returns-in-Ok-Err
 returns-in-Ok-Err g c = nothing c.in-Ok-Err.why (rw c.in-Ok-Err.field-0-is at c.in-Ok-Err.ensures.nothing) (Keeps-refl _) (λ name. refl)

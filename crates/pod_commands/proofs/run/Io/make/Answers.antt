@@ -1,7 +1,7 @@
 use Rattle.std.proofs.Common.{inl, refl}
 use Rattle.pod_commands.specs.Answers.{outlet}
 use Rattle.pod_commands.proofs.Running.{answers}
-use Rattle.pod_commands.proofs.run.make.Goals as goal
+use Rattle.pod_commands.proofs.run.Io.make.Goals as goal
 
 pub rewrite_twice-requires : goal.rewrite_twice-requires
 rewrite_twice-requires g c =
@@ -15,7 +15,7 @@ returns-then-may_read_twice g c =
 
 pub returns-else-may_read_twice : goal.returns-else-may_read_twice
 returns-else-may_read_twice g c =
-    let o = outlet c.args.target (g.W.Write.contents c.args.io.device) (g.W.Write.contents c.answered.result.1) (g.S.Files.holds c.args.io.files.now)
+    let o = outlet c.args.task.target (g.W.Write.contents c.args.self.device) (g.W.Write.contents c.answered.result.1) (g.S.Files.holds c.args.self.files.now)
     (g.S.Files.holds c.answered.new.files) in
     rw c.in-Stops.is
     (inl (answers c.make_all-made.result (λ v. v.items) _ _ o c.answered.result.0 c.make_all-made.ensures.made c.make_all-made.ensures.refused

@@ -5,19 +5,19 @@ use Rattle.pod_commands.specs.Answers.{outlet}
 use Rattle.pod_commands.proofs.Made.{two_names}
 use Rattle.pod_commands.proofs.Paired.{same_sent}
 use Rattle.pod_commands.proofs.Running.{untouched}
-use Rattle.pod_commands.proofs.run.diff.Goals as goal
+use Rattle.pod_commands.proofs.run.Io.diff.Goals as goal
 
 pub returns-in-Err : goal.returns-in-Err
 returns-in-Err g c =
     let d : Bor (List ℕ) = record { ref_ptr = (0, 0); now = [] } in
-    rw (two_names c.args.names.now d (omega arith))
-    (inl (c.in-Err.ensures.refused, untouched c.args.target (g.W.Write.contents c.args.io.device) (g.S.Files.holds c.args.io.files.now)))
+    rw (two_names c.args.task.names.now d (omega arith))
+    (inl (c.in-Err.ensures.refused, untouched c.args.task.target (g.W.Write.contents c.args.self.device) (g.S.Files.holds c.args.self.files.now)))
 
 pub returns-then-is_empty : goal.returns-then-is_empty
 returns-then-is_empty g c =
     let d : Bor (List ℕ) = record { ref_ptr = (0, 0); now = [] } in
-    let o = outlet c.args.target (g.W.Write.contents c.args.io.device) (g.W.Write.contents c.answered.result.1) (g.S.Files.holds c.args.io.files.now)
+    let o = outlet c.args.task.target (g.W.Write.contents c.args.self.device) (g.W.Write.contents c.answered.result.1) (g.S.Files.holds c.args.self.files.now)
     (g.S.Files.holds c.answered.new.files) in
     let none : c.in-Ok.lines.items ≡ [] = nil_from_length c.in-Ok.lines.items (grind (arith, c.if-is_empty.true, c.is_empty.ensures)) in
-    rw (two_names c.args.names.now d (omega arith))
-    (same_sent _ _ _ (get_or c.args.names.now 0 d) (get_or c.args.names.now 1 d) c.in-Ok.lines.items o c.answered.result.0 none (c.in-Ok.ensures.same none) c.answered.ensures.made)
+    rw (two_names c.args.task.names.now d (omega arith))
+    (same_sent _ _ _ (get_or c.args.task.names.now 0 d) (get_or c.args.task.names.now 1 d) c.in-Ok.lines.items o c.answered.result.0 none (c.in-Ok.ensures.same none) c.answered.ensures.made)

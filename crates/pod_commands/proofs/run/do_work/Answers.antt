@@ -1,4 +1,0 @@
-use Rattle.pod_commands.proofs.run.do_work.Goals as goal
-
-pub returns-in-Make : goal.returns-in-Make
-returns-in-Make g c = rw (c.in-Make.is, ← c.as_slice-names.ensures.value) c.make.ensures

@@ -70,25 +70,7 @@ fn pass_named<'a, R: Read, S: Files, W: Write>(
     if job.name == "-" {
         return pass_reader(alloc, job, inputs.input, output, said);
     }
-    pass_file(alloc, job, inputs.files, output, said)
-}
-
-/// Writes what is made of a file, and answers what is said of the refused pods.
-fn pass_file<'a, S: Files, W: Write>(
-    alloc: Global,
-    job: Job<'a, '_>,
-    files: &S,
-    output: &mut W,
-    said: Vec<NamedRefusal<'a>>,
-) -> Result<Vec<NamedRefusal<'a>>, Failure<'a>>
-    requires { IsMadeInBlocks job.manner.refused job.making }
-    ensures passed { IfOk result (λ more. PassesOver job.entry.manner.reading job.entry.manner.refused job.entry.making job.entry.name.now
-        (S.holds files.now job.entry.name.now)
-        (W.contents output.old) (W.contents output.new) said.entry.items more.items) }
-    ensures broken { IfErr result (IsBrokenInPartAt job.entry.manner.reading job.entry.manner.refused job.entry.making job.entry.name.now
-        (S.holds files.now job.entry.name.now) (W.contents output.old) (W.contents output.new)) }
-{
-    let mut file = match open_named(alloc, job.name, files) {
+    let mut file = match open_named(alloc, job.name, inputs.files) {
         Ok(file) => file,
         Err(why) => return Err(why),
     };

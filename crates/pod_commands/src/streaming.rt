@@ -119,25 +119,7 @@ fn stream_named<'a, R: Read, S: Files, W: Write>(
     if name == "-" {
         return stream_reader(alloc, reading, streaming, name, inputs.input, output);
     }
-    stream_file(alloc, reading, streaming, name, inputs.files, output)
-}
-
-/// Writes this of the file of this name, which is read so, and answers how many of its pods are refused, and whether it is nothing.
-fn stream_file<'a, S: Files, W: Write>(
-    alloc: Global,
-    reading: Reading,
-    streaming: Streaming<'_>,
-    name: &'a str,
-    files: &S,
-    output: &mut W,
-) -> Result<Made, Failure<'a>>
-    ensures streamed { IfOk result (Streams (StreamsAs reading streaming.entry) (S.holds files.now name.entry.now)
-        (W.contents output.old) (W.contents output.new)) }
-    ensures broken { IfErr result
-        (IsBrokenAt reading streaming.entry name.entry.now (S.holds files.now name.entry.now)
-        (W.contents output.old) (W.contents output.new)) }
-{
-    let mut file = match open_named(alloc, name, files) {
+    let mut file = match open_named(alloc, name, inputs.files) {
         Ok(file) => file,
         Err(why) => return Err(why),
     };

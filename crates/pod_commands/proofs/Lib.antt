@@ -8,7 +8,6 @@ mod Listed
 mod Longer
 mod Formless
 mod Made
-mod Missing
 mod Numbered
 mod Requested
 mod Paired

@@ -1,7 +1,7 @@
 //! The outcome of a run: its status, and the line that it writes.
-ghost use Rattle.std.specs.Prelude.{◌≡◌, ◌++◌, ◌∷◌, [], OnOk, Some, codes, length};
+ghost use Rattle.std.specs.Prelude.{◌≡◌, ◌++◌, OnOk, length};
 ghost use Rattle.std.specs.Io.KnownBytes.{Appends};
-ghost use Rattle.pod_commands.specs.Answers.{count_line, line_of, line_of_pod, lines_of_pods, missing_line, missing_text, objects_text, status_of};
+ghost use Rattle.pod_commands.specs.Answers.{count_line, line_of, line_of_pod, lines_of_pods, missing_line, status_of};
 ghost use Rattle.pod_commands.specs.Misuses.{misuse_line};
 
 use crate::misuse::Misuse;
@@ -136,6 +136,35 @@ impl fmt::Display for Objects<'_> {
     }
 }
 
+/// What is said of an object or a value that isn't there, of the key, the types and the ids that are given.
+#[derive(Clone, Copy)]
+struct Absent<'a> {
+    key: Option<&'a str>,
+    type_: Option<&'a str>,
+    id: Option<&'a str>,
+}
+
+impl fmt::Display for Absent<'_> {
+    ghost use Rattle.std.specs.Prelude.{Some};
+    ghost use Rattle.pod_commands.specs.Answers.{missing_text};
+
+    ghost output = { λ it. Some (missing_text it.key it.type_ it.id) };
+
+    fn fmt<W: fmt::Write>(&self, f: &mut fmt::Formatter<W>) -> fmt::Result {
+        let objects = Objects {
+            type_: self.type_,
+            id: self.id,
+        };
+        match (self.key, self.type_, self.id) {
+            (None, _, _) => write!(f, "object has {objects}"),
+            (Some(key), None, None) => write!(f, "value has the key '{key}'"),
+            (Some(key), Some(_), _) | (Some(key), None, Some(_)) => {
+                write!(f, "value has the key '{key}' in an object with {objects}")
+            }
+        }
+    }
+}
+
 /// What is said of bytes that are left out.
 #[derive(Clone, Copy)]
 struct LeftOut(Option<Gap>);
@@ -240,68 +269,15 @@ fn report_count<E: Write>(faults: &mut E, count: usize) -> io::Result<()>
 pub fn report_missing<E: Write>(faults: &mut E, selection: Selection<'_>) -> io::Result<()>
     ensures written { OnOk result (Appends (E.contents faults.old) (E.contents faults.new) (missing_line selection.entry)) }
 {
+    let absent = Absent {
+        key: selection.key,
+        type_: selection.type_,
+        id: selection.id,
+    };
     match selection.path {
         Some(path) => writeln!(faults, "pod: no pod stands at {}", Plain(path)),
-        None => report_none_of(faults, selection.key, selection.type_, selection.id),
+        None => writeln!(faults, "pod: no {absent}"),
     }
-}
-
-/// Writes the line that says that no object has this type and this id, or no value this key in such objects, of those that are given.
-fn report_none_of<E: Write>(
-    faults: &mut E,
-    key: Option<&str>,
-    type_: Option<&str>,
-    id: Option<&str>,
-) -> io::Result<()>
-    ensures written { OnOk result (Appends (E.contents faults.old) (E.contents faults.new)
-        (codes "pod: no " ++ (missing_text key.entry type_.entry id.entry ++ 10 ∷ []))) }
-{
-    match key {
-        Some(key) => report_no_value(faults, key, type_, id),
-        None => {
-            let objects = Objects { type_, id };
-            writeln!(faults, "pod: no object has {objects}")
-        }
-    }
-}
-
-/// Writes the line that says that no value has this key, in objects with this type and this id where they are given.
-fn report_no_value<E: Write>(
-    faults: &mut E,
-    key: &str,
-    type_: Option<&str>,
-    id: Option<&str>,
-) -> io::Result<()>
-    ensures written { OnOk result (Appends (E.contents faults.old) (E.contents faults.new)
-        (codes "pod: no " ++ (missing_text (Some key.entry) type_.entry id.entry ++ 10 ∷ []))) }
-{
-    match type_ {
-        Some(_) => report_no_value_in(faults, key, Objects { type_, id }),
-        None => match id {
-            Some(_) => report_no_value_in(faults, key, Objects { type_, id }),
-            None => report_no_key(faults, key),
-        },
-    }
-}
-
-/// Writes the line that says that no value has this key.
-fn report_no_key<E: Write>(faults: &mut E, key: &str) -> io::Result<()>
-    ensures written { OnOk result (Appends (E.contents faults.old) (E.contents faults.new)
-        (codes "pod: no value has the key '" ++ (key.now ++ (codes "'" ++ 10 ∷ [])))) }
-{
-    writeln!(faults, "pod: no value has the key '{key}'")
-}
-
-/// Writes the line that says that no value has this key in such objects.
-fn report_no_value_in<E: Write>(faults: &mut E, key: &str, objects: Objects<'_>) -> io::Result<()>
-    ensures written { OnOk result (Appends (E.contents faults.old) (E.contents faults.new)
-        (codes "pod: no value has the key '" ++ (key.now ++ (codes "' in an object with " ++ (objects_text objects.entry.type_ objects.entry.id
-        ++ 10 ∷ []))))) }
-{
-    writeln!(
-        faults,
-        "pod: no value has the key '{key}' in an object with {objects}"
-    )
 }
 
 /// Writes the line of a refused pod.

@@ -5,10 +5,9 @@ ghost use Rattle.pod_commands.specs.Answers.{AreUnmade};
 ghost use Rattle.pod_commands.specs.Inputs.{AreMade, IsKnown, content_of, left_behind};
 ghost use Rattle.pod_commands.specs.Making.{MakesAll};
 ghost use Rattle.pod_commands.specs.Streaming as spec;
-ghost use Rattle.pod_commands.specs.Streaming.{HasNoPod, IsBroken, IsBrokenAt, IsCutIn, IsEndOf, IsFailureOf, IsRefusedAs, MayRefuse, StreamsAs, WritesOf};
+ghost use Rattle.pod_commands.specs.Streaming.{HasNoPod, IsBroken, IsBrokenAt, IsCutIn, IsEndOf, IsFailureOf, MayRefuse, StreamsAs, WritesOf};
 ghost use Rattle.pod_commands.specs.declared.request.Making.TheVariants.{Check};
 ghost use Rattle.pod_commands.specs.declared.request.Streaming.TheVariants as streaming;
-ghost use Rattle.spa_recordings.specs.Reading.{IsNothing};
 ghost use Rattle.spa_recordings.specs.Streaming.{IsNotMade, Streams, WritesMade};
 
 use crate::answer::Failure;
@@ -212,28 +211,13 @@ pub(crate) fn failure_of<'a>(
             number,
             place,
             read,
-        } => refused_at(alloc, reading, name, number, place, read.as_slice()),
+        } => match refusal_of(alloc, reading, read.as_slice(), place, number) {
+            Ok(refusal) => Failure::Pods(name, refusal),
+            Err(_) => Failure::OutOfMemory,
+        },
         Stop::OutOfMemory => Failure::OutOfMemory,
         Stop::ReadFailed => Failure::Unread(name, "read failed"),
         Stop::WriteFailed => Failure::Unwritten(None),
-    }
-}
-
-/// The refusal of the pod of this number of the input of this name, which begins with these bytes at this byte.
-fn refused_at<'a>(
-    alloc: Global,
-    reading: Reading,
-    name: &'a str,
-    number: usize,
-    place: usize,
-    read: &[u8],
-) -> Failure<'a>
-    requires { IsNothing reading read.now }
-    ensures { IsRefusedAs reading name.entry.now number place read.now result }
-{
-    match refusal_of(alloc, reading, read, place, number) {
-        Ok(refusal) => Failure::Pods(name, refusal),
-        Err(_) => Failure::OutOfMemory,
     }
 }
 

@@ -3,13 +3,12 @@ ghost use Rattle.std.specs.Prelude.{◌≡◌, ◌+◌, ◌<◌, ◌^◌, ◌++�
 ghost use Rattle.pod_commands.specs.Answers.{AreUnmade, IsUnworked};
 ghost use Rattle.pod_commands.specs.Colours.{DumpsIn, PrintsIn, ShowsIn};
 ghost use Rattle.pod_commands.specs.Inputs.{AreMade};
-ghost use Rattle.pod_commands.specs.Making.{AreNoDumps, AreNoPods, AreNoTexts, AreUnread, IsNoHexadecimal, Makes, MakesAll, Reads, RefusesBy, RefusesIn};
+ghost use Rattle.pod_commands.specs.Making.{AreNoDumps, AreNoPods, AreNoTexts, AreUnread, Makes, MakesAll, Reads, RefusesBy, RefusesIn};
 ghost use Rattle.pod_commands.specs.Working as spec;
 ghost use Rattle.pod_commands.specs.Working.{AreWorked, StandsBehind, WorksOn, WorksThrough};
 ghost use Rattle.spa_meet_commands.specs.Settling.{SettlesAll};
 ghost use Rattle.spa_pod_commands.specs.Answers.{Fixates, Rewrites};
 ghost use Rattle.spa_recordings.specs.GoingOn.{MakesOf};
-ghost use Rattle.spa_text_commands.specs.Hexadecimal.{ReadsHexadecimal};
 ghost use Rattle.spa_text_commands.specs.Texts.{ReadsTexts};
 ghost use Rattle.spa_recordings.specs.declared.reading.Reading as Reading;
 
@@ -143,18 +142,10 @@ fn read<'a>(
     match texts {
         Texts::Named(strictness) => read_in(alloc, Form::Named(strictness), name, bytes),
         Texts::Dump { type_, id } => read_in(alloc, Form::Dump { type_, id }, name, bytes),
-        Texts::Hex => read_hex(alloc, name, bytes),
-    }
-}
-
-/// The bytes that these have in hexadecimal.
-fn read_hex<'a>(alloc: Global, name: &'a str, bytes: &[u8]) -> Result<Vec<u8>, Failure<'a>>
-    ensures made { IfOk result (λ out. ReadsHexadecimal bytes.now out.items) }
-    ensures refused { IfErr result (IsNoHexadecimal name.entry.now bytes.now) }
-{
-    match read_hexadecimal(alloc, bytes) {
-        Ok(read) => Ok(read),
-        Err(why) => Err(Failure::Texts(name, why)),
+        Texts::Hex => match read_hexadecimal(alloc, bytes) {
+            Ok(read) => Ok(read),
+            Err(why) => Err(Failure::Texts(name, why)),
+        },
     }
 }
 

@@ -1,5 +1,5 @@
 //! What the program's words ask for.
-ghost use Rattle.std.specs.Prelude.{◌≡◌, ◌⊎◌, codes, Bool, false, true, IfErr, IfNone, IfOk, IfSome, option_map, is_some, ◌==◌};
+ghost use Rattle.std.specs.Prelude.{◌≡◌, ◌<◌, ◌⊎◌, codes, Bool, false, true, IfErr, IfNone, IfOk, IfSome, option_map, is_some, ◌==◌};
 ghost use Rattle.std.specs.List.{before_first};
 ghost use Rattle.pod_commands.specs.Requests as spec;
 ghost use Rattle.clap.specs.Faults.{fault_of};
@@ -459,24 +459,15 @@ fn number_given<'a>(
 fn number_in(path: &str) -> &str
     ensures { result.now ≡ spec.number_in path.now }
 {
-    before_point(before_bracket(path))
+    before(before(path, '['), '.')
 }
 
-/// What stands before the first bracket.
-fn before_bracket(path: &str) -> &str
-    ensures { result.now ≡ before_first (λ b. b == 91) path.now }
+/// What stands before the first of these signs.
+fn before(path: &str, sign: char) -> &str
+    requires { sign < 128 }
+    ensures { result.now ≡ before_first (λ b. b == sign) path.now }
 {
-    match path.split_once('[') {
-        Some((front, _)) => front,
-        None => path,
-    }
-}
-
-/// What stands before the first point.
-fn before_point(path: &str) -> &str
-    ensures { result.now ≡ before_first (λ b. b == 46) path.now }
-{
-    match path.split_once('.') {
+    match path.split_once(sign) {
         Some((front, _)) => front,
         None => path,
     }
@@ -555,19 +546,6 @@ fn json_or_dump<'a>(options: Options<'a>, manner: Manner, streams: bool, dumps: 
     if dumps {
         return Word::Make(Making::Dump(options.colours), manner);
     }
-    as_json(options, manner, streams)
-}
-
-/// The word `json` with these options, with `--stream` or without it.
-fn as_json<'a>(options: Options<'a>, manner: Manner, streams: bool) -> Word<'a>
-    ensures word { codes "json" ≡ name_of result }
-    ensures printout { HasPrintout options.entry result }
-    ensures manner { HasManner manner.reading manner.fate result }
-    ensures stream { HasStream streams result }
-    ensures texts { (read_as : TextsOf) → ReadsAs read_as result }
-    ensures flags { (flags : FlagsOf) → HasFlags flags result }
-    ensures dump { DumpsAs false result }
-{
     if options.is_plain() {
         return all_as_json(options.style(), manner, streams);
     }

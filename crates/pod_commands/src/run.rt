@@ -1,7 +1,7 @@
 //! The program's work, over a reader, files and a writer.
 ghost use Rattle.std.specs.Prelude.{◌≡◌, ◌≢◌, ◌⊎◌, IfNone, IfSome, None, false, true};
 ghost use Rattle.pod_commands.specs.Answers as spec;
-ghost use Rattle.pod_commands.specs.Answers.{AreFiles, AreUnmade, Gives, IsAgreed, IsAnswer, IsCompared, IsDone, IsExcluded, IsMadeBy, IsMadeInPart, IsPrinted, IsPrintedAs, IsPrintedLeniently, IsShown, IsShownIn, IsStreamed, IsStreamedBy, IsStreamedInPart, IsOutcome, IsWrittenAs, MayReadTwice, MayStream, OnAnswer, Refuses, outlet};
+ghost use Rattle.pod_commands.specs.Answers.{AreFiles, IsAgreed, IsAnswer, IsCompared, IsDone, IsExcluded, IsMadeBy, IsMadeInPart, IsPrinted, IsPrintedLeniently, IsShownIn, IsStreamed, IsStreamedBy, IsStreamedInPart, IsOutcome, IsWrittenAs, MayReadTwice, MayStream, outlet};
 ghost use Rattle.pod_commands.specs.Streaming as streams;
 ghost use Rattle.pod_commands.specs.Streaming.{IsMadeInBlocks, IsMadeOfEach};
 ghost use Rattle.pod_commands.specs.declared.request.Fate.TheVariants.{Stops};

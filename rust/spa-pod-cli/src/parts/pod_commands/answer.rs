@@ -117,6 +117,30 @@ impl fmt::Display for Objects<'_> {
     }
 }
 
+/// What is said of an object or a value that isn't there, of the key, the types and the ids that are given.
+#[derive(Clone, Copy)]
+struct Absent<'a> {
+    key: Option<&'a str>,
+    type_: Option<&'a str>,
+    id: Option<&'a str>,
+}
+
+impl fmt::Display for Absent<'_> {
+    fn fmt(&self, f: &mut fmt::Formatter<'_>) -> fmt::Result {
+        let objects = Objects {
+            type_: self.type_,
+            id: self.id,
+        };
+        match (self.key, self.type_, self.id) {
+            (None, _, _) => write!(f, "object has {objects}"),
+            (Some(key), None, None) => write!(f, "value has the key '{key}'"),
+            (Some(key), Some(_), _) | (Some(key), None, Some(_)) => {
+                write!(f, "value has the key '{key}' in an object with {objects}")
+            }
+        }
+    }
+}
+
 /// What is said of bytes that are left out.
 #[derive(Clone, Copy)]
 struct LeftOut(Option<Gap>);
@@ -199,55 +223,15 @@ fn report_count<E: Write>(faults: &mut E, count: usize) -> io::Result<()> {
 
 /// Writes the line that says that what is looked for isn't there.
 pub fn report_missing<E: Write>(faults: &mut E, selection: Selection<'_>) -> io::Result<()> {
+    let absent = Absent {
+        key: selection.key,
+        type_: selection.type_,
+        id: selection.id,
+    };
     match selection.path {
         Some(path) => writeln!(faults, "pod: no pod stands at {}", Plain(path)),
-        None => report_none_of(faults, selection.key, selection.type_, selection.id),
+        None => writeln!(faults, "pod: no {absent}"),
     }
-}
-
-/// Writes the line that says that no object has this type and this id, or no value this key in such objects, of those that are given.
-fn report_none_of<E: Write>(
-    faults: &mut E,
-    key: Option<&str>,
-    type_: Option<&str>,
-    id: Option<&str>,
-) -> io::Result<()> {
-    match key {
-        Some(key) => report_no_value(faults, key, type_, id),
-        None => {
-            let objects = Objects { type_, id };
-            writeln!(faults, "pod: no object has {objects}")
-        }
-    }
-}
-
-/// Writes the line that says that no value has this key, in objects with this type and this id where they are given.
-fn report_no_value<E: Write>(
-    faults: &mut E,
-    key: &str,
-    type_: Option<&str>,
-    id: Option<&str>,
-) -> io::Result<()> {
-    match type_ {
-        Some(_) => report_no_value_in(faults, key, Objects { type_, id }),
-        None => match id {
-            Some(_) => report_no_value_in(faults, key, Objects { type_, id }),
-            None => report_no_key(faults, key),
-        },
-    }
-}
-
-/// Writes the line that says that no value has this key.
-fn report_no_key<E: Write>(faults: &mut E, key: &str) -> io::Result<()> {
-    writeln!(faults, "pod: no value has the key '{key}'")
-}
-
-/// Writes the line that says that no value has this key in such objects.
-fn report_no_value_in<E: Write>(faults: &mut E, key: &str, objects: Objects<'_>) -> io::Result<()> {
-    writeln!(
-        faults,
-        "pod: no value has the key '{key}' in an object with {objects}"
-    )
 }
 
 /// Writes the line of a refused pod.

@@ -110,15 +110,10 @@ fn read<'a>(
     match texts {
         Texts::Named(strictness) => read_in(Form::Named(strictness), name, bytes),
         Texts::Dump { type_, id } => read_in(Form::Dump { type_, id }, name, bytes),
-        Texts::Hex => read_hex(name, bytes),
-    }
-}
-
-/// The bytes that these have in hexadecimal.
-fn read_hex<'a>(name: &'a str, bytes: &[u8]) -> Result<Vec<u8>, Failure<'a>> {
-    match read_hexadecimal(bytes) {
-        Ok(read) => Ok(read),
-        Err(why) => Err(Failure::Texts(name, why)),
+        Texts::Hex => match read_hexadecimal(bytes) {
+            Ok(read) => Ok(read),
+            Err(why) => Err(Failure::Texts(name, why)),
+        },
     }
 }
 

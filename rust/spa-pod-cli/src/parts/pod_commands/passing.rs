@@ -47,17 +47,7 @@ fn pass_named<'a, R: Read, S: Files, W: Write>(
     if job.name == "-" {
         return pass_reader(job, inputs.input, output, said);
     }
-    pass_file(job, inputs.files, output, said)
-}
-
-/// Writes what is made of a file, and answers what is said of the refused pods.
-fn pass_file<'a, S: Files, W: Write>(
-    job: Job<'a, '_>,
-    files: &S,
-    output: &mut W,
-    said: Vec<NamedRefusal<'a>>,
-) -> Result<Vec<NamedRefusal<'a>>, Failure<'a>> {
-    let mut file = match open_named(job.name, files) {
+    let mut file = match open_named(job.name, inputs.files) {
         Ok(file) => file,
         Err(why) => return Err(why),
     };

@@ -389,20 +389,12 @@ fn number_given<'a>(
 
 /// The number at the front of a path, before the first of its steps.
 fn number_in(path: &str) -> &str {
-    before_point(before_bracket(path))
+    before(before(path, '['), '.')
 }
 
-/// What stands before the first bracket.
-fn before_bracket(path: &str) -> &str {
-    match path.split_once('[') {
-        Some((front, _)) => front,
-        None => path,
-    }
-}
-
-/// What stands before the first point.
-fn before_point(path: &str) -> &str {
-    match path.split_once('.') {
+/// What stands before the first of these signs.
+fn before(path: &str, sign: char) -> &str {
+    match path.split_once(sign) {
         Some((front, _)) => front,
         None => path,
     }
@@ -454,11 +446,6 @@ fn json_or_dump<'a>(options: Options<'a>, manner: Manner, streams: bool, dumps: 
     if dumps {
         return Word::Make(Making::Dump(options.colours), manner);
     }
-    as_json(options, manner, streams)
-}
-
-/// The word `json` with these options, with `--stream` or without it.
-fn as_json<'a>(options: Options<'a>, manner: Manner, streams: bool) -> Word<'a> {
     if options.is_plain() {
         return all_as_json(options.style(), manner, streams);
     }

@@ -34,6 +34,13 @@ pub struct Start<'a> {
     pub screen: Screen,
 }
 
+/// What is worked on: the inputs of these names, of which what is made goes to this file, or without one to the device.
+#[derive(Clone, Copy)]
+struct Task<'n, 'a> {
+    names: &'n [&'a str],
+    target: Option<&'a str>,
+}
+
 /// What a run reads and writes.
 struct Io<'io, R, S, P, W> {
     files: &'io mut S,
@@ -60,14 +67,18 @@ pub fn run<'a, R: Read, S: Files, P: Progress, W: Write>(
             if fills_terminal(&request, start.screen) {
                 return (Answer::Misused(Misuse::ToTerminal), device);
             }
-            let target = file_of(request.target);
             let io = Io {
                 files,
                 input,
                 progress,
                 device,
             };
-            do_work(request, target, io)
+            let task = Task {
+                names: request.names.as_slice(),
+                target: file_of(request.target),
+            };
+            let done = io.do_work(task, request.word);
+            done
         }
         Ok(Err(why)) => (Answer::Misused(why), device),
         Err(error) => match error.kind() {
@@ -77,48 +88,271 @@ pub fn run<'a, R: Read, S: Files, P: Progress, W: Write>(
     }
 }
 
-/// Does what is asked for; what is written goes to this file, or without one to the device.
-fn do_work<'a, R: Read, S: Files, P: Progress, W: Write>(
-    request: Request<'a>,
-    target: Option<&'a str>,
-    io: Io<'_, R, S, P, W>,
-) -> (Answer<'a>, W) {
-    let word = request.word;
-    let names = request.names.as_slice();
-    match word {
-        Word::Print(printing, manner) => print(printing, manner, names, target, io),
-        Word::Make(making, manner) => make(making, manner, names, target, io),
-        Word::Stream(streaming, manner) => stream(streaming, manner, names, target, io),
-        Word::Diff(comparison, reading) => diff(comparison, reading, names, target, io),
-        Word::Agree(work, reading) => seek(work, reading, names, target, io),
-    }
-}
-
-/// Makes this of the inputs of these names.
-fn make<'a, R: Read, S: Files, P: Progress, W: Write>(
-    making: Making<'_>,
-    manner: Manner,
-    names: &[&'a str],
-    target: Option<&'a str>,
-    io: Io<'_, R, S, P, W>,
-) -> (Answer<'a>, W) {
-    match manner.fate {
-        Fate::Stops => {
-            let input = io.input;
-            let files = io.files;
-            if may_read_twice(making, manner.reading, names, target, files) {
-                return rewrite_twice(names, Inputs { input, files }, io.device);
-            }
-            let inputs = Inputs { input, files };
-            let made = make_all(making, manner.reading, names, inputs);
-            answered(files, target, io.device, made, Answer::Done)
+impl<R: Read, S: Files, P: Progress, W: Write> Io<'_, R, S, P, W> {
+    /// Does the work of this word.
+    fn do_work<'a>(self, task: Task<'_, 'a>, word: Word<'a>) -> (Answer<'a>, W) {
+        match word {
+            Word::Print(printing, manner) => self.print(task, printing, manner),
+            Word::Make(making, manner) => self.make(task, making, manner),
+            Word::Stream(streaming, manner) => self.stream(task, streaming, manner),
+            Word::Diff(comparison, reading) => self.diff(task, comparison, reading),
+            Word::Agree(work, reading) => self.seek(task, work, reading),
         }
-        Fate::GoesOn(refused) => {
-            let manner = recordings::Manner {
-                reading: manner.reading,
-                refused,
-            };
-            go_on(making, manner, names, target, io)
+    }
+
+    /// Makes this of the inputs.
+    fn make<'a>(self, task: Task<'_, 'a>, making: Making<'_>, manner: Manner) -> (Answer<'a>, W) {
+        match manner.fate {
+            Fate::Stops => {
+                let reading = manner.reading;
+                if may_read_twice(making, reading, task.names, task.target, &*self.files) {
+                    return self.rewrite_twice(task);
+                }
+                let input = self.input;
+                let files = self.files;
+                let inputs = Inputs { input, files };
+                let made = make_all(making, reading, task.names, inputs);
+                answered(files, task.target, self.device, made, Answer::Done)
+            }
+            Fate::GoesOn(refused) => {
+                let manner = recordings::Manner {
+                    reading: manner.reading,
+                    refused,
+                };
+                self.go_on(task, making, manner)
+            }
+        }
+    }
+
+    /// Rewrites the inputs, which are files that are read twice: nothing is written before all are accepted, and neither pass holds more than a block.
+    fn rewrite_twice<'a>(self, task: Task<'_, 'a>) -> (Answer<'a>, W) {
+        // Of files alone, nothing of the standard input is read.
+        let mut nothing: &[u8] = &[];
+        let inputs = Inputs {
+            input: &mut nothing,
+            files: &*self.files,
+        };
+        match check_all(Reading::Exact, task.names, inputs) {
+            Ok(()) => {}
+            Err(why) => return (Answer::Refused(why), self.device),
+        }
+        if let Some(name) = emptied(task.names, &*self.files) {
+            let why = Failure::Unread(name, "emptied while it was read");
+            return (Answer::Refused(why), self.device);
+        }
+        let streaming = Streaming::Rewrite;
+        self.write_as(task, Reading::Exact, streaming)
+    }
+
+    /// Works on what is read of the inputs, and answers which pods of them are refused.
+    fn go_on<'a>(
+        self,
+        task: Task<'_, 'a>,
+        making: Making<'_>,
+        manner: recordings::Manner,
+    ) -> (Answer<'a>, W) {
+        let input = self.input;
+        let files = self.files;
+        let inputs = Inputs { input, files };
+        let made = match make_what_is_read(making, manner, task.names, inputs) {
+            Ok(made) => made,
+            Err(why) => return (Answer::Refused(why), self.device),
+        };
+        let Worked { out, refused } = made;
+        if refused.is_empty() {
+            return answered(files, task.target, self.device, Ok(out), Answer::Done);
+        }
+        let done = Answer::Passed(refused);
+        answered(files, task.target, self.device, Ok(out), done)
+    }
+
+    /// Writes this of the inputs as they come, where no option that `--stream` excludes is given.
+    fn stream<'a>(
+        self,
+        task: Task<'_, 'a>,
+        streaming: Streaming<'a>,
+        manner: Manner,
+    ) -> (Answer<'a>, W) {
+        if let Some(other) = excluded_in(manner.fate, task.target) {
+            return (Answer::Misused(Misuse::WithStream(other)), self.device);
+        }
+        self.stream_by(task, streaming, manner)
+    }
+
+    /// Writes this of the inputs as they come; no file is written.
+    fn stream_by<'a>(
+        self,
+        task: Task<'_, 'a>,
+        streaming: Streaming<'a>,
+        manner: Manner,
+    ) -> (Answer<'a>, W) {
+        match manner.fate {
+            Fate::Stops => self.write_as(task, manner.reading, streaming),
+            Fate::GoesOn(refused) => match made_as(streaming) {
+                Some(making) => {
+                    let manner = recordings::Manner {
+                        reading: manner.reading,
+                        refused,
+                    };
+                    self.pass(task, making, manner)
+                }
+                None => (Answer::Misused(Misuse::WithPart(refused)), self.device),
+            },
+        }
+    }
+
+    /// Writes what is made of what is read of the inputs as they come, and answers which pods of them are refused; no file is written.
+    fn pass<'a>(
+        self,
+        task: Task<'_, 'a>,
+        making: Making<'_>,
+        manner: recordings::Manner,
+    ) -> (Answer<'a>, W) {
+        let input = self.input;
+        let files = self.files;
+        let inputs = Inputs { input, files };
+        let mut device = self.device;
+        match pass_all(making, manner, task.names, inputs, &mut device) {
+            Ok(said) => {
+                if said.is_empty() {
+                    return (Answer::Done, device);
+                }
+                (Answer::Passed(said), device)
+            }
+            Err(why) => (Answer::Refused(why), device),
+        }
+    }
+
+    /// Writes this of the inputs, which are read so, as they come; no file is written.
+    fn write_as<'a>(
+        self,
+        task: Task<'_, 'a>,
+        reading: Reading,
+        streaming: Streaming<'a>,
+    ) -> (Answer<'a>, W) {
+        let input = self.input;
+        let files = self.files;
+        let inputs = Inputs { input, files };
+        let mut device = self.device;
+        let made = match stream_all(
+            reading,
+            streaming,
+            task.names,
+            inputs,
+            &mut device,
+        ) {
+            Ok(made) => made,
+            Err(why) => return (Answer::Refused(why), device),
+        };
+        (shown(made, looked_for(streaming)), device)
+    }
+
+    /// Prints this of the inputs, where no refused pod is to be left out: as they come, or where a file is written or they are read leniently, all of it at the end.
+    fn print<'a>(
+        self,
+        task: Task<'_, 'a>,
+        printing: Printing<'a>,
+        manner: Manner,
+    ) -> (Answer<'a>, W) {
+        match (manner.fate, manner.reading, task.target) {
+            (Fate::GoesOn(refused), _, _) => {
+                (Answer::Misused(Misuse::WithPart(refused)), self.device)
+            }
+            (Fate::Stops, Reading::Lenient, _) => self.print_leniently(task, printing),
+            (Fate::Stops, Reading::Exact, Some(_)) => self.print_to_file(task, printing),
+            (Fate::Stops, Reading::Exact, None) => {
+                self.write_as(task, Reading::Exact, Streaming::Print(printing))
+            }
+        }
+    }
+
+    /// Prints this of the values that the inputs convey, once all are read.
+    fn print_leniently<'a>(self, task: Task<'_, 'a>, printing: Printing<'a>) -> (Answer<'a>, W) {
+        let input = self.input;
+        let files = self.files;
+        let inputs = Inputs { input, files };
+        let making = Making::Print(printing);
+        let made = match make_all(making, Reading::Lenient, task.names, inputs) {
+            Ok(made) => made,
+            Err(why) => return (Answer::Refused(why), self.device),
+        };
+        let sought = sought_in(printing.printout.selection);
+        let done = shown(Made::of(0, made.as_slice()), sought);
+        answered(files, task.target, self.device, Ok(made), done)
+    }
+
+    /// Prints this of the inputs in the file that is written.
+    fn print_to_file<'a>(self, task: Task<'_, 'a>, printing: Printing<'a>) -> (Answer<'a>, W) {
+        let input = self.input;
+        let files = self.files;
+        let inputs = Inputs { input, files };
+        let streaming = Streaming::Print(printing);
+        let mut printed = Vec::new();
+        match stream_all(
+            Reading::Exact,
+            streaming,
+            task.names,
+            inputs,
+            &mut printed,
+        ) {
+            Ok(made) => {
+                let done = shown(made, looked_for(streaming));
+                answered(files, task.target, self.device, Ok(printed), done)
+            }
+            Err(Failure::Unwritten(_)) => (Answer::Refused(Failure::OutOfMemory), self.device),
+            Err(why) => (Answer::Refused(why), self.device),
+        }
+    }
+
+    /// Compares two inputs, which are read so, as this.
+    fn diff<'a>(
+        self,
+        task: Task<'_, 'a>,
+        comparison: Comparison,
+        reading: Reading,
+    ) -> (Answer<'a>, W) {
+        let [ours, theirs] = task.names else {
+            return (Answer::Misused(misuse_of(task.names)), self.device);
+        };
+        let input = self.input;
+        let files = self.files;
+        let both = Two {
+            ours: *ours,
+            theirs: *theirs,
+        };
+        let inputs = Inputs { input, files };
+        let lines = match compare(comparison, reading, both, inputs) {
+            Ok(lines) => lines,
+            Err(why) => return (Answer::Refused(why), self.device),
+        };
+        if lines.is_empty() {
+            return answered(files, task.target, self.device, Ok(lines), Answer::Done);
+        }
+        answered(files, task.target, self.device, Ok(lines), Answer::Differs)
+    }
+
+    /// Seeks the object on which two of the inputs, which are read so, agree.
+    fn seek<'a>(self, task: Task<'_, 'a>, work: Work, reading: Reading) -> (Answer<'a>, W) {
+        let names = task.names;
+        match names {
+            [name] => {
+                let input = self.input;
+                let files = self.files;
+                let made = agree(work, reading, *name, Inputs { input, files });
+                answered(files, task.target, self.device, made, Answer::Done)
+            }
+            [ours, theirs] => {
+                let both = Two {
+                    ours: *ours,
+                    theirs: *theirs,
+                };
+                let input = self.input;
+                let files = self.files;
+                let inputs = Inputs { input, files };
+                let made = agree_of_lists(work, reading, both, inputs, self.progress);
+                answered(files, task.target, self.device, made, Answer::Done)
+            }
+            _ => (Answer::Misused(misuse_of(names)), self.device),
         }
     }
 }
@@ -147,27 +381,6 @@ fn are_regular<S: Files>(names: &[&str], files: &S) -> bool {
     true
 }
 
-/// Rewrites the files of these names, which are read twice: nothing is written before all are accepted, and neither
-/// pass holds more than a block.
-fn rewrite_twice<'a, R: Read, S: Files, W: Write>(
-    names: &[&'a str],
-    inputs: Inputs<'_, R, S>,
-    device: W,
-) -> (Answer<'a>, W) {
-    let Inputs { input, files } = inputs;
-    match check_all(Reading::Exact, names, Inputs { input, files }) {
-        Ok(()) => {}
-        Err(why) => return (Answer::Refused(why), device),
-    }
-    if let Some(name) = emptied(names, files) {
-        let why = Failure::Unread(name, "emptied while it was read");
-        return (Answer::Refused(why), device);
-    }
-    let inputs = Inputs { input, files };
-    let streaming = Streaming::Rewrite;
-    write_as(Reading::Exact, streaming, names, inputs, device)
-}
-
 /// The first of these names, each of which was a regular file's with bytes, that isn't any more.
 fn emptied<'a, S: Files>(names: &[&'a str], files: &S) -> Option<&'a str> {
     for name in names {
@@ -176,27 +389,6 @@ fn emptied<'a, S: Files>(names: &[&'a str], files: &S) -> Option<&'a str> {
         }
     }
     None
-}
-
-/// Works on what is read of the inputs of these names, and answers which pods of them are refused.
-fn go_on<'a, R: Read, S: Files, P: Progress, W: Write>(
-    making: Making<'_>,
-    manner: recordings::Manner,
-    names: &[&'a str],
-    target: Option<&'a str>,
-    io: Io<'_, R, S, P, W>,
-) -> (Answer<'a>, W) {
-    let input = io.input;
-    let files = io.files;
-    let made = match make_what_is_read(making, manner, names, Inputs { input, files }) {
-        Ok(made) => made,
-        Err(why) => return (Answer::Refused(why), io.device),
-    };
-    let Worked { out, refused } = made;
-    if refused.is_empty() {
-        return answered(files, target, io.device, Ok(out), Answer::Done);
-    }
-    answered(files, target, io.device, Ok(out), Answer::Passed(refused))
 }
 
 /// An option that `--stream` excludes, if one is given.
@@ -217,82 +409,6 @@ fn made_as<'a>(streaming: Streaming<'a>) -> Option<Making<'a>> {
         Streaming::Rewrite => Some(Making::Rewrite),
         Streaming::Print(_) => None,
         Streaming::Check => Some(Making::Check),
-    }
-}
-
-/// Writes this of the inputs of these names as they come, where no option that `--stream` excludes is given.
-fn stream<'a, R: Read, S: Files, P: Progress, W: Write>(
-    streaming: Streaming<'a>,
-    manner: Manner,
-    names: &[&'a str],
-    target: Option<&'a str>,
-    io: Io<'_, R, S, P, W>,
-) -> (Answer<'a>, W) {
-    if let Some(other) = excluded_in(manner.fate, target) {
-        return (Answer::Misused(Misuse::WithStream(other)), io.device);
-    }
-    let input = io.input;
-    let files = io.files;
-    let inputs = Inputs { input, files };
-    let done = stream_by(streaming, manner, names, inputs, io.device);
-    done
-}
-
-/// Writes this of the inputs of these names as they come; no file is written.
-fn stream_by<'a, R: Read, S: Files, W: Write>(
-    streaming: Streaming<'a>,
-    manner: Manner,
-    names: &[&'a str],
-    inputs: Inputs<'_, R, S>,
-    device: W,
-) -> (Answer<'a>, W) {
-    match manner.fate {
-        Fate::Stops => write_as(manner.reading, streaming, names, inputs, device),
-        Fate::GoesOn(refused) => match made_as(streaming) {
-            Some(making) => {
-                let manner = recordings::Manner {
-                    reading: manner.reading,
-                    refused,
-                };
-                pass(making, manner, names, inputs, device)
-            }
-            None => (Answer::Misused(Misuse::WithPart(refused)), device),
-        },
-    }
-}
-
-/// Writes what is made of what is read of the inputs of these names as they come, and answers which pods of them are refused; no file is written.
-fn pass<'a, R: Read, S: Files, W: Write>(
-    making: Making<'_>,
-    manner: recordings::Manner,
-    names: &[&'a str],
-    inputs: Inputs<'_, R, S>,
-    device: W,
-) -> (Answer<'a>, W) {
-    let mut device = device;
-    match pass_all(making, manner, names, inputs, &mut device) {
-        Ok(said) => {
-            if said.is_empty() {
-                return (Answer::Done, device);
-            }
-            (Answer::Passed(said), device)
-        }
-        Err(why) => (Answer::Refused(why), device),
-    }
-}
-
-/// Writes this of the inputs of these names, which are read so, as they come; no file is written.
-fn write_as<'a, R: Read, S: Files, W: Write>(
-    reading: Reading,
-    streaming: Streaming<'a>,
-    names: &[&'a str],
-    inputs: Inputs<'_, R, S>,
-    device: W,
-) -> (Answer<'a>, W) {
-    let mut device = device;
-    match stream_all(reading, streaming, names, inputs, &mut device) {
-        Ok(made) => (shown(made, looked_for(streaming)), device),
-        Err(why) => (Answer::Refused(why), device),
     }
 }
 
@@ -327,159 +443,6 @@ fn shown<'a>(made: Made, sought: Option<Selection<'a>>) -> Answer<'a> {
         return Answer::Missing(selection);
     }
     Answer::Done
-}
-
-/// Prints this of the inputs of these names, where no refused pod is to be left out.
-fn print<'a, R: Read, S: Files, P: Progress, W: Write>(
-    printing: Printing<'a>,
-    manner: Manner,
-    names: &[&'a str],
-    target: Option<&'a str>,
-    io: Io<'_, R, S, P, W>,
-) -> (Answer<'a>, W) {
-    match manner.fate {
-        Fate::Stops => print_read(printing, manner.reading, names, target, io),
-        Fate::GoesOn(refused) => (Answer::Misused(Misuse::WithPart(refused)), io.device),
-    }
-}
-
-/// Prints this of the inputs of these names, which are read so.
-fn print_read<'a, R: Read, S: Files, P: Progress, W: Write>(
-    printing: Printing<'a>,
-    reading: Reading,
-    names: &[&'a str],
-    target: Option<&'a str>,
-    io: Io<'_, R, S, P, W>,
-) -> (Answer<'a>, W) {
-    match reading {
-        Reading::Exact => print_inputs(printing, names, target, io),
-        Reading::Lenient => print_leniently(printing, names, target, io),
-    }
-}
-
-/// Prints this of the values that the inputs of these names convey, once all are read.
-fn print_leniently<'a, R: Read, S: Files, P: Progress, W: Write>(
-    printing: Printing<'a>,
-    names: &[&'a str],
-    target: Option<&'a str>,
-    io: Io<'_, R, S, P, W>,
-) -> (Answer<'a>, W) {
-    let input = io.input;
-    let files = io.files;
-    let inputs = Inputs { input, files };
-    let making = Making::Print(printing);
-    let made = match make_all(making, Reading::Lenient, names, inputs) {
-        Ok(made) => made,
-        Err(why) => return (Answer::Refused(why), io.device),
-    };
-    let sought = sought_in(printing.printout.selection);
-    let done = shown(Made::of(0, made.as_slice()), sought);
-    answered(files, target, io.device, Ok(made), done)
-}
-
-/// Prints this of the inputs of these names: as they come, or where a file is written, all of it at the end.
-fn print_inputs<'a, R: Read, S: Files, P: Progress, W: Write>(
-    printing: Printing<'a>,
-    names: &[&'a str],
-    target: Option<&'a str>,
-    io: Io<'_, R, S, P, W>,
-) -> (Answer<'a>, W) {
-    match target {
-        None => {
-            let input = io.input;
-            let files = io.files;
-            let inputs = Inputs { input, files };
-            let streaming = Streaming::Print(printing);
-            let done = write_as(Reading::Exact, streaming, names, inputs, io.device);
-            done
-        }
-        Some(_) => print_to_file(printing, names, target, io),
-    }
-}
-
-/// Prints this of the inputs of these names in the file that is written.
-fn print_to_file<'a, R: Read, S: Files, P: Progress, W: Write>(
-    printing: Printing<'a>,
-    names: &[&'a str],
-    target: Option<&'a str>,
-    io: Io<'_, R, S, P, W>,
-) -> (Answer<'a>, W) {
-    let input = io.input;
-    let files = io.files;
-    let inputs = Inputs { input, files };
-    let streaming = Streaming::Print(printing);
-    let mut printed = Vec::new();
-    match stream_all(
-        Reading::Exact,
-        streaming,
-        names,
-        inputs,
-        &mut printed,
-    ) {
-        Ok(made) => {
-            let done = shown(made, looked_for(streaming));
-            answered(files, target, io.device, Ok(printed), done)
-        }
-        Err(Failure::Unwritten(_)) => (Answer::Refused(Failure::OutOfMemory), io.device),
-        Err(why) => (Answer::Refused(why), io.device),
-    }
-}
-
-/// Compares the two inputs of these names, which are read so, as this.
-fn diff<'a, R: Read, S: Files, P: Progress, W: Write>(
-    comparison: Comparison,
-    reading: Reading,
-    names: &[&'a str],
-    target: Option<&'a str>,
-    io: Io<'_, R, S, P, W>,
-) -> (Answer<'a>, W) {
-    let [ours, theirs] = names else {
-        return (Answer::Misused(misuse_of(names)), io.device);
-    };
-    let input = io.input;
-    let files = io.files;
-    let both = Two {
-        ours: *ours,
-        theirs: *theirs,
-    };
-    let lines = match compare(comparison, reading, both, Inputs { input, files }) {
-        Ok(lines) => lines,
-        Err(why) => return (Answer::Refused(why), io.device),
-    };
-    if lines.is_empty() {
-        return answered(files, target, io.device, Ok(lines), Answer::Done);
-    }
-    answered(files, target, io.device, Ok(lines), Answer::Differs)
-}
-
-/// Seeks the object on which two of the inputs of these names, which are read so, agree.
-fn seek<'a, R: Read, S: Files, P: Progress, W: Write>(
-    work: Work,
-    reading: Reading,
-    names: &[&'a str],
-    target: Option<&'a str>,
-    io: Io<'_, R, S, P, W>,
-) -> (Answer<'a>, W) {
-    match names {
-        [name] => {
-            let input = io.input;
-            let files = io.files;
-            let made = agree(work, reading, *name, Inputs { input, files });
-            answered(files, target, io.device, made, Answer::Done)
-        }
-        [ours, theirs] => {
-            let both = Two {
-                ours: *ours,
-                theirs: *theirs,
-            };
-            let input = io.input;
-            let files = io.files;
-            let inputs = Inputs { input, files };
-            let made = agree_of_lists(work, reading, both, inputs, io.progress);
-            answered(files, target, io.device, made, Answer::Done)
-        }
-        _ => (Answer::Misused(misuse_of(names)), io.device),
-    }
 }
 
 /// What is wrong with another number of inputs than a word takes.

@@ -82,18 +82,7 @@ fn stream_named<'a, R: Read, S: Files, W: Write>(
     if name == "-" {
         return stream_reader(reading, streaming, name, inputs.input, output);
     }
-    stream_file(reading, streaming, name, inputs.files, output)
-}
-
-/// Writes this of the file of this name, which is read so, and answers how many of its pods are refused, and whether it is nothing.
-fn stream_file<'a, S: Files, W: Write>(
-    reading: Reading,
-    streaming: Streaming<'_>,
-    name: &'a str,
-    files: &S,
-    output: &mut W,
-) -> Result<Made, Failure<'a>> {
-    let mut file = match open_named(name, files) {
+    let mut file = match open_named(name, inputs.files) {
         Ok(file) => file,
         Err(why) => return Err(why),
     };
@@ -169,24 +158,13 @@ pub(crate) fn failure_of<'a>(
             number,
             place,
             read,
-        } => refused_at(reading, name, number, place, read.as_slice()),
+        } => match refusal_of(reading, read.as_slice(), place, number) {
+            Ok(refusal) => Failure::Pods(name, refusal),
+            Err(_) => Failure::OutOfMemory,
+        },
         Stop::OutOfMemory => Failure::OutOfMemory,
         Stop::ReadFailed => Failure::Unread(name, "read failed"),
         Stop::WriteFailed => Failure::Unwritten(None),
-    }
-}
-
-/// The refusal of the pod of this number of the input of this name, which begins with these bytes at this byte.
-fn refused_at<'a>(
-    reading: Reading,
-    name: &'a str,
-    number: usize,
-    place: usize,
-    read: &[u8],
-) -> Failure<'a> {
-    match refusal_of(reading, read, place, number) {
-        Ok(refusal) => Failure::Pods(name, refusal),
-        Err(_) => Failure::OutOfMemory,
     }
 }
 

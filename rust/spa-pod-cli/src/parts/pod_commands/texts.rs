@@ -32,23 +32,16 @@ fn texts_of<'a>(
     id: Option<&'a str>,
 ) -> Result<Texts, Misuse<'a>> {
     match (is_dump, from_hex, is_loose) {
-        (false, _, _) => plain_texts(from_hex, is_loose, type_, id),
+        (false, _, _) => match (type_, id) {
+            (None, None) => Ok(texts_by(from_hex, is_loose)),
+            _ => Err(Misuse::Read(OfRead::WithoutDump)),
+        },
         (true, true, _) => Err(Misuse::Read(OfRead::HexDump)),
         (true, false, true) => Err(Misuse::Read(OfRead::LooseDump)),
-        (true, false, false) => params_in(type_, id),
-    }
-}
-
-/// How texts are read without `--pw-dump`, which `--type` and `--id` need.
-fn plain_texts<'a>(
-    from_hex: bool,
-    is_loose: bool,
-    type_: Option<&str>,
-    id: Option<&str>,
-) -> Result<Texts, Misuse<'a>> {
-    match (type_, id) {
-        (None, None) => Ok(texts_by(from_hex, is_loose)),
-        _ => Err(Misuse::Read(OfRead::WithoutDump)),
+        (true, false, false) => match (type_, id) {
+            (Some(type_), Some(id)) => params_of(type_, id),
+            _ => Err(Misuse::Read(OfRead::DumpAlone)),
+        },
     }
 }
 
@@ -58,14 +51,6 @@ fn texts_by(from_hex: bool, is_loose: bool) -> Texts {
         Texts::Hex
     } else {
         Texts::Named(strictness_by(is_loose))
-    }
-}
-
-/// How texts are read with `--pw-dump`, where `--type` and `--id` have these values.
-fn params_in<'a>(type_: Option<&'a str>, id: Option<&'a str>) -> Result<Texts, Misuse<'a>> {
-    match (type_, id) {
-        (Some(type_), Some(id)) => params_of(type_, id),
-        _ => Err(Misuse::Read(OfRead::DumpAlone)),
     }
 }
 

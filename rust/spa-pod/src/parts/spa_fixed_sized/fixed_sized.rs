@@ -2,6 +2,7 @@
 //! Types that are read and written as one of the ten types of fixed size.
 
 use crate::parts::spa_fixed_sized::fixed::CanonicalFixedSizedPod;
+use crate::parts::spa_utils::{Fd, Float32, Float64, Fraction, Id, Rectangle};
 
 /// A type that is read and written as one of the ten types of fixed size, its canonical type. Each of the ten is its own.
 pub trait FixedSizedPod: Sized {
@@ -15,14 +16,122 @@ pub trait FixedSizedPod: Sized {
     fn from_canonical_type(canonical: &Self::CanonicalType) -> Self;
 }
 
-impl<T: CanonicalFixedSizedPod> FixedSizedPod for T {
-    type CanonicalType = T;
+impl FixedSizedPod for () {
+    type CanonicalType = ();
 
-    fn as_canonical_type(&self) -> T {
+    fn as_canonical_type(&self) {
         *self
     }
 
-    fn from_canonical_type(canonical: &T) -> T {
+    fn from_canonical_type(canonical: &()) {
+        *canonical
+    }
+}
+
+impl FixedSizedPod for bool {
+    type CanonicalType = bool;
+
+    fn as_canonical_type(&self) -> bool {
+        *self
+    }
+
+    fn from_canonical_type(canonical: &bool) -> bool {
+        *canonical
+    }
+}
+
+impl FixedSizedPod for Id {
+    type CanonicalType = Id;
+
+    fn as_canonical_type(&self) -> Id {
+        *self
+    }
+
+    fn from_canonical_type(canonical: &Id) -> Id {
+        *canonical
+    }
+}
+
+impl FixedSizedPod for i32 {
+    type CanonicalType = i32;
+
+    fn as_canonical_type(&self) -> i32 {
+        *self
+    }
+
+    fn from_canonical_type(canonical: &i32) -> i32 {
+        *canonical
+    }
+}
+
+impl FixedSizedPod for i64 {
+    type CanonicalType = i64;
+
+    fn as_canonical_type(&self) -> i64 {
+        *self
+    }
+
+    fn from_canonical_type(canonical: &i64) -> i64 {
+        *canonical
+    }
+}
+
+impl FixedSizedPod for Float32 {
+    type CanonicalType = Float32;
+
+    fn as_canonical_type(&self) -> Float32 {
+        *self
+    }
+
+    fn from_canonical_type(canonical: &Float32) -> Float32 {
+        *canonical
+    }
+}
+
+impl FixedSizedPod for Float64 {
+    type CanonicalType = Float64;
+
+    fn as_canonical_type(&self) -> Float64 {
+        *self
+    }
+
+    fn from_canonical_type(canonical: &Float64) -> Float64 {
+        *canonical
+    }
+}
+
+impl FixedSizedPod for Rectangle {
+    type CanonicalType = Rectangle;
+
+    fn as_canonical_type(&self) -> Rectangle {
+        *self
+    }
+
+    fn from_canonical_type(canonical: &Rectangle) -> Rectangle {
+        *canonical
+    }
+}
+
+impl FixedSizedPod for Fraction {
+    type CanonicalType = Fraction;
+
+    fn as_canonical_type(&self) -> Fraction {
+        *self
+    }
+
+    fn from_canonical_type(canonical: &Fraction) -> Fraction {
+        *canonical
+    }
+}
+
+impl FixedSizedPod for Fd {
+    type CanonicalType = Fd;
+
+    fn as_canonical_type(&self) -> Fd {
+        *self
+    }
+
+    fn from_canonical_type(canonical: &Fd) -> Fd {
         *canonical
     }
 }

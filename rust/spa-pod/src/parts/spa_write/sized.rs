@@ -6,7 +6,7 @@ use crate::parts::spa_write::count::{
     INNER_LEVELS, is_beyond, is_nested, is_small, may_be_deep, members_nest_within, only_struct,
     properties_nest_within,
 };
-use crate::parts::spa_write::largest::largest_part;
+use crate::parts::spa_write::largest::{largest_member, largest_property};
 use crate::parts::spa_write::leaf::put_leaf;
 use crate::parts::spa_write::nested::write_by_loop;
 use crate::parts::spa_write::short::short_encoding;
@@ -151,7 +151,7 @@ fn put_all<S: PodSink>(sink: &mut S, members: &[Value], size: u64) -> Result<(),
     if members.len() == 1 {
         return put_value(sink, &members[0], Some(size));
     }
-    let largest = largest_part(members, size);
+    let largest = largest_member(members, size);
     let left = left_for_member(members, largest, size);
     for (index, member) in members.iter().enumerate() {
         put_value(sink, member, known_at(index, largest, left))?;
@@ -179,7 +179,7 @@ fn put_properties<S: PodSink>(
     properties: &[Property],
     size: u64,
 ) -> Result<(), GenError> {
-    let largest = largest_part(properties, size);
+    let largest = largest_property(properties, size);
     let left = left_for_property(properties, largest, size);
     for (index, property) in properties.iter().enumerate() {
         match short_encoding(&property.value) {

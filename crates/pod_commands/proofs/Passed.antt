@@ -18,7 +18,7 @@ use Rattle.spa_recordings.specs.declared.reading.Reading.TheVariants.{Exact, Len
 use Rattle.spa_recordings.specs.declared.streaming.Stop.{Stop}
 use Rattle.spa_recordings.specs.declared.streaming.Stop.TheVariants as stop
 use Rattle.spa_refusals.specs.declared.several.NamedRefusal.{NamedRefusal}
-use Rattle.pod_commands.specs.Answers.{IsStreamedInPart, IsUnread, outlet}
+use Rattle.pod_commands.specs.Answers.{IsStreamedInPart, IsUnread, course, outlet}
 use Rattle.pod_commands.specs.Inputs.{IsKnown, IsOpened, content_of, left_behind}
 use Rattle.pod_commands.specs.Making.{Makes}
 use Rattle.pod_commands.specs.Passing.{WorksOnBlock}
@@ -257,15 +257,15 @@ module _ (reading : Reading) (refused : Refused) (making : Making) where
     -- all was written as it came, and these pods were refused
     pub none_refused : (old new : Option (List ℕ)) (said : List NamedRefusal) → said ≡ [] →
         ((out : List ℕ) × AreWorked reading refused making remaining holds names out said × Appends old new out) →
-        IsStreamedInPart reading refused making Done remaining names (outlet None old new holds holds)
+        IsStreamedInPart reading refused making Done (course remaining names (outlet None old new holds holds))
     none_refused old new said e w =
         (w.0, subst (AreWorked reading refused making remaining holds names w.0) e w.1, (w.2, λ name. refl))
 
     pub some_refused : (old new : Option (List ℕ)) (said : Vec NamedRefusal Global) → said.items ≢ [] →
         ((out : List ℕ) × AreWorked reading refused making remaining holds names out said.items × Appends old new out) →
-        IsStreamedInPart reading refused making (Passed said) remaining names (outlet None old new holds holds)
+        IsStreamedInPart reading refused making (Passed said) (course remaining names (outlet None old new holds holds))
     some_refused old new said e w = (e, (w.0, w.1, (w.2, λ name. refl)))
 
     pub ended : (old new : Option (List ℕ)) (why : Failure) → IsBrokenInPart reading refused making remaining holds names old new why →
-        IsStreamedInPart reading refused making (RefusedFor why) remaining names (outlet None old new holds holds)
+        IsStreamedInPart reading refused making (RefusedFor why) (course remaining names (outlet None old new holds holds))
     ended old new why b = (b, λ name. refl)

@@ -15,7 +15,7 @@ use Rattle.spa_recordings.specs.declared.streaming.Made.{Made}
 use Rattle.spa_recordings.specs.declared.streaming.Stop.{Stop}
 use Rattle.spa_recordings.specs.declared.streaming.Stop.TheVariants as stop
 use Rattle.spa_text_commands.specs.declared.selection.Selection.{Selection}
-use Rattle.pod_commands.specs.Answers.{Gets, IsExcluded, IsFound, IsShownIn, IsStreamed, IsPassed, IsStreamedBy, IsStreamedInPart, IsOutcome, IsUnread, IsWrittenAs, MayStream, Outlet, looked_for, outlet}
+use Rattle.pod_commands.specs.Answers.{Course, Gets, IsExcluded, IsFound, IsShownIn, IsStreamed, IsPassed, IsStreamedBy, IsStreamedInPart, IsOutcome, IsUnread, IsWrittenAs, MayStream, Outlet, looked_for, course, outlet}
 use Rattle.pod_commands.specs.Inputs.{AreMade, IsKnown, IsOpened, content_of, left_behind}
 use Rattle.pod_commands.specs.Sending.{IsSent}
 use Rattle.pod_commands.specs.StreamLaws.{nothing_written}
@@ -284,7 +284,7 @@ pub all_written : (reading : Reading) (s : Streaming) (remaining : Option (List 
     (names : List (Bor (List ℕ))) (old new : Option (List ℕ)) (its : Made) (answer : Answer) →
     (sought : Option Selection) → sought ≡ looked_for s → IsOutcome sought its answer →
     ((out : List ℕ) × AreMade (StreamsAs reading s) remaining holds names out its.refused × Decides its.nothing (out ≡ []) × Appends old new out) →
-    IsWrittenAs reading s answer remaining names (outlet None old new holds holds)
+    IsWrittenAs reading s answer (course remaining names (outlet None old new holds holds))
 all_written reading s remaining holds names old new its answer sought looks is w = of is
   where
     o : Outlet
@@ -293,9 +293,9 @@ all_written reading s remaining holds names old new its answer sought looks is w
     gets : Gets None o w.0
     gets = (w.3, λ name. refl)
 
-    of : IsOutcome sought its answer → IsWrittenAs reading s answer remaining names o
+    of : IsOutcome sought its answer → IsWrittenAs reading s answer (course remaining names o)
     of (inl e) =
-        subst (λ a. IsWrittenAs reading s a remaining names o) (sym e.2) (
+        subst (λ a. IsWrittenAs reading s a (course remaining names o)) (sym e.2) (
           w.0,
           (
             subst (AreMade (StreamsAs reading s) remaining holds names w.0) e.0 w.1,
@@ -303,40 +303,40 @@ all_written reading s remaining holds names old new its answer sought looks is w
           ),
           gets,
         )
-    of (inr (inl e)) = subst (λ a. IsWrittenAs reading s a remaining names o) (sym e.1) (e.0, (w.0, w.1, gets))
+    of (inr (inl e)) = subst (λ a. IsWrittenAs reading s a (course remaining names o)) (sym e.1) (e.0, (w.0, w.1, gets))
     of (inr (inr e)) =
-        subst (λ a. IsWrittenAs reading s a remaining names o) (sym e.4)
+        subst (λ a. IsWrittenAs reading s a (course remaining names o)) (sym e.4)
         (sym looks ∙ e.3, (w.0, (subst (AreMade (StreamsAs reading s) remaining holds names w.0) e.1 w.1, w.2.0 e.2), gets))
 
 pub part_written : (reading : Reading) (s : Streaming) (remaining : Option (List ℕ)) (holds : List ℕ → Option (List ℕ))
     (names : List (Bor (List ℕ))) (old new : Option (List ℕ)) (why : Failure) → IsBroken reading s remaining holds names old new why →
-    IsWrittenAs reading s (Refused why) remaining names (outlet None old new holds holds)
+    IsWrittenAs reading s (Refused why) (course remaining names (outlet None old new holds holds))
 part_written reading s remaining holds names old new why b = (b, λ name. refl)
 
 -- an option that `--stream` excludes is misuse
 pub misused : (s : Streaming) (reading : Reading) (fate : Fate) (target : Option (Bor (List ℕ))) (remaining : Option (List ℕ))
     (holds : List ℕ → Option (List ℕ)) (names : List (Bor (List ℕ))) (old : Option (List ℕ)) (other : Excluded) →
-    IsExcluded fate target other → IsStreamed s reading fate (Misused (WithStream other)) remaining names (outlet target old old holds holds)
+    IsExcluded fate target other → IsStreamed s reading fate (Misused (WithStream other)) (course remaining names (outlet target old old holds holds))
 misused s reading fate target remaining holds names old other e = inr (other, e, (refl, untouched target old holds))
 
 -- without one it is done
 pub streamed : (s : Streaming) (reading : Reading) (fate : Fate) (target : Option (Bor (List ℕ))) (answer : Answer) (remaining : Option (List ℕ))
     (names : List (Bor (List ℕ))) (old new : Option (List ℕ)) (before after : List ℕ → Option (List ℕ)) → target ≡ None →
-    IsStreamedBy s reading fate answer remaining names (outlet None old new before after) →
-    IsStreamed s reading fate answer remaining names (outlet target old new before after)
+    IsStreamedBy s reading fate answer (course remaining names (outlet None old new before after)) →
+    IsStreamed s reading fate answer (course remaining names (outlet target old new before after))
 streamed s reading fate target answer remaining names old new before after t w = rw t (inl (refl, w))
 
 -- where refused pods are refused, what was made till the work ended was written
-pub stopped_by : (s : Streaming) (reading : Reading) (fate : Fate) (answer : Answer) (remaining : Option (List ℕ)) (names : List (Bor (List ℕ))) (o : Outlet) →
-    fate ≡ StopsThere → IsWrittenAs reading s answer remaining names o → IsStreamedBy s reading fate answer remaining names o
-stopped_by s reading fate answer remaining names o e w = subst (λ z. IsStreamedBy s reading z answer remaining names o) (sym e) w
+pub stopped_by : (s : Streaming) (reading : Reading) (fate : Fate) (answer : Answer) (c : Course) →
+    fate ≡ StopsThere → IsWrittenAs reading s answer c → IsStreamedBy s reading fate answer c
+stopped_by s reading fate answer c e w = subst (λ z. IsStreamedBy s reading z answer c) (sym e) w
 
 -- else pods are worked on, or the options exclude each other
-pub passed_by : (s : Streaming) (reading : Reading) (fate : Fate) (refused : OfRefused) (making : Making) (answer : Answer) (remaining : Option (List ℕ))
-    (names : List (Bor (List ℕ))) (o : Outlet) → fate ≡ GoesOn refused → Some making ≡ made_as s →
-    IsStreamedInPart reading refused making answer remaining names o → IsStreamedBy s reading fate answer remaining names o
-passed_by s reading fate refused making answer remaining names o e m w =
-    subst (λ z. IsStreamedBy s reading z answer remaining names o) (sym e) (subst (λ z. IsPassed z reading refused answer remaining names o) m w)
+pub passed_by : (s : Streaming) (reading : Reading) (fate : Fate) (refused : OfRefused) (making : Making) (answer : Answer)
+    (c : Course) → fate ≡ GoesOn refused → Some making ≡ made_as s →
+    IsStreamedInPart reading refused making answer c → IsStreamedBy s reading fate answer c
+passed_by s reading fate refused making answer c e m w =
+    subst (λ z. IsStreamedBy s reading z answer c) (sym e) (subst (λ z. IsPassed z reading refused answer c) m w)
 
 -- the work is done block by block
 pub blocks_by : (fate : Fate) (refused : OfRefused) (making : Making) → fate ≡ GoesOn refused → MayStream fate → IsMadeOfEach making →
@@ -345,49 +345,49 @@ blocks_by fate refused making e ends each = (each, subst MayStream e ends)
 
 pub parts_by : (s : Streaming) (reading : Reading) (fate : Fate) (refused : OfRefused) (remaining : Option (List ℕ))
     (holds : List ℕ → Option (List ℕ)) (names : List (Bor (List ℕ))) (old : Option (List ℕ)) → fate ≡ GoesOn refused → None ≡ made_as s →
-    IsStreamedBy s reading fate (Misused (WithPart refused)) remaining names (outlet None old old holds holds)
+    IsStreamedBy s reading fate (Misused (WithPart refused)) (course remaining names (outlet None old old holds holds))
 parts_by s reading fate refused remaining holds names old e m =
-    subst (λ z. IsStreamedBy s reading z (Misused (WithPart refused)) remaining names (outlet None old old holds holds)) (sym e)
-    (subst (λ z. IsPassed z reading refused (Misused (WithPart refused)) remaining names (outlet None old old holds holds)) m
+    subst (λ z. IsStreamedBy s reading z (Misused (WithPart refused)) (course remaining names (outlet None old old holds holds))) (sym e)
+    (subst (λ z. IsPassed z reading refused (Misused (WithPart refused)) (course remaining names (outlet None old old holds holds))) m
     (refl, untouched None old holds))
 
 -- ---- Lines that go to a file
 
 -- the lines of all went to the file, or that couldn't be written
-pub shown_in : (printing : Printing) (remaining : Option (List ℕ)) (names : List (Bor (List ℕ))) (o : Outlet) (lines out : List ℕ) (its : Made) (given answer : Answer) →
+pub shown_in : (printing : Printing) (c : Course) (lines out : List ℕ) (its : Made) (given answer : Answer) →
     (sought : Option Selection) → sought ≡ looked_for (streaming.Print printing) → IsOutcome sought its given →
-    AreMade (StreamsAs Exact (streaming.Print printing)) remaining o.before names out its.refused → Decides its.nothing (out ≡ []) →
-    Appends (Some []) (Some lines) out → IsSent lines given answer o → IsShownIn printing answer remaining names o
-shown_in printing remaining names o lines out its given answer sought looks (inl e) made d is (inl k) =
-    subst (λ a. IsShownIn printing a remaining names o) (sym (k.0 ∙ e.2)) (
+    AreMade (StreamsAs Exact (streaming.Print printing)) c.remaining c.outlet.before c.names out its.refused → Decides its.nothing (out ≡ []) →
+    Appends (Some []) (Some lines) out → IsSent lines given answer c.outlet → IsShownIn printing answer c
+shown_in printing c lines out its given answer sought looks (inl e) made d is (inl k) =
+    subst (λ a. IsShownIn printing a c) (sym (k.0 ∙ e.2)) (
       out,
       (
-        subst (AreMade (StreamsAs Exact (streaming.Print printing)) remaining o.before names out) e.0 made,
+        subst (AreMade (StreamsAs Exact (streaming.Print printing)) c.remaining c.outlet.before c.names out) e.0 made,
         subst (λ z. IsFound z out) looks (found_by sought its out d e.1),
       ),
-      subst (Gets o.target o) is k.1,
+      subst (Gets c.outlet.target c.outlet) is k.1,
     )
-shown_in printing remaining names o lines out its given answer sought looks (inr (inl e)) made d is (inl k) =
-    subst (λ a. IsShownIn printing a remaining names o) (sym (k.0 ∙ e.1)) (e.0, (out, made, subst (Gets o.target o) is k.1))
-shown_in printing remaining names o lines out its given answer sought looks (inr (inr e)) made d is (inl k) =
-    subst (λ a. IsShownIn printing a remaining names o) (sym (k.0 ∙ e.4)) (
+shown_in printing c lines out its given answer sought looks (inr (inl e)) made d is (inl k) =
+    subst (λ a. IsShownIn printing a c) (sym (k.0 ∙ e.1)) (e.0, (out, made, subst (Gets c.outlet.target c.outlet) is k.1))
+shown_in printing c lines out its given answer sought looks (inr (inr e)) made d is (inl k) =
+    subst (λ a. IsShownIn printing a c) (sym (k.0 ∙ e.4)) (
       sym looks ∙ e.3,
       (
         out,
-        (subst (AreMade (StreamsAs Exact (streaming.Print printing)) remaining o.before names out) e.1 made, d.0 e.2),
-        subst (Gets o.target o) is k.1,
+        (subst (AreMade (StreamsAs Exact (streaming.Print printing)) c.remaining c.outlet.before c.names out) e.1 made, d.0 e.2),
+        subst (Gets c.outlet.target c.outlet) is k.1,
       ),
     )
-shown_in printing remaining names o lines out its given answer sought looks e made d is (inr k) =
-    subst (λ a. IsShownIn printing a remaining names o) (sym k.1)
-    (inr (k.2, (lines, (its.refused, subst (λ z. AreMade (StreamsAs Exact (streaming.Print printing)) remaining o.before names z its.refused) (sym is) made), k.3)))
+shown_in printing c lines out its given answer sought looks e made d is (inr k) =
+    subst (λ a. IsShownIn printing a c) (sym k.1)
+    (inr (k.2, (lines, (its.refused, subst (λ z. AreMade (StreamsAs Exact (streaming.Print printing)) c.remaining c.outlet.before c.names z its.refused) (sym is) made), k.3)))
 
 -- not all inputs are shown
 pub unshown : (printing : Printing) (target : Option (Bor (List ℕ))) (remaining : Option (List ℕ)) (holds : List ℕ → Option (List ℕ)) (names : List (Bor (List ℕ)))
     (old first last : Option (List ℕ)) (why : Failure) → IsBroken Exact (streaming.Print printing) remaining holds names first last why →
-    IsShownIn printing (Refused why) remaining names (outlet target old old holds holds)
+    IsShownIn printing (Refused why) (course remaining names (outlet target old old holds holds))
 unshown printing target remaining holds names old first last why b = inl (inr (b.0, b.1), untouched target old holds)
 
 pub unshown_lines : (printing : Printing) (target : Option (Bor (List ℕ))) (remaining : Option (List ℕ)) (holds : List ℕ → Option (List ℕ)) (names : List (Bor (List ℕ)))
-    (old : Option (List ℕ)) → IsShownIn printing (Refused OutOfMemory) remaining names (outlet target old old holds holds)
+    (old : Option (List ℕ)) → IsShownIn printing (Refused OutOfMemory) (course remaining names (outlet target old old holds holds))
 unshown_lines printing target remaining holds names old = inl (inl refl, untouched target old holds)

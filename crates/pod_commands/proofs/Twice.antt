@@ -11,7 +11,7 @@ use Rattle.spa_format.specs.Tree.{Trees}
 use Rattle.spa_format.proofs.Refused.{refused_behind_members}
 use Rattle.spa_recordings.specs.Streaming.{EndsAtPod}
 use Rattle.spa_recordings.specs.declared.reading.Reading.TheVariants.{Exact}
-use Rattle.pod_commands.specs.Answers.{AreFiles, AreUnmade, IsMadeBy, IsUnknown, IsWrittenAs, MayReadTwice, Outlet, outlet}
+use Rattle.pod_commands.specs.Answers.{AreFiles, AreUnmade, IsMadeBy, IsUnknown, IsWrittenAs, MayReadTwice, Outlet, course, outlet}
 use Rattle.pod_commands.specs.Inputs.{AreMade, StopsAt, content_of, left_behind}
 use Rattle.pod_commands.specs.Making.{MakesAll, RefusesBy}
 use Rattle.pod_commands.specs.Requests.{dash}
@@ -122,7 +122,7 @@ rewritten : (input out : List ℕ) (n : ℕ) → StreamsAs Exact streaming.Rewri
 rewritten input out n h = ((h.0, h.1, h.2.0), h.2.1)
 
 pub read_again : (answer : Answer) (r s : Option (List ℕ)) (names : List (Bor (List ℕ))) (o : Outlet) → MayReadTwice Exact Rewrite names o.target →
-    AreMade (MakesAll Exact Check) s o.before names [] 0 → IsWrittenAs Exact streaming.Rewrite answer r names o → IsMadeBy Exact Stops Rewrite answer r names o
+    AreMade (MakesAll Exact Check) s o.before names [] 0 → IsWrittenAs Exact streaming.Rewrite answer (course r names o) → IsMadeBy Exact Stops Rewrite answer (course r names o)
 read_again Done r s names o may m h =
     inl (h.0, made_more (StreamsAs Exact streaming.Rewrite) (MakesAll Exact Rewrite) r o.before names h.0 0 rewritten h.1.0, h.2)
 read_again (Missing k) r s names o may m h = absurd (none-some k h.0)
@@ -162,7 +162,7 @@ unmade_rewritten r holds names why (inr h) =
 -- nothing is written where the first pass ends the work
 pub refused_first : (r s : Option (List ℕ)) (holds : List ℕ → Option (List ℕ)) (names : List (Bor (List ℕ)))
     (old : Option (List ℕ)) (why : Failure) → AreFiles names → AreUnmade Exact Check s holds names why →
-    IsMadeBy Exact Stops Rewrite (Refused why) r names (outlet None old old holds holds)
+    IsMadeBy Exact Stops Rewrite (Refused why) (course r names (outlet None old old holds holds))
 refused_first r s holds names old why files (inl h) = inl (inl (inl h, untouched None old holds))
 refused_first r s holds names old why files (inr h) =
     let stops = stops_at_files (MakesAll Exact Check) (λ name input made. RefusesBy Exact Check name input) s r holds names h.0 why files h.1 in

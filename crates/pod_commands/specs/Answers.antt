@@ -57,6 +57,7 @@ use Rattle.pod_commands.specs.declared.screen.Screen.{Screen}
 use Rattle.pod_commands.specs.declared.request.Streaming.TheVariants as streaming
 use Rattle.pod_commands.specs.declared.request.Word.{Word}
 use Rattle.pod_commands.specs.declared.request.Word.TheVariants.{Print, Make, Stream, Diff, Agree}
+use Rattle.pod_commands.specs.declared.run.Io.{Io}
 
 -- ---- Where what is made goes
 
@@ -70,6 +71,21 @@ pub record Outlet : Type 0 where
 
 abbrev pub outlet : (target : Option (Bor (List ℕ))) → (old new : Option (List ℕ)) → (before after : List ℕ → Option (List ℕ)) → Outlet
 outlet target old new before after = record { target = target; old = old; new = new; before = before; after = after }
+
+-- the inputs of these names, what the standard input still has, and where what is made of them goes
+pub record Course : Type 0 where
+  pub names : List (Bor (List ℕ))
+  pub remaining : Option (List ℕ)
+  pub outlet : Outlet
+
+abbrev pub course : (remaining : Option (List ℕ)) → (names : List (Bor (List ℕ))) → Outlet → Course
+course remaining names o = record { names = names; remaining = remaining; outlet = o }
+
+-- those of a run's reader, writer and files, before the work and after it
+abbrev pub course_of : {R S P W : Type 0} → (remaining : R → Option (List ℕ)) → (contents : W → Option (List ℕ)) → (holds : S → List ℕ → Option (List ℕ)) →
+    (names : List (Bor (List ℕ))) → (target : Option (Bor (List ℕ))) → Io R S P W → W → S → Course
+course_of remaining contents holds names target io device files =
+    course (remaining io.input.now) names (outlet target (contents io.device) (contents device) (holds io.files.now) (holds files))
 
 -- no file was written
 abbrev pub KeepsFiles : Outlet → Type 0
@@ -183,28 +199,28 @@ abbrev pub IsMisuse : Misuse → Answer → Outlet → Type 0
 IsMisuse why answer o = (answer ≡ Misused why) × IsUntouched o
 
 -- what an answer says of two inputs that are compared and read so, and of the word with another number of them
-abbrev pub IsCompared : Comparison → Reading → Answer → (remaining : Option (List ℕ)) → List (Bor (List ℕ)) → Outlet → Type 0
-IsCompared k reading answer remaining (n ∷ m ∷ []) o =
-    OnAnswer answer (OfTwo reading remaining o.before n.now m.now (SayTheSame k) × Gets o.target o [])
-    (Gives (λ out. OfTwo reading remaining o.before n.now m.now (Differ k out)) o)
-    (Refuses (λ out. OfTwo reading remaining o.before n.now m.now (Compare k out)) (AreNotCompared reading remaining o.before n.now m.now) o)
-IsCompared k reading answer remaining names o = IsMisuse (misuse_of names) answer o
+abbrev pub IsCompared : Comparison → Reading → Answer → List (Bor (List ℕ)) → Course → Type 0
+IsCompared k reading answer (n ∷ m ∷ []) c =
+    OnAnswer answer (OfTwo reading c.remaining c.outlet.before n.now m.now (SayTheSame k) × Gets c.outlet.target c.outlet [])
+    (Gives (λ out. OfTwo reading c.remaining c.outlet.before n.now m.now (Differ k out)) c.outlet)
+    (Refuses (λ out. OfTwo reading c.remaining c.outlet.before n.now m.now (Compare k out)) (AreNotCompared reading c.remaining c.outlet.before n.now m.now) c.outlet)
+IsCompared k reading answer names c = IsMisuse (misuse_of names) answer c.outlet
 
 -- what it says of inputs that are read so, in which two objects agree
-abbrev pub IsAgreed : Work → Reading → Answer → (remaining : Option (List ℕ)) → List (Bor (List ℕ)) → Outlet → Type 0
-IsAgreed work reading answer remaining (n ∷ []) o =
-    OnAnswer answer (Gives (AgreesOne work reading remaining o.before n.now) o) ⊥
-    (Refuses (AgreesOne work reading remaining o.before n.now) (IsOneApart work reading remaining o.before n.now) o)
-IsAgreed work reading answer remaining (n ∷ m ∷ []) o =
-    OnAnswer answer (Gives (AgreeTwo work reading remaining o.before n.now m.now) o) ⊥
-    (Refuses (AgreeTwo work reading remaining o.before n.now m.now) (AreTwoApart work reading remaining o.before n.now m.now) o)
-IsAgreed work reading answer remaining names o = IsMisuse (misuse_of names) answer o
+abbrev pub IsAgreed : Work → Reading → Answer → List (Bor (List ℕ)) → Course → Type 0
+IsAgreed work reading answer (n ∷ []) c =
+    OnAnswer answer (Gives (AgreesOne work reading c.remaining c.outlet.before n.now) c.outlet) ⊥
+    (Refuses (AgreesOne work reading c.remaining c.outlet.before n.now) (IsOneApart work reading c.remaining c.outlet.before n.now) c.outlet)
+IsAgreed work reading answer (n ∷ m ∷ []) c =
+    OnAnswer answer (Gives (AgreeTwo work reading c.remaining c.outlet.before n.now m.now) c.outlet) ⊥
+    (Refuses (AgreeTwo work reading c.remaining c.outlet.before n.now m.now) (AreTwoApart work reading c.remaining c.outlet.before n.now m.now) c.outlet)
+IsAgreed work reading answer names c = IsMisuse (misuse_of names) answer c.outlet
 
 -- what it says of work on inputs that are read so and refused whole
-abbrev pub IsMadeWhole : Reading → Making → Answer → (remaining : Option (List ℕ)) → List (Bor (List ℕ)) → Outlet → Type 0
-IsMadeWhole reading making answer remaining names o =
-    OnAnswer answer (Gives (λ out. AreMade (MakesAll reading making) remaining o.before names out 0) o) ⊥
-    (Refuses (λ out. AreMade (MakesAll reading making) remaining o.before names out 0) (AreUnmade reading making remaining o.before names) o)
+abbrev pub IsMadeWhole : Reading → Making → Answer → Course → Type 0
+IsMadeWhole reading making answer c =
+    OnAnswer answer (Gives (λ out. AreMade (MakesAll reading making) c.remaining c.outlet.before c.names out 0) c.outlet) ⊥
+    (Refuses (λ out. AreMade (MakesAll reading making) c.remaining c.outlet.before c.names out 0) (AreUnmade reading making c.remaining c.outlet.before c.names) c.outlet)
 
 -- ---- Files that are read twice
 
@@ -227,26 +243,26 @@ IsUnknown holds _ = ⊤
 
 -- All of them are accepted, and the second pass ends in one that can't be read again, has other bytes by then, or can't be
 -- written; what was made till it ended was written.
-pub record EndsInSecondPass (remaining : Option (List ℕ)) (names : List (Bor (List ℕ))) (o : Outlet) (why : Failure) : Type 0 where
-  pub accepted : AreMade (MakesAll Exact Check) remaining o.before names [] 0
-  pub broken : IsBroken Exact streaming.Rewrite remaining o.before names o.old o.new why
-  pub changed : IsUnknown o.before why
-  pub no_file : KeepsFiles o
+pub record EndsInSecondPass (c : Course) (why : Failure) : Type 0 where
+  pub accepted : AreMade (MakesAll Exact Check) c.remaining c.outlet.before c.names [] 0
+  pub broken : IsBroken Exact streaming.Rewrite c.remaining c.outlet.before c.names c.outlet.old c.outlet.new why
+  pub changed : IsUnknown c.outlet.before why
+  pub no_file : KeepsFiles c.outlet
 
 -- what it says of work that goes on behind refused pods: these are some, or there are none
-abbrev pub IsMadeInPart : Reading → OfRefused → Making → Answer → (remaining : Option (List ℕ)) → List (Bor (List ℕ)) → Outlet → Type 0
-IsMadeInPart reading refused making Done remaining names o = Gives (λ out. AreWorked reading refused making remaining o.before names out []) o
-IsMadeInPart reading refused making (Passed pods) remaining names o =
-    (pods.items ≢ []) × Gives (λ out. AreWorked reading refused making remaining o.before names out pods.items) o
-IsMadeInPart reading refused making (Refused why) remaining names o =
-    Refuses (λ out. (pods : List NamedRefusal) × AreWorked reading refused making remaining o.before names out pods) (IsUnworked refused making) o why
-IsMadeInPart reading refused making _ remaining names o = ⊥
+abbrev pub IsMadeInPart : Reading → OfRefused → Making → Answer → Course → Type 0
+IsMadeInPart reading refused making Done c = Gives (λ out. AreWorked reading refused making c.remaining c.outlet.before c.names out []) c.outlet
+IsMadeInPart reading refused making (Passed pods) c =
+    (pods.items ≢ []) × Gives (λ out. AreWorked reading refused making c.remaining c.outlet.before c.names out pods.items) c.outlet
+IsMadeInPart reading refused making (Refused why) c =
+    Refuses (λ out. (pods : List NamedRefusal) × AreWorked reading refused making c.remaining c.outlet.before c.names out pods) (IsUnworked refused making) c.outlet why
+IsMadeInPart reading refused making _ c = ⊥
 
-abbrev pub IsMadeBy : Reading → Fate → Making → Answer → (remaining : Option (List ℕ)) → List (Bor (List ℕ)) → Outlet → Type 0
-IsMadeBy reading Stops making answer remaining names o =
-    IsMadeWhole reading making answer remaining names o
-    ⊎ ((why : Failure) × (answer ≡ Refused why) × MayReadTwice reading making names o.target × EndsInSecondPass remaining names o why)
-IsMadeBy reading (GoesOn refused) making answer remaining names o = IsMadeInPart reading refused making answer remaining names o
+abbrev pub IsMadeBy : Reading → Fate → Making → Answer → Course → Type 0
+IsMadeBy reading Stops making answer c =
+    IsMadeWhole reading making answer c
+    ⊎ ((why : Failure) × (answer ≡ Refused why) × MayReadTwice reading making c.names c.outlet.target × EndsInSecondPass c why)
+IsMadeBy reading (GoesOn refused) making answer c = IsMadeInPart reading refused making answer c
 
 -- what is looked for inside pods, if something is
 abbrev pub sought_in : Selection → Option Selection
@@ -265,15 +281,15 @@ IsFound (Some selection) out = out ≢ []
 
 -- what it says of work that is written as inputs come: all was written, of which no pod is refused, or so many of those that are shown; or nothing, as
 -- what is looked for isn't there; or what was made till the work ended
-abbrev pub IsWrittenAs : Reading → Streaming → Answer → (remaining : Option (List ℕ)) → List (Bor (List ℕ)) → Outlet → Type 0
-IsWrittenAs reading streaming Done remaining names o =
-    Gives (λ out. AreMade (StreamsAs reading streaming) remaining o.before names out 0 × IsFound (looked_for streaming) out) o
-IsWrittenAs reading streaming (Shown refused) remaining names o =
-    (refused ≢ 0) × Gives (λ out. AreMade (StreamsAs reading streaming) remaining o.before names out refused) o
-IsWrittenAs reading streaming (Missing selection) remaining names o =
-    (looked_for streaming ≡ Some selection) × Gives (λ out. AreMade (StreamsAs reading streaming) remaining o.before names out 0 × (out ≡ [])) o
-IsWrittenAs reading streaming (Refused why) remaining names o = IsBroken reading streaming remaining o.before names o.old o.new why × KeepsFiles o
-IsWrittenAs reading streaming _ remaining names o = ⊥
+abbrev pub IsWrittenAs : Reading → Streaming → Answer → Course → Type 0
+IsWrittenAs reading streaming Done c =
+    Gives (λ out. AreMade (StreamsAs reading streaming) c.remaining c.outlet.before c.names out 0 × IsFound (looked_for streaming) out) c.outlet
+IsWrittenAs reading streaming (Shown refused) c =
+    (refused ≢ 0) × Gives (λ out. AreMade (StreamsAs reading streaming) c.remaining c.outlet.before c.names out refused) c.outlet
+IsWrittenAs reading streaming (Missing selection) c =
+    (looked_for streaming ≡ Some selection) × Gives (λ out. AreMade (StreamsAs reading streaming) c.remaining c.outlet.before c.names out 0 × (out ≡ [])) c.outlet
+IsWrittenAs reading streaming (Refused why) c = IsBroken reading streaming c.remaining c.outlet.before c.names c.outlet.old c.outlet.new why × KeepsFiles c.outlet
+IsWrittenAs reading streaming _ c = ⊥
 
 -- The answer where all is printed, of which this is answered. Only private clauses cite it.
 abbrev pub IsOutcome : Option Selection → Made → Answer → Type 0
@@ -283,25 +299,25 @@ IsOutcome sought made answer =
 
 -- what it says of work on inputs as they come that goes on behind refused pods: what it says without `--stream`, but that where the work ends before an
 -- input does, what was made till then was written
-abbrev pub IsStreamedInPart : Reading → OfRefused → Making → Answer → (remaining : Option (List ℕ)) → List (Bor (List ℕ)) → Outlet → Type 0
-IsStreamedInPart reading refused making (Refused why) remaining names o =
-    IsBrokenInPart reading refused making remaining o.before names o.old o.new why × KeepsFiles o
-IsStreamedInPart reading refused making answer remaining names o = IsMadeInPart reading refused making answer remaining names o
+abbrev pub IsStreamedInPart : Reading → OfRefused → Making → Answer → Course → Type 0
+IsStreamedInPart reading refused making (Refused why) c =
+    IsBrokenInPart reading refused making c.remaining c.outlet.before c.names c.outlet.old c.outlet.new why × KeepsFiles c.outlet
+IsStreamedInPart reading refused making answer c = IsMadeInPart reading refused making answer c
 
 -- what it says of that where refused pods are left out or kept, which is misuse where parts of inputs are printed
-abbrev pub IsPassed : Option Making → Reading → OfRefused → Answer → (remaining : Option (List ℕ)) → List (Bor (List ℕ)) → Outlet → Type 0
-IsPassed None reading refused answer remaining names o = IsMisuse (WithPart refused) answer o
-IsPassed (Some making) reading refused answer remaining names o = IsStreamedInPart reading refused making answer remaining names o
+abbrev pub IsPassed : Option Making → Reading → OfRefused → Answer → Course → Type 0
+IsPassed None reading refused answer c = IsMisuse (WithPart refused) answer c.outlet
+IsPassed (Some making) reading refused answer c = IsStreamedInPart reading refused making answer c
 
-abbrev pub IsStreamedBy : Streaming → Reading → Fate → Answer → (remaining : Option (List ℕ)) → List (Bor (List ℕ)) → Outlet → Type 0
-IsStreamedBy streaming reading Stops answer remaining names o = IsWrittenAs reading streaming answer remaining names o
-IsStreamedBy streaming reading (GoesOn refused) answer remaining names o = IsPassed (made_as streaming) reading refused answer remaining names o
+abbrev pub IsStreamedBy : Streaming → Reading → Fate → Answer → Course → Type 0
+IsStreamedBy streaming reading Stops answer c = IsWrittenAs reading streaming answer c
+IsStreamedBy streaming reading (GoesOn refused) answer c = IsPassed (made_as streaming) reading refused answer c
 
 -- what it says of that where other options may be given: one that `--stream` excludes is misuse
-abbrev pub IsStreamed : Streaming → Reading → Fate → Answer → (remaining : Option (List ℕ)) → List (Bor (List ℕ)) → Outlet → Type 0
-IsStreamed streaming reading fate answer remaining names o =
-    ((o.target ≡ None) × IsStreamedBy streaming reading fate answer remaining names o)
-    ⊎ ((other : Excluded) × IsExcluded fate o.target other × IsMisuse (WithStream other) answer o)
+abbrev pub IsStreamed : Streaming → Reading → Fate → Answer → Course → Type 0
+IsStreamed streaming reading fate answer c =
+    ((c.outlet.target ≡ None) × IsStreamedBy streaming reading fate answer c)
+    ⊎ ((other : Excluded) × IsExcluded fate c.outlet.target other × IsMisuse (WithStream other) answer c.outlet)
 
 -- the work goes on behind refused pods of input that comes only where these end by their size words; only private clauses cite it
 abbrev pub MayStream : Fate → Type 0
@@ -314,57 +330,46 @@ AreUnshown printing remaining holds names why =
     (why ≡ OutOfMemory)
     ⊎ ((out : List ℕ) × StopsAt (StreamsAs Exact (streaming.Print printing)) (EndsIn Exact (streaming.Print printing)) remaining holds names out why)
 
--- what it says of inputs that are printed in a file
-abbrev pub IsShownIn : Printing → Answer → (remaining : Option (List ℕ)) → List (Bor (List ℕ)) → Outlet → Type 0
-IsShownIn printing Done remaining names o =
-    Gives (λ out. AreMade (StreamsAs Exact (streaming.Print printing)) remaining o.before names out 0 × IsFound (sought_in printing.printout.selection) out) o
-IsShownIn printing (Shown refused) remaining names o =
-    (refused ≢ 0) × Gives (λ out. AreMade (StreamsAs Exact (streaming.Print printing)) remaining o.before names out refused) o
-IsShownIn printing (Missing selection) remaining names o =
-    (sought_in printing.printout.selection ≡ Some selection)
-    × Gives (λ out. AreMade (StreamsAs Exact (streaming.Print printing)) remaining o.before names out 0 × (out ≡ [])) o
-IsShownIn printing (Refused why) remaining names o =
-    Refuses (λ out. (refused : ℕ) × AreMade (StreamsAs Exact (streaming.Print printing)) remaining o.before names out refused)
-    (AreUnshown printing remaining o.before names) o why
-IsShownIn printing _ remaining names o = ⊥
+-- what it says of inputs that are printed in a file; where they aren't, nothing was written, unless a write failed
+abbrev pub IsShownIn : Printing → Answer → Course → Type 0
+IsShownIn printing (Refused why) c =
+    Refuses (λ out. (refused : ℕ) × AreMade (StreamsAs Exact (streaming.Print printing)) c.remaining c.outlet.before c.names out refused)
+    (AreUnshown printing c.remaining c.outlet.before c.names) c.outlet why
+IsShownIn printing answer c = IsWrittenAs Exact (streaming.Print printing) answer c
 
 -- inputs are printed as they come, or where a file is written, all of them in it
-abbrev pub IsShown : Printing → Option (Bor (List ℕ)) → Answer → (remaining : Option (List ℕ)) → List (Bor (List ℕ)) → Outlet → Type 0
-IsShown printing None answer remaining names o = IsWrittenAs Exact (streaming.Print printing) answer remaining names o
-IsShown printing (Some name) answer remaining names o = IsShownIn printing answer remaining names o
+abbrev pub IsShown : Printing → Option (Bor (List ℕ)) → Answer → Course → Type 0
+IsShown printing None answer c = IsWrittenAs Exact (streaming.Print printing) answer c
+IsShown printing (Some name) answer c = IsShownIn printing answer c
 
 -- inputs are read leniently, and printed as pods of which none is refused; where nothing that is looked for is there, it says so
-abbrev pub IsPrintedLeniently : Printing → Answer → (remaining : Option (List ℕ)) → List (Bor (List ℕ)) → Outlet → Type 0
-IsPrintedLeniently printing Done remaining names o =
-    Gives (λ out. AreMade (MakesAll Lenient (making.Print printing)) remaining o.before names out 0 × IsFound (sought_in printing.printout.selection) out) o
-IsPrintedLeniently printing (Missing selection) remaining names o =
+abbrev pub IsPrintedLeniently : Printing → Answer → Course → Type 0
+IsPrintedLeniently printing Done c =
+    Gives (λ out. AreMade (MakesAll Lenient (making.Print printing)) c.remaining c.outlet.before c.names out 0 × IsFound (sought_in printing.printout.selection) out) c.outlet
+IsPrintedLeniently printing (Missing selection) c =
     (sought_in printing.printout.selection ≡ Some selection)
-    × Gives (λ out. AreMade (MakesAll Lenient (making.Print printing)) remaining o.before names out 0 × (out ≡ [])) o
-IsPrintedLeniently printing answer remaining names o = IsMadeWhole Lenient (making.Print printing) answer remaining names o
+    × Gives (λ out. AreMade (MakesAll Lenient (making.Print printing)) c.remaining c.outlet.before c.names out 0 × (out ≡ [])) c.outlet
+IsPrintedLeniently printing answer c = IsMadeWhole Lenient (making.Print printing) answer c
 
--- what it says of inputs that are read so and printed
-abbrev pub IsPrintedAs : Reading → Printing → Answer → (remaining : Option (List ℕ)) → List (Bor (List ℕ)) → Outlet → Type 0
-IsPrintedAs Exact printing answer remaining names o = IsShown printing o.target answer remaining names o
-IsPrintedAs Lenient printing answer remaining names o = IsPrintedLeniently printing answer remaining names o
+-- what it says of inputs that are read so and printed; with an option for refused pods it is misuse
+abbrev pub IsPrinted : Printing → Reading → Fate → Answer → Course → Type 0
+IsPrinted printing reading (GoesOn refused) answer c = IsMisuse (WithPart refused) answer c.outlet
+IsPrinted printing Exact Stops answer c = IsShown printing c.outlet.target answer c
+IsPrinted printing Lenient Stops answer c = IsPrintedLeniently printing answer c
 
--- what it says of that where another option may be given: with one for refused pods it is misuse
-abbrev pub IsPrinted : Printing → Reading → Fate → Answer → (remaining : Option (List ℕ)) → List (Bor (List ℕ)) → Outlet → Type 0
-IsPrinted printing reading Stops answer remaining names o = IsPrintedAs reading printing answer remaining names o
-IsPrinted printing reading (GoesOn refused) answer remaining names o = IsMisuse (WithPart refused) answer o
-
--- what it says of a word's work on inputs of these names, where this is left of the standard input
-abbrev pub IsDone : Word → Answer → (remaining : Option (List ℕ)) → List (Bor (List ℕ)) → Outlet → Type 0
-IsDone (Print printing manner) answer remaining names o = IsPrinted printing manner.reading manner.fate answer remaining names o
-IsDone (Make making manner) answer remaining names o = IsMadeBy manner.reading manner.fate making answer remaining names o
-IsDone (Stream streaming manner) answer remaining names o = IsStreamed streaming manner.reading manner.fate answer remaining names o
-IsDone (Diff k reading) answer remaining names o = IsCompared k reading answer remaining names o
-IsDone (Agree work reading) answer remaining names o = IsAgreed work reading answer remaining names o
+-- what it says of a word's work on its inputs
+abbrev pub IsDone : Word → Answer → Course → Type 0
+IsDone (Print printing manner) answer c = IsPrinted printing manner.reading manner.fate answer c
+IsDone (Make making manner) answer c = IsMadeBy manner.reading manner.fate making answer c
+IsDone (Stream streaming manner) answer c = IsStreamed streaming manner.reading manner.fate answer c
+IsDone (Diff k reading) answer c = IsCompared k reading answer c.names c
+IsDone (Agree work reading) answer c = IsAgreed work reading answer c.names c
 
 -- What an answer says of a run: what the words ask for was done, or refused; clap refuses them for one of the causes that stand, help
 -- and the version among them; they name no word; pods would go to a terminal; or memory ran out.
 pub data IsAnswer (words : List (Bor (List ℕ))) (screen : Screen) (remaining old new : Option (List ℕ)) (before after : List ℕ → Option (List ℕ)) : Answer → Type 0 where
   asked : (request : Request) (answer : Answer) → Asks words screen request → fills_terminal screen request ≡ false →
-      IsDone request.word answer remaining request.names.items (outlet (file_of request.target) old new before after) →
+      IsDone request.word answer (course remaining request.names.items (outlet (file_of request.target) old new before after)) →
       IsAnswer words screen remaining old new before after answer
   to_terminal : (request : Request) → Asks words screen request → fills_terminal screen request ≡ true → Keeps old new →
       ((name : List ℕ) → after name ≡ before name) → IsAnswer words screen remaining old new before after (Misused ToTerminal)

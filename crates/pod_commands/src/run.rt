@@ -1,7 +1,7 @@
 //! The program's work, over a reader, files and a writer.
 ghost use Rattle.std.specs.Prelude.{◌≡◌, ◌≢◌, ◌⊎◌, IfNone, IfSome, None, false, true};
 ghost use Rattle.pod_commands.specs.Answers as spec;
-ghost use Rattle.pod_commands.specs.Answers.{AreFiles, IsAgreed, IsAnswer, IsCompared, IsDone, IsExcluded, IsMadeBy, IsMadeInPart, IsPrinted, IsPrintedLeniently, IsShownIn, IsStreamed, IsStreamedBy, IsStreamedInPart, IsOutcome, IsWrittenAs, MayReadTwice, MayStream, outlet};
+ghost use Rattle.pod_commands.specs.Answers.{AreFiles, IsAgreed, IsAnswer, IsCompared, IsDone, IsExcluded, IsMadeBy, IsMadeInPart, IsPrinted, IsPrintedLeniently, IsShownIn, IsStreamed, IsStreamedBy, IsStreamedInPart, IsOutcome, IsWrittenAs, MayReadTwice, MayStream, course_of};
 ghost use Rattle.pod_commands.specs.Streaming as streams;
 ghost use Rattle.pod_commands.specs.Streaming.{IsMadeInBlocks, IsMadeOfEach};
 ghost use Rattle.pod_commands.specs.declared.request.Fate.TheVariants.{Stops};
@@ -105,8 +105,7 @@ pub fn run<'a, R: Read, S: Files, P: Progress, W: Write + Drop>(
 impl<R: Read, S: Files, P: Progress, W: Write + Drop> Io<'_, R, S, P, W> {
     /// Does the work of this word.
     fn do_work<'a>(self, task: Task<'_, 'a>, word: Word<'a>) -> (Answer<'a>, W)
-        ensures { IsDone word.entry result.0 (R.remaining self.entry.input.now) task.entry.names.now
-            (outlet task.entry.target (W.contents self.entry.device) (W.contents result.1) (S.holds self.entry.files.now) (S.holds self.exit.0.now)) }
+        ensures { IsDone word.entry result.0 (course_of R.remaining W.contents S.holds task.entry.names.now task.entry.target self.entry result.1 self.exit.0.now) }
     {
         match word {
             Word::Print(printing, manner) => self.print(task, printing, manner),
@@ -119,8 +118,7 @@ impl<R: Read, S: Files, P: Progress, W: Write + Drop> Io<'_, R, S, P, W> {
 
     /// Makes this of the inputs.
     fn make<'a>(self, task: Task<'_, 'a>, making: Making<'_>, manner: Manner) -> (Answer<'a>, W)
-        ensures { IsMadeBy manner.reading manner.fate making.entry result.0 (R.remaining self.entry.input.now) task.entry.names.now
-            (outlet task.entry.target (W.contents self.entry.device) (W.contents result.1) (S.holds self.entry.files.now) (S.holds self.exit.0.now)) }
+        ensures { IsMadeBy manner.reading manner.fate making.entry result.0 (course_of R.remaining W.contents S.holds task.entry.names.now task.entry.target self.entry result.1 self.exit.0.now) }
     {
         match manner.fate {
             Fate::Stops => {
@@ -147,8 +145,7 @@ impl<R: Read, S: Files, P: Progress, W: Write + Drop> Io<'_, R, S, P, W> {
     /// Rewrites the inputs, which are files that are read twice: nothing is written before all are accepted, and neither pass holds more than a block.
     fn rewrite_twice<'a>(self, task: Task<'_, 'a>) -> (Answer<'a>, W)
         requires { MayReadTwice Exact Rewrite task.names.now None }
-        ensures { IsMadeBy Exact Stops Rewrite result.0 (R.remaining self.entry.input.now) task.entry.names.now
-            (outlet None (W.contents self.entry.device) (W.contents result.1) (S.holds self.entry.files.now) (S.holds self.exit.0.now)) }
+        ensures { IsMadeBy Exact Stops Rewrite result.0 (course_of R.remaining W.contents S.holds task.entry.names.now None self.entry result.1 self.exit.0.now) }
     {
         // Of files alone, nothing of the standard input is read.
         let mut nothing: &[u8] = &[];
@@ -175,8 +172,7 @@ impl<R: Read, S: Files, P: Progress, W: Write + Drop> Io<'_, R, S, P, W> {
         making: Making<'_>,
         manner: recordings::Manner,
     ) -> (Answer<'a>, W)
-        ensures { IsMadeInPart manner.reading manner.refused making.entry result.0 (R.remaining self.entry.input.now) task.entry.names.now
-            (outlet task.entry.target (W.contents self.entry.device) (W.contents result.1) (S.holds self.entry.files.now) (S.holds self.exit.0.now)) }
+        ensures { IsMadeInPart manner.reading manner.refused making.entry result.0 (course_of R.remaining W.contents S.holds task.entry.names.now task.entry.target self.entry result.1 self.exit.0.now) }
     {
         let input = self.input;
         let files = self.files;
@@ -201,8 +197,7 @@ impl<R: Read, S: Files, P: Progress, W: Write + Drop> Io<'_, R, S, P, W> {
         streaming: Streaming<'a>,
         manner: Manner,
     ) -> (Answer<'a>, W)
-        ensures { IsStreamed streaming.entry manner.reading manner.fate result.0 (R.remaining self.entry.input.now) task.entry.names.now
-            (outlet task.entry.target (W.contents self.entry.device) (W.contents result.1) (S.holds self.entry.files.now) (S.holds self.exit.0.now)) }
+        ensures { IsStreamed streaming.entry manner.reading manner.fate result.0 (course_of R.remaining W.contents S.holds task.entry.names.now task.entry.target self.entry result.1 self.exit.0.now) }
     {
         if let Some(other) = excluded_in(manner.fate, task.target) {
             return (Answer::Misused(Misuse::WithStream(other)), self.device);
@@ -219,8 +214,7 @@ impl<R: Read, S: Files, P: Progress, W: Write + Drop> Io<'_, R, S, P, W> {
         manner: Manner,
     ) -> (Answer<'a>, W)
         requires { MayStream manner.fate }
-        ensures { IsStreamedBy streaming.entry manner.reading manner.fate result.0 (R.remaining self.entry.input.now) task.entry.names.now
-            (outlet None (W.contents self.entry.device) (W.contents result.1) (S.holds self.entry.files.now) (S.holds self.exit.0.now)) }
+        ensures { IsStreamedBy streaming.entry manner.reading manner.fate result.0 (course_of R.remaining W.contents S.holds task.entry.names.now None self.entry result.1 self.exit.0.now) }
     {
         match manner.fate {
             Fate::Stops => self.write_as(task, manner.reading, streaming),
@@ -246,8 +240,7 @@ impl<R: Read, S: Files, P: Progress, W: Write + Drop> Io<'_, R, S, P, W> {
         manner: recordings::Manner,
     ) -> (Answer<'a>, W)
         requires { IsMadeInBlocks manner.refused making }
-        ensures { IsStreamedInPart manner.reading manner.refused making.entry result.0 (R.remaining self.entry.input.now) task.entry.names.now
-            (outlet None (W.contents self.entry.device) (W.contents result.1) (S.holds self.entry.files.now) (S.holds self.exit.0.now)) }
+        ensures { IsStreamedInPart manner.reading manner.refused making.entry result.0 (course_of R.remaining W.contents S.holds task.entry.names.now None self.entry result.1 self.exit.0.now) }
     {
         let input = self.input;
         let files = self.files;
@@ -272,8 +265,7 @@ impl<R: Read, S: Files, P: Progress, W: Write + Drop> Io<'_, R, S, P, W> {
         reading: Reading,
         streaming: Streaming<'a>,
     ) -> (Answer<'a>, W)
-        ensures { IsWrittenAs reading streaming.entry result.0 (R.remaining self.entry.input.now) task.entry.names.now
-            (outlet None (W.contents self.entry.device) (W.contents result.1) (S.holds self.entry.files.now) (S.holds self.exit.0.now)) }
+        ensures { IsWrittenAs reading streaming.entry result.0 (course_of R.remaining W.contents S.holds task.entry.names.now None self.entry result.1 self.exit.0.now) }
     {
         let input = self.input;
         let files = self.files;
@@ -300,8 +292,7 @@ impl<R: Read, S: Files, P: Progress, W: Write + Drop> Io<'_, R, S, P, W> {
         printing: Printing<'a>,
         manner: Manner,
     ) -> (Answer<'a>, W)
-        ensures { IsPrinted printing.entry manner.reading manner.fate result.0 (R.remaining self.entry.input.now) task.entry.names.now
-            (outlet task.entry.target (W.contents self.entry.device) (W.contents result.1) (S.holds self.entry.files.now) (S.holds self.exit.0.now)) }
+        ensures { IsPrinted printing.entry manner.reading manner.fate result.0 (course_of R.remaining W.contents S.holds task.entry.names.now task.entry.target self.entry result.1 self.exit.0.now) }
     {
         match (manner.fate, manner.reading, task.target) {
             (Fate::GoesOn(refused), _, _) => {
@@ -317,8 +308,7 @@ impl<R: Read, S: Files, P: Progress, W: Write + Drop> Io<'_, R, S, P, W> {
 
     /// Prints this of the values that the inputs convey, once all are read.
     fn print_leniently<'a>(self, task: Task<'_, 'a>, printing: Printing<'a>) -> (Answer<'a>, W)
-        ensures { IsPrintedLeniently printing.entry result.0 (R.remaining self.entry.input.now) task.entry.names.now
-            (outlet task.entry.target (W.contents self.entry.device) (W.contents result.1) (S.holds self.entry.files.now) (S.holds self.exit.0.now)) }
+        ensures { IsPrintedLeniently printing.entry result.0 (course_of R.remaining W.contents S.holds task.entry.names.now task.entry.target self.entry result.1 self.exit.0.now) }
     {
         let input = self.input;
         let files = self.files;
@@ -335,8 +325,7 @@ impl<R: Read, S: Files, P: Progress, W: Write + Drop> Io<'_, R, S, P, W> {
 
     /// Prints this of the inputs in the file that is written.
     fn print_to_file<'a>(self, task: Task<'_, 'a>, printing: Printing<'a>) -> (Answer<'a>, W)
-        ensures { IsShownIn printing.entry result.0 (R.remaining self.entry.input.now) task.entry.names.now
-            (outlet task.entry.target (W.contents self.entry.device) (W.contents result.1) (S.holds self.entry.files.now) (S.holds self.exit.0.now)) }
+        ensures { IsShownIn printing.entry result.0 (course_of R.remaining W.contents S.holds task.entry.names.now task.entry.target self.entry result.1 self.exit.0.now) }
     {
         let input = self.input;
         let files = self.files;
@@ -367,8 +356,7 @@ impl<R: Read, S: Files, P: Progress, W: Write + Drop> Io<'_, R, S, P, W> {
         comparison: Comparison,
         reading: Reading,
     ) -> (Answer<'a>, W)
-        ensures { IsCompared comparison reading result.0 (R.remaining self.entry.input.now) task.entry.names.now
-            (outlet task.entry.target (W.contents self.entry.device) (W.contents result.1) (S.holds self.entry.files.now) (S.holds self.exit.0.now)) }
+        ensures { IsCompared comparison reading result.0 task.entry.names.now (course_of R.remaining W.contents S.holds task.entry.names.now task.entry.target self.entry result.1 self.exit.0.now) }
     {
         let [ours, theirs] = task.names else {
             return (Answer::Misused(misuse_of(task.names)), self.device);
@@ -392,8 +380,7 @@ impl<R: Read, S: Files, P: Progress, W: Write + Drop> Io<'_, R, S, P, W> {
 
     /// Seeks the object on which two of the inputs, which are read so, agree.
     fn seek<'a>(self, task: Task<'_, 'a>, work: Work, reading: Reading) -> (Answer<'a>, W)
-        ensures { IsAgreed work reading result.0 (R.remaining self.entry.input.now) task.entry.names.now
-            (outlet task.entry.target (W.contents self.entry.device) (W.contents result.1) (S.holds self.entry.files.now) (S.holds self.exit.0.now)) }
+        ensures { IsAgreed work reading result.0 task.entry.names.now (course_of R.remaining W.contents S.holds task.entry.names.now task.entry.target self.entry result.1 self.exit.0.now) }
     {
         let names = task.names;
         match names {

@@ -1,6 +1,7 @@
-use Rattle.std.proofs.Common.{◌≡◌, ◌+◌, ◌&&◌, ℕ, List, [], refl, rules}
+use Rattle.std.proofs.Common.{◌≡◌, ◌+◌, ◌&&◌, ℕ, List, [], get_or, refl, rules}
 use Rattle.std.proofs.lemmas.List.{drop_more, drop_all}
 use Rattle.std.specs.Borrow.{Bor}
+use Rattle.pod_commands.specs.Inputs.{content_of}
 use Rattle.pod_commands.specs.declared.answer.Failure.TheVariants.{OutOfMemory}
 use Rattle.pod_commands.proofs.Streamed.{begins, breaks, ends, goes_on, uncounted}
 use Rattle.pod_commands.proofs.streaming.stream_all.Goals as goal
@@ -21,7 +22,9 @@ pub returns-in-None-clause-broken : goal.returns-in-None-clause-broken
 returns-in-None-clause-broken g c =
     let d : Bor (List ℕ) = record { ref_ptr = (0, 0); now = [] } in
     breaks _ _ _ _ _ _ _ _ _ _ _ _ _ OutOfMemory (drop_more c.args.names.now c.loop-name.name-index d c.loop-name-test.true)
-    (uncounted c.args.reading c.args.streaming [] _ _ _ c.in-Ok.more c.in-Ok.ensures.streamed) c.loop-name.invariant
+    (uncounted c.args.reading c.args.streaming []
+    (content_of (g.R.Read.remaining c.loop-name.input) (g.S.Files.holds c.args.inputs.files.now) (get_or c.args.names.now c.loop-name.name-index d).now)
+    _ _ c.in-Ok.more c.in-Ok.ensures.streamed) c.loop-name.invariant
 
 pub returns-in-Err-clause-broken : goal.returns-in-Err-clause-broken
 returns-in-Err-clause-broken g c =

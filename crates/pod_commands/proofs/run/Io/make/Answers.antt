@@ -1,5 +1,4 @@
 use Rattle.std.proofs.Common.{inl, refl}
-use Rattle.pod_commands.specs.Answers.{outlet}
 use Rattle.pod_commands.proofs.Running.{answers}
 use Rattle.pod_commands.proofs.run.Io.make.Goals as goal
 
@@ -15,8 +14,6 @@ returns-then-may_read_twice g c =
 
 pub returns-else-may_read_twice : goal.returns-else-may_read_twice
 returns-else-may_read_twice g c =
-    let o = outlet c.args.task.target (g.W.Write.contents c.args.self.device) (g.W.Write.contents c.answered.result.1) (g.S.Files.holds c.args.self.files.now)
-    (g.S.Files.holds c.answered.new.files) in
     rw c.in-Stops.is
-    (inl (answers c.make_all-made.result (λ v. v.items) _ _ o c.answered.result.0 c.make_all-made.ensures.made c.make_all-made.ensures.refused
+    (inl (answers c.make_all-made.result (λ v. v.items) _ _ _ c.answered.result.0 c.make_all-made.ensures.made c.make_all-made.ensures.refused
     c.answered.ensures.made c.answered.ensures.refused))

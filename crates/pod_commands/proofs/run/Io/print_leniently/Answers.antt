@@ -1,14 +1,11 @@
 use Rattle.std.proofs.Common.{◌≡◌, [], subst}
 use Rattle.std.specs.Prelude.{Decides}
-use Rattle.pod_commands.specs.Answers.{outlet}
 use Rattle.pod_commands.proofs.Leniently.{all_printed, none_printed}
 use Rattle.pod_commands.proofs.run.Io.print_leniently.Goals as goal
 
 pub returns : goal.returns
 returns g c =
-    let o = outlet c.args.task.target (g.W.Write.contents c.args.self.device) (g.W.Write.contents c.answered.result.1) (g.S.Files.holds c.args.self.files.now)
-    (g.S.Files.holds c.answered.new.files) in
-    all_printed c.args.printing (g.R.Read.remaining c.args.self.input.now) c.args.task.names.now o c.in-Ok.made.items c.of.result c.shown-done.result c.answered.result.0
+    all_printed c.args.printing _ c.in-Ok.made.items c.of.result c.shown-done.result c.answered.result.0
     c.in-Ok.ensures.made c.of.ensures.refused
     (subst (λ z. Decides c.of.result.nothing (z ≡ [])) c.as_slice.ensures.value c.of.ensures.nothing) c.sought_in-sought.result c.sought_in-sought.ensures c.shown-done.ensures c.answered.ensures.made
 
